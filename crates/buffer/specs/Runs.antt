@@ -1,0 +1,20 @@
+-- Runs of bytes.
+use Prim.Native.Nat.{ℕ, _+_}
+use mathlib.Core.Bool.{Bool, true, false, _&&_}
+use mathlib.Core.List.{List, [], _∷_, _++_}
+use lib.ListN.{length, take, drop}
+use lib.Dec.{eqb}
+
+-- the run laid over out from place at on: what stands before and after it stays
+unfoldable pub over : ℕ → List ℕ → List ℕ → List ℕ
+over at run out = take at out ++ run ++ drop (at + length run) out
+
+unfoldable pub same : List ℕ → List ℕ → Bool
+same [] [] = true
+same [] (y ∷ ys) = false
+same (x ∷ xs) [] = false
+same (x ∷ xs) (y ∷ ys) = eqb x y && same xs ys
+
+unfoldable pub allAre : ℕ → List ℕ → Bool
+allAre v [] = true
+allAre v (x ∷ xs) = eqb x v && allAre v xs

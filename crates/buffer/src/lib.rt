@@ -1,0 +1,58 @@
+// Runs of bytes in lent buffers: laid over, filled, compared.
+ghost use mathlib.Core.Path.{_≡_};
+ghost use Prim.Native.Nat.{_+_, _≤_};
+ghost use lib.ListN.{length, replicate};
+ghost use Rattle.buffer.specs.Runs.{over, same, allAre};
+
+// The run laid over out from place at on.
+pub fn put(out: &mut [u8], at: usize, run: &[u8])
+    requires { ⌜ at + length (now run) ≤ length (now out) ⌝ }
+    ensures { λ r. ⌜ now (out .exit) ≡ over at (now (run .entry)) (now (out .entry)) ⌝ }
+{
+    let mut i = 0;
+    while i < run.len() {
+        out[at + i] = run[i];
+        i += 1;
+    }
+}
+
+// The byte v, n times, laid over out from place at on.
+pub fn fill(out: &mut [u8], at: usize, n: usize, v: u8)
+    requires { ⌜ at + n ≤ length (now out) ⌝ }
+    ensures { λ r. ⌜ now (out .exit) ≡ over at (replicate n v) (now (out .entry)) ⌝ }
+{
+    let mut i = 0;
+    while i < n {
+        out[at + i] = v;
+        i += 1;
+    }
+}
+
+// Whether two runs are the same. The loop has no branch, so that it is compiled to wide compares.
+pub fn same_bytes(a: &[u8], b: &[u8]) -> bool
+    ensures { λ r. ⌜ r ≡ same (now (a .entry)) (now (b .entry)) ⌝ }
+{
+    if a.len() != b.len() {
+        return false;
+    }
+    let mut ok = true;
+    let mut i = 0;
+    while i < a.len() {
+        ok = ok & (a[i] == b[i]);
+        i += 1;
+    }
+    ok
+}
+
+// Whether every byte is v.
+pub fn all_are(s: &[u8], v: u8) -> bool
+    ensures { λ r. ⌜ r ≡ allAre v (now (s .entry)) ⌝ }
+{
+    let mut ok = true;
+    let mut i = 0;
+    while i < s.len() {
+        ok = ok & (s[i] == v);
+        i += 1;
+    }
+    ok
+}

@@ -1,0 +1,1 @@
+// No code: the laws of tests and lists that the proofs of every layer share (proofs/).

@@ -1,0 +1,5 @@
+pub mod Arrays
+pub mod Lists
+pub mod Keeps
+pub mod Placing
+pub mod Meaning
