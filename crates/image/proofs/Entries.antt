@@ -12,6 +12,7 @@ use Rattle.geometry.specs.Geometry.{isBlock}
 use Rattle.logic.proofs.Bools.{clash, branch, and-left, and-right, and-true}
 use Rattle.lists.specs.Lists.{dead, memberOf, entryOk, entriesOk}
 use Rattle.lists.proofs.Laws.{block-live}
+use Rattle.lists.proofs.Meaning.{Stands, stands}
 use Rattle.buffer.specs.Runs.{over}
 use Rattle.buffer.proofs.Over.{over-over}
 use Rattle.image.specs.Images.{wide, triple, triples, narrow, entryAt, entriesFrom}
@@ -58,3 +59,75 @@ laid-step at l o k h m =
     let n = triples-length (take k l) in
     let t = length-take-le k l (omega arith) in
     rw (take-suc l k 0 h, triples-snoc (take k l) (getD l k 0)) (over-over at (triples (take k l)) (triple (getD l k 0)) o (at + 3 * k) (omega (arith, n, t)) m)
+
+-- what every byte of a Rattle slice is
+abbrev pub Bytes : List ℕ → Type 0
+Bytes s = (k : ℕ) → getD s k 0 < 256
+
+pub bytes-drop : (n : ℕ) (s : List ℕ) → Bytes s → Bytes (drop n s)
+bytes-drop n s h k = rw (getD-drop n s k 0) (h (n + k))
+
+-- An entry widened is below 2^24, and narrowed again it is the entry.
+wide-small : (marks : Bool) (x : ℕ) (l : List ℕ) → Stands marks x l → wide x < 16777216
+unfolding wide
+wide-small marks x l (Stands.block b n) = rw (block-live x b) (let p = ltb-true x 9728 b in omega arith)
+wide-small marks x l (Stands.mark m e) = rw (eq-eqb x dead e) (omega arith)
+
+narrow-block : (v : ℕ) → isBlock v ≡ true → narrow v ≡ v
+unfolding narrow
+narrow-block v b = let p = ltb-true v 9728 b in rw (ne-eqb v 16777214 (λ q. omega arith), b)
+
+narrow-wide : (marks : Bool) (x : ℕ) (l : List ℕ) → Stands marks x l → narrow (wide x) ≡ x
+unfolding wide narrow
+narrow-wide marks x l (Stands.block b n) = rw (block-live x b) (narrow-block x b)
+narrow-wide marks x l (Stands.mark m e) = rw (eq-eqb x dead e) (sym e)
+
+three : (v : ℕ) → v < 16777216 → v / 65536 % 256 * 65536 + v / 256 % 256 * 256 + v % 256 ≡ v
+three v h = omega arith
+
+-- A LIST WRITTEN READS AS ITSELF
+pub entries-triples : (marks : Bool) (l r : List ℕ) → entriesOk marks l ≡ true → entriesFrom (length l) (triples l ++ r) ≡ l
+unfolding entriesFrom triples triple entryAt entriesOk
+entries-triples marks [] r h = refl
+entries-triples marks (x ∷ xs) r h =
+    let s = stands marks x xs (and-left (entryOk marks x xs) (entriesOk marks xs) h) in
+    let e : narrow (wide x / 65536 % 256 * 65536 + wide x / 256 % 256 * 256 + wide x % 256) ≡ x = rw (three (wide x) (wide-small marks x xs s)) (narrow-wide marks x xs s) in
+    rw e (ap {B = List ℕ} (λ (l : List ℕ). x ∷ l) (entries-triples marks xs r (and-right (entryOk marks x xs) (entriesOk marks xs) h)))
+
+-- A number that narrows to an entry widens again to itself.
+no-entry : (marks : Bool) (l : List ℕ) → entryOk marks 65535 l ≡ true → ⊥
+unfolding entryOk
+no-entry marks l h = clash h refl
+
+wide-narrow : (marks : Bool) (v : ℕ) (l : List ℕ) → entryOk marks (narrow v) l ≡ true → wide (narrow v) ≡ v
+unfolding narrow wide
+wide-narrow marks v l = go (eqb v 16777214) refl (isBlock v) refl
+  where
+    go : (p : Bool) → eqb v 16777214 ≡ p → (q : Bool) → isBlock v ≡ q → entryOk marks (cond p dead (cond q v 65535)) l ≡ true → wide (cond p dead (cond q v 65535)) ≡ v
+    go true p q r h = sym (eqb-true v 16777214 p)
+    go false p true r h = rw (block-live v r)
+    go false p false r h = absurd (no-entry marks l h)
+
+high : (x y w : ℕ) → x < 256 → y < 256 → w < 256 → (x * 65536 + y * 256 + w) / 65536 % 256 ≡ x
+high x y w p q r = omega arith
+
+middle : (x y w : ℕ) → x < 256 → y < 256 → w < 256 → (x * 65536 + y * 256 + w) / 256 % 256 ≡ y
+middle x y w p q r = omega arith
+
+low : (x y w : ℕ) → x < 256 → y < 256 → w < 256 → (x * 65536 + y * 256 + w) % 256 ≡ w
+low x y w p q r = omega arith
+
+-- A LIST READ IS WRITTEN AS THE BYTES IT CAME FROM
+pub triples-entries : (marks : Bool) (n : ℕ) (s : List ℕ) → Bytes s → 3 * n ≤ length s → entriesOk marks (entriesFrom n s) ≡ true → triples (entriesFrom n s) ≡ take (3 * n) s
+unfolding entriesFrom triples triple entryAt entriesOk
+triples-entries marks zero s b m h = refl
+triples-entries marks (suc n) [] b m h = absurd (omega arith)
+triples-entries marks (suc n) (x ∷ []) b m h = absurd (omega arith)
+triples-entries marks (suc n) (x ∷ y ∷ []) b m h = absurd (omega arith)
+triples-entries marks (suc n) (x ∷ y ∷ w ∷ s) b m h =
+    let v = x * 65536 + y * 256 + w in
+    let rest = entriesFrom n s in
+    let e = wide-narrow marks v rest (and-left (entryOk marks (narrow v) rest) (entriesOk marks rest) h) in
+    let k : 3 * suc n ≡ suc (suc (suc (3 * n))) = omega arith in
+    let t = triples-entries marks n s (λ j. b (suc (suc (suc j)))) (omega arith) (and-right (entryOk marks (narrow v) rest) (entriesOk marks rest) h) in
+    rw (e, k, high x y w (b 0) (b 1) (b 2), middle x y w (b 0) (b 1) (b 2), low x y w (b 0) (b 1) (b 2), t)

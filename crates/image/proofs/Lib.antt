@@ -1,3 +1,5 @@
 pub mod Entries
 pub mod Writing
 pub mod Reading
+pub mod RoundTrip
+pub mod Examples

@@ -7,6 +7,7 @@ use lib.Dec.{leb, eqb}
 use Rattle.geometry.specs.Geometry.{isBlock}
 use Rattle.lists.specs.Lists.{dead, entriesOk}
 use Rattle.table.specs.declared.Table.{Table}
+use Rattle.table.specs.Tables.{spareList, badList}
 use Rattle.buffer.specs.Runs.{same, allAre}
 use Rattle.image.specs.declared.Found.{Found}
 use Rattle.image.specs.declared.Found.the-variants as found
@@ -43,6 +44,10 @@ framedPart spares bads = header ++ (length spares ∷ length bads ∷ []) ++ lis
 -- the image of a spare list and a bad list: "zeros to 532"
 unfoldable pub imageOf : List ℕ → List ℕ → List ℕ
 imageOf spares bads = framedPart spares bads ++ replicate (532 - length (framedPart spares bads)) 0
+
+-- the image of a table
+abbrev pub tableImage : Table → List ℕ
+tableImage t = imageOf (spareList t) (badList t)
 
 -- what the writer leaves in the bytes lent: the image, or what was there if they are not 532 or a list is too long
 unfoldable pub written : List ℕ → List ℕ → List ℕ → List ℕ
@@ -99,6 +104,11 @@ inArray size l = l ++ drop (length l) (replicate size 0)
 -- the table of a well-formed image
 unfoldable pub tableOf : List ℕ → Table
 tableOf i = record { spares = inArray 32 (spareEntries i); bads = inArray 100 (badEntries i); nspares = spareCount i; nbads = badCount i }
+
+-- whether a table was found
+abbrev pub isTable : Found → Bool
+isTable (found.Lists n m) = true
+isTable found.Malformed = false
 
 -- what the reader answers: the lists of a well-formed image, else nothing
 abbrev pub nothing : Image

@@ -14,11 +14,11 @@ use Rattle.logic.proofs.Bools.{clash, and-left, and-right, and-true}
 use Rattle.lists.proofs.Laws.{block-live, index-in, member-at}
 
 -- an entry that may stand beside others is a block that is not among them, or the dead mark
-data Stands (marks : Bool) (x : ℕ) (l : List ℕ) : Type 0 where
+pub data Stands (marks : Bool) (x : ℕ) (l : List ℕ) : Type 0 where
   block : isBlock x ≡ true → memberOf x l ≡ false → Stands marks x l
   mark : marks ≡ true → x ≡ dead → Stands marks x l
 
-stands : (marks : Bool) (x : ℕ) (l : List ℕ) → entryOk marks x l ≡ true → Stands marks x l
+pub stands : (marks : Bool) (x : ℕ) (l : List ℕ) → entryOk marks x l ≡ true → Stands marks x l
 unfolding entryOk
 stands marks x l = go (eqb x dead) refl
   where
