@@ -10,6 +10,9 @@ use buffer::fill;
 use buffer::put;
 use buffer::same_bytes;
 
+// The bytes before the counts.
+const HEADER: [u8; 24] = *b"PROFILE      \x00\x00\x00\x03\x90\x00\x26\x00\x02\x14\x20";
+
 // What an image holds: a spare list and a bad list of so many entries, or no table.
 pub enum Found {
     Lists(usize, usize),
@@ -76,11 +79,7 @@ fn build(spares: &[u16], bads: &[u16], out: &mut [u8])
 {
     let n = spares.len();
     let m = bads.len();
-    put(
-        out,
-        0,
-        b"PROFILE      \x00\x00\x00\x03\x90\x00\x26\x00\x02\x14\x20",
-    );
+    put(out, 0, &HEADER);
     put(out, 24, &[n as u8, m as u8]);
     put_list(out, 26, spares);
     put_list(out, 29 + 3 * n, bads);
@@ -161,10 +160,7 @@ fn is_framed(s: &[u8], n: usize, m: usize) -> bool
     }
     let a = 26 + 3 * n;
     let b = 29 + 3 * n + 3 * m;
-    same_bytes(
-        &s[..24],
-        b"PROFILE      \x00\x00\x00\x03\x90\x00\x26\x00\x02\x14\x20",
-    )
+    same_bytes(&s[..24], &HEADER)
         & all_are(&s[a..a + 3], 255)
         & all_are(&s[b..b + 3], 255)
         & all_are(&s[b + 3..], 0)

@@ -58,10 +58,10 @@ pub fn next_spare(n: usize) -> NextSpare
 pub fn unused(n: usize) -> usize
     ensures { λ r. ⌜ r ≡ 32 - n ⌝ }
 {
-    if n < 32 {
-        return 32 - n;
+    if 32 <= n {
+        return 0;
     }
-    0
+    32 - n
 }
 
 // Whether a block stands in the bad list.

@@ -1,0 +1,4 @@
+pub mod Digits
+pub mod Laying
+pub mod Runs
+pub mod Grammar
