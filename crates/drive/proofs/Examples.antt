@@ -1,0 +1,121 @@
+-- THE STARRED EXAMPLES of document 01, all thirteen, computed from the definitions.
+use mathlib.Core.Path.{_≡_, refl}
+use mathlib.Core.Bool.{Bool, true, false, cond}
+use mathlib.Core.List.{List, [], _∷_, _++_}
+use Prim.Native.Nat.{ℕ, zero, suc}
+use lib.ListN.{take, replicate}
+use Rattle.buffer.specs.Runs.{over, same, allAre}
+use Rattle.geometry.specs.Geometry.{isBlock, homeOf}
+use Rattle.lists.specs.Lists.{dead, memberOf, indexOf, entryOk, entriesOk}
+use Rattle.table.specs.Tables.{sectorOf, emptyTable, listsOk}
+use Rattle.image.specs.Images.{wide, triple, triples, listPart, framedPart, imageOf, narrow, entryAt, entriesFrom, framed, wellFormed}
+use Rattle.drive.specs.declared.Drive.{Drive}
+use Rattle.drive.specs.declared.Trial.{Trial}
+use Rattle.drive.specs.declared.Phase.{Phase}
+use Rattle.drive.specs.declared.Phase.the-variants as phase
+use Rattle.drive.specs.declared.Answer.{Answer}
+use Rattle.drive.specs.declared.Answer.the-variants as answer
+use Rattle.drive.specs.Words.{dataOf, withData, opcodeOf, numberOf, ending1, ending2, ending3, statusOf}
+use Rattle.drive.specs.Records.{retryOk, trialOk, phaseOk, lineOk, recordOk}
+use Rattle.drive.specs.Results.{Out}
+use Rattle.drive.specs.Handshake.{raisedIdle, commandOffer, raised, writes, noNumber, acted, goesOn, lowered, fedTo, rested}
+use Rattle.drive.specs.Retries.{failed, goesOnReading, afterRead}
+use Rattle.drive.specs.Sparing.{nextAttempt, missed, brokenOff, verified, tried, checked}
+use Rattle.drive.specs.Access.{toRead, toWrite, keptData, lost, settled, reads, readAnswered, writeAnswered, answered}
+use Rattle.drive.specs.Calls.{Call, raise, lower, feed, surface, reset, raiseOf, lowerOf, feedOf, surfaceOf, resetOf, stepOf}
+use Rattle.drive.specs.Bound.{accesses}
+
+-- the sector at which a table with no spare in use has block n
+unfoldable pub at-home : ℕ → ℕ
+at-home n = sectorOf [] (record { 0 = n }) .0
+
+-- the blocks 0, 1, .. up to n of them
+unfoldable pub blocks : ℕ → List ℕ
+blocks zero = []
+blocks (suc n) = blocks n ++ (n ∷ [])
+
+-- an image that is well formed in all but, perhaps, its counts
+unfoldable pub counted : ℕ → ℕ → List ℕ
+counted spares bads = imageOf (replicate spares dead) (blocks bads)
+
+-- an idle drive with an empty table, which has finished a command since its start
+unfoldable pub ready : Drive
+ready =
+    record {
+      table = emptyTable;
+      line = record { phase = phase.Idle; marks = record { known = true; changed = false; latch = false; fresh = false }; command = replicate 6 0; count = 0; fed = 0 };
+    }
+
+-- calls one after the other
+unfoldable pub run : Drive → List ℕ → List Call → Out
+run d u [] = record { step = record { drive = d; answer = answer.Wait }; bytes = u }
+run d u (c ∷ []) = stepOf c d u
+run d u (c ∷ x ∷ cs) = run (stepOf c d u .step .drive) (stepOf c d u .bytes) (x ∷ cs)
+
+-- a read of block 0 with R and T, and the surface's answers to it
+unfoldable pub asks : ℕ → ℕ → List Call → List Call
+asks r t cs = raise ∷ lower 0x55 ∷ feed (0 ∷ 0 ∷ 0 ∷ 0 ∷ r ∷ t ∷ []) ∷ raise ∷ lower 0x55 ∷ cs
+
+unfoldable pub crc : Call
+crc = surface 1 (replicate 532 1)
+
+unfoldable pub good : Call
+good = surface 0 (replicate 532 7)
+
+unfoldable pub timeout : Call
+timeout = surface 2 []
+
+unfoldable pub reading : ℕ → ℕ → List Call → Out
+reading r t cs = run ready (replicate 536 0) (asks r t cs)
+
+-- how a command ended: finished, with these four status bytes
+abbrev pub Ended : Out → List ℕ → Type 0
+Ended x status = (x .step .answer ≡ answer.Finished) × (take 4 (x .bytes) ≡ status)
+
+-- a move begins: an attempt's write on the present sector is asked for, with so many errors met
+abbrev pub errorsIn : Phase → ℕ
+errorsIn phase.Idle = 0
+errorsIn (phase.Offered o) = 0
+errorsIn phase.Command = 0
+errorsIn phase.Data = 0
+errorsIn (phase.Starting k) = 0
+errorsIn phase.Storing = 0
+errorsIn (phase.Reading r) = 0
+errorsIn (phase.Writing s) = 0
+errorsIn (phase.Trying r) = r .seen .errors
+errorsIn (phase.Checking r) = 0
+
+pub record Examples : Type 0 where
+  pub block-0 : at-home 0 ≡ 0
+  pub block-4927 : at-home 4927 ≡ 4927
+  pub block-4928 : at-home 4928 ≡ 4992
+  pub block-9727 : at-home 9727 ≡ 9791
+  pub block-9728 : isBlock 9728 ≡ false
+  pub crc-then-good : Ended (reading 0 1 (crc ∷ good ∷ [])) (0x08 ∷ 0 ∷ 0 ∷ 0 ∷ [])
+  pub crc-good-good : Ended (reading 2 1 (crc ∷ good ∷ good ∷ [])) (0x08 ∷ 0 ∷ 0 ∷ 0 ∷ [])
+  pub crc-crc-good :
+      (reading 2 1 (crc ∷ crc ∷ good ∷ []) .step .answer ≡ answer.Write (record { 0 = 0 })) × (errorsIn (reading 2 1 (crc ∷ crc ∷ good ∷ []) .step .drive .line .phase) ≡ 1)
+  pub eleven-timeouts : Ended (reading 0 1 (replicate 11 timeout)) (0x05 ∷ 0 ∷ 0 ∷ 0 ∷ [])
+  pub nine-and-nine : Ended (reading 0 1 (crc ∷ replicate 9 timeout ++ replicate 9 crc)) (0x0D ∷ 0 ∷ 0 ∷ 0 ∷ [])
+  pub spares-32 : wellFormed (counted 32 0) ≡ true
+  pub spares-33 : wellFormed (counted 33 0) ≡ false
+  pub bads-101 : wellFormed (counted 0 101) ≡ false
+
+pub examples : Examples
+unfolding at-home blocks counted ready run asks crc good timeout reading sectorOf memberOf indexOf homeOf wellFormed framed entriesFrom entryAt narrow imageOf framedPart listPart triples triple wide over same allAre entriesOk entryOk listsOk dataOf withData opcodeOf numberOf ending1 ending2 ending3 statusOf retryOk trialOk phaseOk lineOk recordOk raisedIdle commandOffer raised writes noNumber acted goesOn lowered fedTo rested failed goesOnReading afterRead nextAttempt missed brokenOff verified tried checked toRead toWrite keptData lost settled reads readAnswered writeAnswered answered raiseOf lowerOf feedOf surfaceOf resetOf stepOf
+examples =
+    record {
+      block-0 = refl;
+      block-4927 = refl;
+      block-4928 = refl;
+      block-9727 = refl;
+      block-9728 = refl;
+      crc-then-good = (refl, refl);
+      crc-good-good = (refl, refl);
+      crc-crc-good = (refl, refl);
+      eleven-timeouts = (refl, refl);
+      nine-and-nine = (refl, refl);
+      spares-32 = refl;
+      spares-33 = refl;
+      bads-101 = refl;
+    }

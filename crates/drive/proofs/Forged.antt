@@ -1,0 +1,343 @@
+-- The history forbids something: lists of entries that no run gives, each against one of its rules. Blocks are one byte here.
+use mathlib.Core.Path.{_≡_, refl, ap, sym}
+use mathlib.Core.Logic.{inl, inr}
+use mathlib.Core.Bool.{false}
+use mathlib.Core.List.{List, [], _∷_, _++_}
+use Prim.Native.Nat.{ℕ}
+use borrow.Author.Tests.{eq-eqb}
+use lib.Dec.{eqb}
+use lib.ListN.{getD}
+use Rattle.logic.proofs.Bools.{clash}
+use Rattle.geometry.specs.Geometry.{homeOf}
+use Rattle.geometry.specs.declared.Block.{Block}
+use Rattle.lists.specs.Lists.{indexOf, memberOf, entryOk, entriesOk}
+use Rattle.table.specs.Tables.{sectorOf}
+use Rattle.image.specs.Images.{wide, triple, triples, listPart, framedPart, imageOf, narrow, entryAt, entriesFrom, framed, wellFormed, tableOf}
+use Rattle.buffer.specs.Runs.{same, allAre}
+use Rattle.drive.specs.declared.Offer.{Offer}
+use Rattle.drive.specs.declared.Offer.the-variants as offer
+use Rattle.drive.specs.declared.Answer.{Answer}
+use Rattle.drive.specs.declared.Answer.the-variants as answer
+use Rattle.drive.specs.declared.Refusal.the-variants as refusal
+use Rattle.drive.specs.Words.{dataOf, opcodeOf, numberOf}
+use Rattle.drive.specs.Calls.{Call, raise, lower, feed, surface, reset}
+use Rattle.drive.specs.History.{Bytes, held, unreadable, Sectors, Where, nowhere, at, Entry, History, blank, isAt, In, lay, bit, learns, acts, underway, reports, good, moves, isRead, bytesOf, touches, touchesFirst, hasWritten, placeNext, candidatesNext, heard, next, Fits, Apart, Allows}
+use Rattle.drive.proofs.Runs.{sector, go, done, timesOut, command}
+
+-- what the rules ask at the last entry of a list
+abbrev AtLast : Sectors → History → List Entry → Type 0
+AtLast start H [] = Unit {0}
+AtLast start H (o ∷ []) = Fits H o × Apart (next start H o .place)
+AtLast start H (o ∷ p ∷ os) = AtLast start (next start H o) (p ∷ os)
+
+-- A proof that unfolds this one unfolds all that its line names: what the history's computation has to see through.
+at-last : (start : Sectors) (H : History) (os : List Entry) → Allows start H os → AtLast start H os
+unfolding homeOf indexOf memberOf entryOk entriesOk sectorOf wide triple triples listPart framedPart imageOf narrow entryAt entriesFrom framed wellFormed tableOf same allAre dataOf opcodeOf numberOf lay bit learns acts underway reports good moves isRead bytesOf touches touchesFirst hasWritten placeNext candidatesNext heard next
+at-last start H [] a = tt
+at-last start H (o ∷ []) a = (a .0, a .1)
+at-last start H (o ∷ p ∷ os) a = at-last start (next start H o) (p ∷ os) (a .2)
+
+-- what those rules cannot be met with
+abbrev byteOf : Bytes → ℕ
+byteOf x = getD x 0 0
+
+abbrev numberAt : Where → ℕ
+numberAt nowhere = 0
+numberAt (at s) = s .0
+
+differ : (m n : ℕ) → eqb m n ≡ false → m ≡ n → ⊥
+differ m n h e = clash (eq-eqb m n e) h
+
+not-the-one : (m n : ℕ) → eqb m n ≡ false → In (m ∷ []) ((n ∷ []) ∷ []) → ⊥
+not-the-one m n h (inl e) = differ m n h (ap byteOf e)
+not-the-one m n h (inr e) = e
+
+not-there : (m n : ℕ) → eqb m n ≡ false → sector m ≡ sector n → ⊥
+not-there m n h e = differ m n h (ap numberAt e)
+
+not-anywhere : (n : ℕ) → nowhere ≡ sector n → ⊥
+not-anywhere n e = clash refl (sym (ap isAt e))
+
+-- THE PIECES OF A LIST
+
+-- every sector holds a seven
+abbrev sevens : Sectors
+sevens = λ s. held (7 ∷ [])
+
+-- an entry with zeros in its buffer, and a finish with status 1, status 2 and a data byte
+abbrev says : Call → Answer → Entry
+says c a = record { call = c; answer = a; buffer = 0 ∷ 0 ∷ 0 ∷ 0 ∷ 0 ∷ [] }
+
+abbrev ends : Call → ℕ → ℕ → ℕ → Entry
+ends c s t v = record { call = c; answer = answer.Finished; buffer = s ∷ t ∷ 0 ∷ 0 ∷ v ∷ [] }
+
+abbrev offers : Offer → Entry
+offers o = says raise (answer.Offer o)
+
+abbrev reads : ℕ → Answer
+reads n = answer.Read (record { 0 = n })
+
+abbrev writes : ℕ → Answer
+writes n = answer.Write (record { 0 = n })
+
+-- a read answered 0 and 1
+abbrev gives : ℕ → Call
+gives v = surface 0 (v ∷ [])
+
+abbrev garbles : ℕ → Call
+garbles v = surface 1 (v ∷ [])
+
+-- the start finds a table with these spares; or none, with an image that came with answer 1 and bytes that are no image
+abbrev found : List ℕ → List Entry
+found spares = says (surface 0 (imageOf spares [])) answer.Wait ∷ []
+
+abbrev foundNone : List Entry
+foundNone = says (surface 1 (imageOf [] [])) (reads 4960) ∷ says (gives 9) answer.Wait ∷ []
+
+-- a read of block n, and a write of a byte to block 17, each to the offer after which it is acted on
+abbrev asksRead : ℕ → List Entry
+asksRead n = offers offer.Command ∷ says go answer.Wait ∷ says (feed (command 0 n (2 ∷ 2 ∷ []))) answer.Wait ∷ offers offer.Read ∷ []
+
+abbrev asksWrite : ℕ → List Entry
+asksWrite v =
+    offers offer.Command ∷ says go answer.Wait ∷ says (feed (command 1 17 [])) answer.Wait ∷ offers offer.Write ∷ says go answer.Wait
+    ∷ says (feed (v ∷ [])) answer.Wait ∷ offers offer.Act ∷ []
+
+-- whole commands for block 17, reported good
+abbrev readsGood : ℕ → List Entry
+readsGood v = asksRead 17 ++ (says go (reads 17) ∷ ends (gives v) 0x00 0x00 v ∷ [])
+
+abbrev writesGood : ℕ → List Entry
+writesGood v = asksWrite v ++ (says go (writes 17) ∷ ends done 0x00 0x00 v ∷ [])
+
+-- a read of block 17 that fails with its last read at spare 0
+abbrev movesInVain : List Entry
+movesInVain = asksRead 17 ++ (says go (reads 17) ∷ says (garbles 9) (reads 4928) ∷ ends timesOut 0x0D 0x00 7 ∷ [])
+
+-- GOOD READS
+
+-- Nobody wrote the nine.
+abbrev neverWritten : List Entry
+neverWritten = found [] ++ readsGood 9
+
+pub bytes-never-written : Allows sevens blank neverWritten → ⊥
+unfolding at-last
+bytes-never-written a = not-the-one 9 7 refl (at-last sevens blank neverWritten a .0 .read-rule refl)
+
+-- The nine came with answer 1, and the read is reported good with the bit of a CRC error.
+abbrev garbledKept : List Entry
+garbledKept = found [] ++ asksRead 17 ++ (says go (reads 17) ∷ says (garbles 9) (reads 17) ∷ ends (gives 7) 0x08 0x00 9 ∷ [])
+
+pub garbled-bytes-reported-good : Allows sevens blank garbledKept → ⊥
+unfolding at-last
+garbled-bytes-reported-good a = not-the-one 9 7 refl (at-last sevens blank garbledKept a .0 .read-rule refl)
+
+-- The two was written since.
+abbrev stale : List Entry
+stale = found [] ++ writesGood 1 ++ writesGood 2 ++ readsGood 1
+
+pub old-bytes-after-a-good-write : Allows sevens blank stale → ⊥
+unfolding at-last
+old-bytes-after-a-good-write a = not-the-one 1 2 refl (at-last sevens blank stale a .0 .read-rule refl)
+
+-- After a failed write of the one either is a candidate, but not first the one and then the seven.
+abbrev changing : List Entry
+changing =
+    found [] ++ asksWrite 1 ++ (says go (writes 17) ∷ ends timesOut 0x05 0x00 1 ∷ [])
+    ++ readsGood 1 ++ readsGood 7
+
+pub bytes-that-change-between-two-good-reads : Allows sevens blank changing → ⊥
+unfolding at-last
+bytes-that-change-between-two-good-reads a = not-the-one 7 1 refl (at-last sevens blank changing a .0 .read-rule refl)
+
+-- A handshake byte other than 55 at offer 06: this finish reports nothing, though bit 0 is clear.
+abbrev brokenOff : List Entry
+brokenOff = found [] ++ asksWrite 1 ++ (ends (lower 0x00) 0x80 0x00 1 ∷ []) ++ readsGood 1
+
+pub bytes-of-a-write-broken-off : Allows sevens blank brokenOff → ⊥
+unfolding at-last
+bytes-of-a-write-broken-off a = not-the-one 1 7 refl (at-last sevens blank brokenOff a .0 .read-rule refl)
+
+-- The write of the two fails with no write s of its own, after a command that asked for one.
+abbrev notMade : List Entry
+notMade = found [] ++ writesGood 1 ++ asksWrite 2 ++ (ends go 0x11 0x00 2 ∷ []) ++ readsGood 2
+
+pub bytes-of-a-write-not-made : Allows sevens blank notMade → ⊥
+unfolding at-last
+bytes-of-a-write-not-made a = not-the-one 2 1 refl (at-last sevens blank notMade a .0 .read-rule refl)
+
+-- The same, where it asks for a read s.
+abbrev notMadeAfterARead : List Entry
+notMadeAfterARead = found [] ++ writesGood 1 ++ asksWrite 2 ++ (says go (reads 17) ∷ ends timesOut 0x05 0x00 2 ∷ []) ++ readsGood 2
+
+pub bytes-of-a-write-not-made-after-a-read : Allows sevens blank notMadeAfterARead → ⊥
+unfolding at-last
+bytes-of-a-write-not-made-after-a-read a = not-the-one 2 1 refl (at-last sevens blank notMadeAfterARead a .0 .read-rule refl)
+
+-- A failed read adds no candidate, even after a write s of its own.
+abbrev failedRead : List Entry
+failedRead = found [] ++ asksRead 17 ++ (says go (reads 17) ∷ says (garbles 9) (writes 17) ∷ ends timesOut 0x0D 0x00 9 ∷ []) ++ readsGood 9
+
+pub bytes-of-a-failed-read : Allows sevens blank failedRead → ⊥
+unfolding at-last
+bytes-of-a-failed-read a = not-the-one 9 7 refl (at-last sevens blank failedRead a .0 .read-rule refl)
+
+-- The first finish reports it failed with nothing written. A second one, with bit 0 clear, reports nothing.
+abbrev finishedTwice : List Entry
+finishedTwice = found [] ++ asksWrite 1 ++ (ends go 0x11 0x00 1 ∷ ends timesOut 0x00 0x00 1 ∷ []) ++ readsGood 1
+
+pub bytes-of-a-write-that-finished-twice : Allows sevens blank finishedTwice → ⊥
+unfolding at-last
+bytes-of-a-write-that-finished-twice a = not-the-one 1 7 refl (at-last sevens blank finishedTwice a .0 .read-rule refl)
+
+-- The one was not taken, so what was written is the zero of the data part.
+abbrev fedInVain : List Entry
+fedInVain =
+    found []
+    ++ (offers offer.Command ∷ says go answer.Wait ∷ says (feed (command 1 17 [])) answer.Wait ∷ offers offer.Write ∷ says go answer.Wait ∷ [])
+    ++ (says (feed (1 ∷ [])) (answer.Refused refusal.Bytes) ∷ offers offer.Act ∷ says go (writes 17) ∷ ends done 0x00 0x00 1 ∷ [])
+    ++ readsGood 1
+
+pub bytes-of-a-refused-feed : Allows sevens blank fedInVain → ⊥
+unfolding at-last
+bytes-of-a-refused-feed a = not-the-one 1 0 refl (at-last sevens blank fedInVain a .0 .read-rule refl)
+
+-- A reset breaks the write off, so the finish after it reports nothing.
+abbrev resetInBetween : List Entry
+resetInBetween = found [] ++ asksWrite 1 ++ (says go (writes 17) ∷ says reset answer.Wait ∷ ends done 0x00 0x00 1 ∷ []) ++ readsGood 1
+
+pub bytes-of-a-write-that-was-reset : Allows sevens blank resetInBetween → ⊥
+unfolding at-last
+bytes-of-a-write-that-was-reset a = not-the-one 1 7 refl (at-last sevens blank resetInBetween a .0 .read-rule refl)
+
+-- The one was fed, and a nine stands in the data part at the finish.
+abbrev leftBehind : List Entry
+leftBehind = found [] ++ asksWrite 1 ++ (says go (writes 17) ∷ ends done 0x00 0x00 9 ∷ []) ++ readsGood 9
+
+pub bytes-that-a-good-write-left-in-the-buffer : Allows sevens blank leftBehind → ⊥
+unfolding at-last
+bytes-that-a-good-write-left-in-the-buffer a = not-the-one 9 1 refl (at-last sevens blank leftBehind a .0 .read-rule refl)
+
+-- Another block holds the image of a table. To read it is not to read the table.
+abbrev imageElsewhere : List Entry
+imageElsewhere =
+    found [] ++ writesGood 1
+    ++ asksRead 18 ++ (says go (reads 18) ∷ ends (surface 0 (imageOf [] [])) 0x01 0x00 0 ∷ []) ++ readsGood 7
+
+pub old-bytes-after-an-image-read-elsewhere : Allows sevens blank imageElsewhere → ⊥
+unfolding at-last
+old-bytes-after-an-image-read-elsewhere a = not-the-one 7 1 refl (at-last sevens blank imageElsewhere a .0 .read-rule refl)
+
+-- No sector holds anything as the list begins, and nothing is written.
+abbrev spoiledAtFirst : List Entry
+spoiledAtFirst = found [] ++ readsGood 7
+
+pub a-good-read-of-a-spoiled-sector : Allows (λ s. unreadable) blank spoiledAtFirst → ⊥
+unfolding at-last
+a-good-read-of-a-spoiled-sector a = at-last (λ s. unreadable) blank spoiledAtFirst a .0 .read-rule refl
+
+-- Without an access, as from the buffer.
+abbrev beforeTheTable : List Entry
+beforeTheTable = foundNone ++ asksRead 17 ++ (ends go 0x00 0x00 7 ∷ [])
+
+pub a-good-read-before-any-table : Allows sevens blank beforeTheTable → ⊥
+unfolding at-last
+a-good-read-before-any-table a = at-last sevens blank beforeTheTable a .0 .read-rule refl
+
+-- FIRST ACCESSES
+
+-- 64 are added from block 4927 on.
+abbrev farFromHome : List Entry
+farFromHome = found [] ++ asksRead 4927 ++ (says go (reads 4991) ∷ [])
+
+pub a-first-read-elsewhere : Allows sevens blank farFromHome → ⊥
+unfolding at-last
+a-first-read-elsewhere a = not-there 4927 4991 refl (at-last sevens blank farFromHome a .0 .first-rule refl .1)
+
+-- A write at the sector beside.
+abbrev nextDoor : List Entry
+nextDoor = found [] ++ asksWrite 1 ++ (says go (writes 18) ∷ [])
+
+pub a-first-write-elsewhere : Allows sevens blank nextDoor → ⊥
+unfolding at-last
+a-first-write-elsewhere a = not-there 17 18 refl (at-last sevens blank nextDoor a .0 .first-rule refl .1)
+
+-- The table has it at spare 0.
+abbrev spareForgotten : List Entry
+spareForgotten = found (17 ∷ []) ++ asksRead 17 ++ (says go (reads 17) ∷ [])
+
+pub a-moved-block-read-at-its-home : Allows sevens blank spareForgotten → ⊥
+unfolding at-last
+a-moved-block-read-at-its-home a = not-there 4928 17 refl (at-last sevens blank spareForgotten a .0 .first-rule refl .1)
+
+-- The sparing bit told of the move to spare 0.
+abbrev moveForgotten : List Entry
+moveForgotten =
+    found [] ++ asksRead 17 ++ (says go (reads 17) ∷ says (garbles 9) (reads 4928) ∷ ends (gives 7) 0x08 0x04 7 ∷ [])
+    ++ asksRead 17 ++ (says go (reads 17) ∷ [])
+
+pub a-block-read-at-its-home-after-its-move : Allows sevens blank moveForgotten → ⊥
+unfolding at-last
+a-block-read-at-its-home-after-its-move a = not-there 4928 17 refl (at-last sevens blank moveForgotten a .0 .first-rule refl .1)
+
+-- The command failed, with no sparing bit: the block keeps its sector.
+abbrev spareTaken : List Entry
+spareTaken = found [] ++ movesInVain ++ asksRead 17 ++ (says go (reads 4928) ∷ [])
+
+pub a-block-read-at-a-spare-after-a-failed-move : Allows sevens blank spareTaken → ⊥
+unfolding at-last
+a-block-read-at-a-spare-after-a-failed-move a = not-there 17 4928 refl (at-last sevens blank spareTaken a .0 .first-rule refl .1)
+
+-- The sparing bit stands in the finish of a command broken off, which moves nothing.
+abbrev movedAtABreak : List Entry
+movedAtABreak =
+    found [] ++ movesInVain ++ asksRead 17 ++ (ends (lower 0x00) 0x80 0x04 7 ∷ [])
+    ++ asksRead 17 ++ (says go (reads 4928) ∷ [])
+
+pub a-block-read-at-a-spare-after-a-break : Allows sevens blank movedAtABreak → ⊥
+unfolding at-last
+a-block-read-at-a-spare-after-a-break a = not-there 17 4928 refl (at-last sevens blank movedAtABreak a .0 .first-rule refl .1)
+
+-- A write tells of a move and has no read s of its own.
+abbrev movedByAnother : List Entry
+movedByAnother =
+    found [] ++ movesInVain ++ asksWrite 1 ++ (says go (writes 17) ∷ ends done 0x00 0x04 1 ∷ [])
+    ++ asksRead 17 ++ (says go (reads 4928) ∷ [])
+
+pub a-block-read-where-the-command-before-had-read : Allows sevens blank movedByAnother → ⊥
+unfolding at-last
+a-block-read-where-the-command-before-had-read a = not-anywhere 4928 (at-last sevens blank movedByAnother a .0 .first-rule refl .1)
+
+-- The first access comes after the lower, and the command before had one.
+abbrev late : List Entry
+late = found [] ++ writesGood 1 ++ asksRead 17 ++ (says go answer.Wait ∷ says timesOut (reads 18) ∷ [])
+
+pub a-late-first-access-elsewhere : Allows sevens blank late → ⊥
+unfolding at-last
+a-late-first-access-elsewhere a = not-there 17 18 refl (at-last sevens blank late a .0 .first-rule refl .1)
+
+-- No block has a sector yet.
+abbrev accessFirst : List Entry
+accessFirst = foundNone ++ asksRead 17 ++ (says go (reads 17) ∷ [])
+
+pub an-access-before-any-table : Allows sevens blank accessFirst → ⊥
+unfolding at-last
+an-access-before-any-table a = not-anywhere 17 (at-last sevens blank accessFirst a .0 .first-rule refl .1)
+
+-- 9728 is no block.
+abbrev noBlock : List Entry
+noBlock = found [] ++ asksRead 9728 ++ (says go (reads 9728) ∷ [])
+
+pub an-access-for-a-number-of-no-block : Allows sevens blank noBlock → ⊥
+unfolding at-last
+an-access-for-a-number-of-no-block a = clash (at-last sevens blank noBlock a .0 .first-rule refl .0) refl
+
+-- SECTORS
+
+-- Block 17 is said to have moved to the home of block 18.
+abbrev shared : List Entry
+shared = found [] ++ asksRead 17 ++ (says go (reads 17) ∷ says (garbles 9) (reads 18) ∷ ends (gives 7) 0x08 0x04 7 ∷ [])
+
+pub two-blocks-at-one-sector : Allows sevens blank shared → ⊥
+unfolding at-last
+two-blocks-at-one-sector a = differ 17 18 refl (ap (λ (b : Block). b .0) (at-last sevens blank shared a .1 (record { 0 = 17 }) (record { 0 = 18 }) (record { 0 = 18 }) refl refl refl refl))

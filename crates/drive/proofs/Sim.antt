@@ -1,0 +1,164 @@
+-- The invariant between the world (record, buffer, sectors) and the history, and what one call has to keep.
+use mathlib.Core.Path.{_≡_, refl, sym, subst, ap, _∙_}
+use mathlib.Core.Bool.{Bool, true, false, cond, not, _&&_, _||_}
+use mathlib.Core.Logic.{_⊎_, inl, inr}
+use mathlib.Core.List.{List, [], _∷_, _++_}
+use Prim.Native.Nat.{ℕ, zero, suc, _+_, _≤_, _<_, min}
+use native.Mathlib.Omega.{arith}
+use lib.Dec.{eqb}
+use lib.ListN.{length, take}
+use borrow.Author.Tests.{eqb-true, eqb-false}
+use Rattle.geometry.specs.Geometry.{isBlock, spareOf, tableSector}
+use Rattle.geometry.specs.declared.Block.{Block}
+use Rattle.geometry.specs.declared.Sector.{Sector}
+use Rattle.logic.proofs.Bools.{branch, clash}
+use Rattle.table.specs.declared.Table.{Table}
+use Rattle.table.specs.Tables.{spareList, sectorOf, Shaped}
+use Rattle.table.proofs.Placing.{sectors-apart}
+use Rattle.drive.specs.declared.Drive.{Drive}
+use Rattle.drive.specs.declared.Line.{Line}
+use Rattle.drive.specs.declared.Marks.{Marks}
+use Rattle.drive.specs.declared.Retry.{Retry}
+use Rattle.drive.specs.declared.Trial.{Trial}
+use Rattle.drive.specs.declared.Offer.{Offer}
+use Rattle.drive.specs.declared.Offer.the-variants as offer
+use Rattle.drive.specs.declared.Phase.{Phase}
+use Rattle.drive.specs.declared.Phase.the-variants as phase
+use Rattle.drive.specs.declared.Answer.{Answer}
+use Rattle.drive.specs.declared.Answer.the-variants as answer
+use Rattle.drive.specs.declared.Refusal.{Refusal}
+use Rattle.drive.specs.Words.{dataOf, numberOf, opcodeOf, blockOf}
+use Rattle.drive.specs.Results.{Out, Result, outOf, refuse}
+use Rattle.drive.specs.Calls.{Call}
+use Rattle.drive.specs.History.{Bytes, Content, held, Sectors, Where, nowhere, at, Entry, History, In, lay, next, Fits, Apart}
+use Rattle.drive.specs.Run.{Event, World, after, Permits, entryOf}
+use Rattle.drive.proofs.Parts.{Prefix, Cmd}
+
+-- a line, a world and a history, written out
+abbrev pub Ln : Phase → Marks → Bytes → ℕ → ℕ → Line
+Ln p mk c n f = record { phase = p; marks = mk; command = c; count = n; fed = f }
+
+abbrev pub W : Table → Line → Bytes → Sectors → Answer → World
+W t l u σ a = record { drive = record { table = t; line = l }; buffer = u; sectors = σ; asked = a }
+
+abbrev pub Hs : (Block → Where) → (Block → List Bytes) → Answer → Bytes → Bytes → Bytes → Bool → Bool → Bool → Where → History
+Hs pl ca a h pt fd ac to wr lr =
+    record { place = pl; candidates = ca; last = a; command = h; part = pt; fed = fd; acting = ac; touched = to; wrote = wr; lastRead = lr }
+
+abbrev pub Blocky : Block → Type 0
+Blocky b = isBlock (b .0) ≡ true
+
+abbrev pub placeOf : Table → Block → Sector
+placeOf t b = sectorOf (spareList t) b
+
+-- THE BOOKS: each block is where the table puts it, and what its sector holds is a candidate, or an exception
+pub record Books (t : Table) (σ : Sectors) (pl : Block → Where) (ca : Block → List Bytes) (also : Block → Bytes → Type 0) : Type 0 where
+  pub shaped : Shaped t
+  pub short : length (spareList t) ≤ 32
+  pub where-is : (b : Block) → Blocky b → pl b ≡ at (placeOf t b)
+  pub kept : (b : Block) (y : Bytes) → Blocky b → σ (placeOf t b) ≡ held y → In y (ca b) ⊎ also b y
+
+abbrev pub Quiet : Block → Bytes → Type 0
+Quiet b y = ⊥
+
+-- the exception while a command is under way that may have written: its own bytes, at its own block
+abbrev pub Own : Block → Bytes → Block → Bytes → Type 0
+Own n x b y = (b .0 ≡ n .0) × (y ≡ x)
+
+-- with a table known its books hold; without one no block has a place
+pub record Ground (known : Bool) (t : Table) (σ : Sectors) (pl : Block → Where) (ca : Block → List Bytes) : Type 0 where
+  pub tabled : known ≡ true → Books t σ pl ca Quiet
+  pub tableless : known ≡ false → (b : Block) → pl b ≡ nowhere
+
+-- between commands: phase, command bytes, their count, data count; last answer, bytes fed, part, data fed
+pub data Shake (u : Bytes) : Phase → Bytes → ℕ → ℕ → Answer → Bytes → Bytes → Bytes → Type 0 where
+  storing : {c : Bytes} {n f : ℕ} {h pt fd : Bytes} → Shake u phase.Storing c n f answer.Store h pt fd
+  resting : {c : Bytes} {n f : ℕ} {a : Answer} {h pt fd : Bytes} → Shake u phase.Idle c n f a h pt fd
+  offer1 : {c : Bytes} {f : ℕ} {pt fd : Bytes} → Shake u (phase.Offered offer.Command) c 0 f (answer.Offer offer.Command) [] pt fd
+  heads : {c : Bytes} {n f : ℕ} {h pt fd : Bytes} → Prefix c n h → Shake u phase.Command c n f answer.Wait h pt fd
+  offer2 : {c : Bytes} {n : ℕ} {h pt fd : Bytes} → Cmd c h → eqb (opcodeOf c) 0 ≡ true → Shake u (phase.Offered offer.Read) c n 0 (answer.Offer offer.Read) h pt fd
+  offer3 : {c : Bytes} {n : ℕ} {h pt : Bytes} → Cmd c h → eqb (opcodeOf c) 0 ≡ false → dataOf u ≡ pt → length pt ≡ 532
+      → Shake u (phase.Offered offer.Write) c n 0 (answer.Offer offer.Write) h pt []
+  offer4 : {c : Bytes} {n : ℕ} {h pt : Bytes} → Cmd c h → eqb (opcodeOf c) 0 ≡ false → dataOf u ≡ pt → length pt ≡ 532
+      → Shake u (phase.Offered offer.Verify) c n 0 (answer.Offer offer.Verify) h pt []
+  takes : {c : Bytes} {n f : ℕ} {h pt fd : Bytes} → Cmd c h → eqb (opcodeOf c) 0 ≡ false → f ≡ min 533 (length fd) → dataOf u ≡ lay fd pt → length pt ≡ 532
+      → Shake u phase.Data c n f answer.Wait h pt fd
+  offer6 : {c : Bytes} {n f : ℕ} {h pt fd : Bytes} → Cmd c h → eqb (opcodeOf c) 0 ≡ false → dataOf u ≡ lay fd pt
+      → Shake u (phase.Offered offer.Act) c n f (answer.Offer offer.Act) h pt fd
+
+-- what the history will take for the command's bytes is the data part; rd: the command is a read
+pub record Bound (ca : Block → List Bytes) (b : Block) (rd : Bool) (u mine : Bytes) : Type 0 where
+  pub as-read : rd ≡ true → In (dataOf u) (ca b)
+  pub as-write : rd ≡ false → dataOf u ≡ mine
+
+-- where an attempt stands: on the block's present sector, or on the next unused spare
+pub record Spot (t : Table) (b : Block) (r : Trial) : Type 0 where
+  pub present : r .spare ≡ false → r .sector ≡ placeOf t b
+  pub aside : r .spare ≡ true → (t .nspares < 32) × (r .sector ≡ spareOf (t .nspares))
+
+-- a command under way: phase, what is asked, wrote, last read
+pub data Work (t : Table) (σ : Sectors) (pl : Block → Where) (ca : Block → List Bytes) (b : Block) (rd : Bool) (u mine : Bytes) : Phase → Answer → Bool → Where → Type 0 where
+  rereads : {r : Retry} {s : Sector} {wr : Bool} {lr : Where} → r .block ≡ b → r .sector ≡ s → s ≡ placeOf t b → rd ≡ true → (r .good ≡ true → σ s ≡ held (dataOf u))
+      → Books t σ pl ca Quiet → Work t σ pl ca b rd u mine (phase.Reading r) (answer.Read s) wr lr
+  writing : {s : Sector} {wr : Bool} {lr : Where} → wr ≡ true → s ≡ placeOf t b → rd ≡ false → dataOf u ≡ mine
+      → Books t σ pl ca Quiet → Work t σ pl ca b rd u mine (phase.Writing s) (answer.Write s) wr lr
+  trying : {r : Trial} {s : Sector} {wr : Bool} {lr : Where} → wr ≡ true → r .block ≡ b → r .sector ≡ s → Spot t b r → Bound ca b rd u mine
+      → Books t σ pl ca (Own b (dataOf u)) → Work t σ pl ca b rd u mine (phase.Trying r) (answer.Write s) wr lr
+  checking : {r : Trial} {s : Sector} {wr : Bool} {lr : Where} → wr ≡ true → lr ≡ at s → r .block ≡ b → r .sector ≡ s → Spot t b r → Bound ca b rd u mine
+      → Books t σ pl ca (Own b (dataOf u)) → Work t σ pl ca b rd u mine (phase.Checking r) (answer.Read s) wr lr
+
+-- THE INVARIANT
+pub data Sim (start : Sectors) : World → History → Type 0 where
+  at-start : {t : Table} {mk : Marks} {c : Bytes} {n f k : ℕ} {u : Bytes} {pl : Block → Where} {ca : Block → List Bytes} {h pt fd : Bytes} {to wr : Bool} {lr : Where}
+      → length c ≡ 6 → mk .known ≡ false → ((b : Block) → pl b ≡ nowhere)
+      → Sim start (W t (Ln (phase.Starting k) mk c n f) u start (answer.Read tableSector)) (Hs pl ca (answer.Read tableSector) h pt fd false to wr lr)
+  at-rest : {t : Table} {mk : Marks} {c : Bytes} {n f : ℕ} {p : Phase} {u : Bytes} {σ : Sectors} {a : Answer} {pl : Block → Where} {ca : Block → List Bytes} {h pt fd : Bytes} {to wr : Bool} {lr : Where}
+      → length c ≡ 6 → Ground (mk .known) t σ pl ca → Shake u p c n f a h pt fd → Sim start (W t (Ln p mk c n f) u σ a) (Hs pl ca a h pt fd false to wr lr)
+  at-work : {t : Table} {mk : Marks} {c : Bytes} {n f : ℕ} {p : Phase} {u : Bytes} {σ : Sectors} {a : Answer} {pl : Block → Where} {ca : Block → List Bytes} {h pt fd : Bytes} {wr : Bool} {lr : Where} {b : Block} {rd : Bool}
+      → length c ≡ 6 → mk .known ≡ true → Blocky b → numberOf h ≡ b .0 → eqb (opcodeOf h) 0 ≡ rd → Work t σ pl ca b rd u (lay fd pt) p a wr lr
+      → Sim start (W t (Ln p mk c n f) u σ a) (Hs pl ca a h pt fd true true wr lr)
+
+-- WHAT A CALL HAS TO KEEP, as a property of its result
+abbrev pub Good : Sectors → World → History → Event → Out → Type 0
+Good start w H e x = Permits w e x → Fits H (entryOf e x) × Sim start (after w e x) (next start H (entryOf e x))
+
+abbrev pub ev : Call → Bool → Event
+ev c sp = record { call = c; spoils = sp }
+
+-- a refusal keeps all
+pub declined : {start : Sectors} {t : Table} {l : Line} {u : Bytes} {σ : Sectors} {a : Answer} {H : History} (c : Call) (sp : Bool) (r : Refusal) (bs : Bytes)
+    → Sim start (W t l u σ a) H → Good start (W t l u σ a) H (ev c sp) (outOf t bs (refuse r l u))
+unfolding next
+declined c sp r bs m = λ ok. (record { read-rule = λ x. clash x refl; first-rule = λ x. clash x refl }, m)
+
+-- NO TWO BLOCKS AT ONE SECTOR, from the invariant
+at-inj : {a b : Sector} → at a ≡ at b → a ≡ b
+at-inj e = cc
+
+not-at : {s : Sector} → nowhere ≡ at s → ⊥
+not-at e = let z : _≡_ {A = ℕ} 0 1 = cc in omega arith
+
+books-apart : {t : Table} {σ : Sectors} {pl : Block → Where} {ca : Block → List Bytes} {also : Block → Bytes → Type 0} → Books t σ pl ca also → Apart pl
+books-apart {t} k b c s ib ic eb ec = sectors-apart (spareList t) b c (k .short) (at-inj (sym (k .where-is b ib) ∙ (eb ∙ (sym ec ∙ k .where-is c ic))))
+
+work-apart : {t : Table} {σ : Sectors} {pl : Block → Where} {ca : Block → List Bytes} {b : Block} {rd : Bool} {u mine : Bytes} {p : Phase} {a : Answer} {wr : Bool} {lr : Where}
+    → Work t σ pl ca b rd u mine p a wr lr → Apart pl
+work-apart (rereads eb es ep o g k) = books-apart k
+work-apart (writing w e o g k) = books-apart k
+work-apart (trying w eb e o g k) = books-apart k
+work-apart (checking w l eb e o g k) = books-apart k
+
+none-apart : {pl : Block → Where} → ((b : Block) → pl b ≡ nowhere) → Apart pl
+none-apart h b c s ib ic eb ec = absurd (not-at (sym (h b) ∙ eb))
+
+ground-apart : {known : Bool} {t : Table} {σ : Sectors} {pl : Block → Where} {ca : Block → List Bytes} → Ground known t σ pl ca → Apart pl
+ground-apart {known} {pl = pl} g = go known refl
+  where
+    go : (q : Bool) → known ≡ q → Apart pl
+    go true q = books-apart (g .tabled q)
+    go false q = none-apart (g .tableless q)
+
+pub sim-apart : {start : Sectors} {w : World} {H : History} → Sim start w H → Apart (H .place)
+sim-apart (at-start l k h) = none-apart h
+sim-apart (at-rest l g m) = ground-apart g
+sim-apart (at-work l k i n r m) = work-apart m

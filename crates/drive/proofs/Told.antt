@@ -1,0 +1,180 @@
+-- What the history allows is what the customer asked for.
+use mathlib.Core.Path.{_≡_, refl, sym, subst, ap, _∙_}
+use mathlib.Core.Bool.{Bool, true, false, cond, not, _&&_, _||_}
+use mathlib.Core.Logic.{_⊎_, inl, inr}
+use mathlib.Core.List.{List, [], _∷_}
+use Prim.Native.Nat.{ℕ}
+use native.Mathlib.Omega.{arith}
+use lib.Dec.{eqb}
+use lib.ListN.{length}
+use borrow.Author.Tests.{eqb-true, eqb-false}
+use Rattle.geometry.specs.Geometry.{isBlock}
+use Rattle.geometry.specs.declared.Block.{Block}
+use Rattle.logic.proofs.Bools.{clash, and-left, and-right, and-true}
+use Rattle.table.specs.Tables.{spareList, sectorOf}
+use Rattle.image.specs.Images.{tableOf}
+use Rattle.drive.specs.Words.{dataOf, numberOf, blockOf}
+use Rattle.drive.specs.History.{Bytes, Sectors, Entry, History, blank, In, put, contents, isRefused, brought, learns, reports, good, isRead, hasWritten, bytesOf, candidatesNext, heard, next, Fits, Allows}
+use Rattle.drive.specs.Calls.{startOf}
+use Rattle.drive.specs.Run.{entries, begins}
+use Rattle.drive.specs.Told.{Report, found, written, attempted, given, nothing, reportOf, reportsOf, Before, none, gave, Again, Right, Demand3Told}
+use Rattle.drive.proofs.Demand3.{demand-3}
+
+-- a block's candidates are all allowed by what was reported of it, and one that was given is the only one
+record Agrees (cands latest : List Bytes) (before : Before) : Type 0 where
+  within : (y : Bytes) → In y cands → In y latest
+  sole : (x : Bytes) → before ≡ gave x → cands ≡ x ∷ []
+
+not-gave : {x : Bytes} → none ≡ gave x → ⊥
+not-gave e = let z : _≡_ {A = ℕ} 0 1 = cc in omega arith
+
+gave-inj : {x y : Bytes} → gave x ≡ gave y → x ≡ y
+gave-inj e = cc
+
+fresh : (xs : List Bytes) → Agrees xs xs none
+fresh xs = record { within = λ y m. m; sole = λ x e. absurd (not-gave e) }
+
+only : (x : Bytes) (latest : List Bytes) → In x latest → Agrees (x ∷ []) latest (gave x)
+only x latest m = record { within = λ y k. one y k; sole = λ z e. ap (λ (w : Bytes). w ∷ []) (gave-inj e) }
+  where
+    one : (y : Bytes) → In y (x ∷ []) → In y latest
+    one y (inl e) = subst (λ (w : Bytes). In w latest) (sym e) m
+    one y (inr e) = absurd e
+
+added : (x : Bytes) {cands latest : List Bytes} {before : Before} → Agrees cands latest before → Agrees (x ∷ cands) (x ∷ latest) none
+added x {cands} {latest} a = record { within = λ y k. one y k; sole = λ z e. absurd (not-gave e) }
+  where
+    one : (y : Bytes) → In y (x ∷ cands) → In y (x ∷ latest)
+    one y (inl e) = inl e
+    one y (inr e) = inr (a .within y e)
+
+again : (y : Bytes) (before : Before) {cands latest : List Bytes} → Agrees cands latest before → In y cands → Again before y
+again y none a m = tt
+again y (gave x) a m = one (subst (λ (c : List Bytes). In y c) (a .sole x refl) m)
+  where
+    one : In y (x ∷ []) → y ≡ x
+    one (inl e) = e
+    one (inr e) = absurd e
+
+-- the candidates after an entry, as maps
+module _ (start : Sectors) (H : History) (o : Entry) where
+  nothing-heard : isRefused (o .answer) ≡ true → next start H o ≡ H
+  unfolding next
+  nothing-heard e = rw e
+
+  something-heard : isRefused (o .answer) ≡ false → next start H o ≡ heard start H o
+  unfolding next
+  something-heard e = rw e
+
+  learned : learns H o ≡ true → candidatesNext start H o ≡ (λ b. contents (start (sectorOf (spareList (tableOf (brought (o .call)))) b)))
+  unfolding candidatesNext
+  learned e = rw e
+
+  silent : learns H o ≡ false → reports H o ≡ false → candidatesNext start H o ≡ H .candidates
+  unfolding candidatesNext
+  silent e f = rw (e, f)
+
+  replaced : learns H o ≡ false → reports H o ≡ true → good o ≡ true → candidatesNext start H o ≡ put (H .candidates) (blockOf (H .command)) (bytesOf H o ∷ [])
+  unfolding candidatesNext
+  replaced e f g = rw (e, f, g)
+
+  unmoved : learns H o ≡ false → reports H o ≡ true → good o ≡ false → (not (isRead H) && hasWritten H o) ≡ false → candidatesNext start H o ≡ H .candidates
+  unfolding candidatesNext
+  unmoved e f g h = rw (e, f, g, h)
+
+  extended : learns H o ≡ false → reports H o ≡ true → good o ≡ false → (not (isRead H) && hasWritten H o) ≡ true
+      → candidatesNext start H o ≡ put (H .candidates) (blockOf (H .command)) (bytesOf H o ∷ H .candidates (blockOf (H .command)))
+  unfolding candidatesNext
+  extended e f g h = rw (e, f, g, h)
+
+read-bytes : (H : History) (o : Entry) → isRead H ≡ true → bytesOf H o ≡ dataOf (o .buffer)
+unfolding bytesOf
+read-bytes H o e = rw e
+
+module _ (b : Block) (start : Sectors) (H : History) (o : Entry) where
+  abbrev now : List Bytes
+  now = H .candidates b
+
+  abbrev later : List Bytes
+  later = next start H o .candidates b
+
+  abbrev mine : Bool
+  mine = eqb (b .0) (numberOf (H .command))
+
+  -- what is right after the entry, whatever follows
+  abbrev Goes : Report → Type 0
+  Goes r = (latest : List Bytes) (before : Before) (rs : List Report) → Agrees now latest before
+      → ((latest' : List Bytes) (before' : Before) → Agrees later latest' before' → Right latest' before' rs) → Right latest before (r ∷ rs)
+
+  same-block : mine ≡ true → blockOf (H .command) ≡ b
+  same-block e = ap (λ (n : ℕ). let x : Block = record { 0 = n } in x) (sym (eqb-true (b .0) (numberOf (H .command)) e))
+
+  -- the block's candidates after the entry, case by case
+  if-refused : isRefused (o .answer) ≡ true → later ≡ now
+  if-refused e = ap (λ (X : History). X .candidates b) (nothing-heard start H o e)
+
+  module _ (acc : isRefused (o .answer) ≡ false) where
+    via : {f : Block → List Bytes} → candidatesNext start H o ≡ f → later ≡ f b
+    unfolding heard
+    via e = ap (λ (X : History). X .candidates b) (something-heard start H o acc) ∙ ap (λ (g : Block → List Bytes). g b) e
+
+    if-learned : learns H o ≡ true → later ≡ contents (start (sectorOf (spareList (tableOf (brought (o .call)))) b))
+    if-learned e = via (learned start H o e)
+
+    if-silent : learns H o ≡ false → reports H o ≡ false → later ≡ now
+    if-silent e f = via (silent start H o e f)
+
+    if-good : learns H o ≡ false → reports H o ≡ true → good o ≡ true → later ≡ cond mine (bytesOf H o ∷ []) now
+    if-good e f g = via (replaced start H o e f g)
+
+    if-failed : learns H o ≡ false → reports H o ≡ true → good o ≡ false → (not (isRead H) && hasWritten H o) ≡ false → later ≡ now
+    if-failed e f g h = via (unmoved start H o e f g h)
+
+    if-attempted : learns H o ≡ false → reports H o ≡ true → good o ≡ false → (not (isRead H) && hasWritten H o) ≡ true → later ≡ cond mine (bytesOf H o ∷ H .candidates (blockOf (H .command))) now
+    if-attempted e f g h = via (extended start H o e f g h)
+
+  agreed : {c : List Bytes} {latest : List Bytes} {before : Before} → later ≡ c → Agrees c latest before → Agrees later latest before
+  agreed {latest = latest} {before = before} e a = subst (λ (x : List Bytes). Agrees x latest before) (sym e) a
+
+  given-right : Fits H o → isRefused (o .answer) ≡ false → reports H o ≡ true → good o ≡ true → isRead H ≡ true → mine ≡ true → In (dataOf (o .buffer)) now
+  given-right fit e1 e3 e5 e6 e4 =
+      subst (λ (x : Block). In (dataOf (o .buffer)) (H .candidates x)) (same-block e4)
+      (fit .read-rule (and-true (not (isRefused (o .answer)) && reports H o && good o) (isRead H) (and-true (not (isRefused (o .answer)) && reports H o) (good o) (and-true (not (isRefused (o .answer))) (reports H o) (ap not e1) e3) e5) e6))
+
+  -- a report about another block says nothing of this one
+  other : (x : List Bytes) → mine ≡ false → cond mine x now ≡ now
+  other x e = rw e
+
+  this : (x : List Bytes) → mine ≡ true → cond mine x now ≡ x
+  this x e = rw e
+
+  tells : Fits H o → Goes (reportOf b start H o)
+  unfolding reportOf
+  tells fit = go (isRefused (o .answer)) refl (learns H o) refl (reports H o) refl mine refl (good o) refl (isRead H) refl (not (isRead H) && hasWritten H o) refl
+    where
+      go : (q1 : Bool) → isRefused (o .answer) ≡ q1 → (q2 : Bool) → learns H o ≡ q2 → (q3 : Bool) → reports H o ≡ q3 → (q4 : Bool) → mine ≡ q4
+          → (q5 : Bool) → good o ≡ q5 → (q6 : Bool) → isRead H ≡ q6 → (q7 : Bool) → (not (isRead H) && hasWritten H o) ≡ q7
+          → Goes (cond q1 nothing (cond q2 (found (contents (start (sectorOf (spareList (tableOf (brought (o .call)))) b)))) (cond (q3 && q4) (cond q5 (cond q6 (given (dataOf (o .buffer))) (written (bytesOf H o))) (cond q7 (attempted (bytesOf H o)) nothing)) nothing)))
+      go true e1 q2 e2 q3 e3 q4 e4 q5 e5 q6 e6 q7 e7 latest before rs a k = k latest before (agreed (if-refused e1) a)
+      go false e1 true e2 q3 e3 q4 e4 q5 e5 q6 e6 q7 e7 latest before rs a k = k _ none (agreed (if-learned e1 e2) (fresh _))
+      go false e1 false e2 false e3 q4 e4 q5 e5 q6 e6 q7 e7 latest before rs a k = k latest before (agreed (if-silent e1 e2 e3) a)
+      go false e1 false e2 true e3 false e4 true e5 q6 e6 q7 e7 latest before rs a k = k latest before (agreed (if-good e1 e2 e3 e5 ∙ other _ e4) a)
+      go false e1 false e2 true e3 false e4 false e5 q6 e6 true e7 latest before rs a k = k latest before (agreed (if-attempted e1 e2 e3 e5 e7 ∙ other _ e4) a)
+      go false e1 false e2 true e3 false e4 false e5 q6 e6 false e7 latest before rs a k = k latest before (agreed (if-failed e1 e2 e3 e5 e7) a)
+      go false e1 false e2 true e3 true e4 true e5 true e6 q7 e7 latest before rs a k =
+          let m = given-right fit e1 e3 e5 e6 e4 in
+          let e = if-good e1 e2 e3 e5 ∙ this _ e4 ∙ ap (λ (x : Bytes). x ∷ []) (read-bytes H o e6) in
+          (a .within (dataOf (o .buffer)) m, again (dataOf (o .buffer)) before a m, k latest (gave (dataOf (o .buffer))) (agreed e (only (dataOf (o .buffer)) latest (a .within (dataOf (o .buffer)) m))))
+      go false e1 false e2 true e3 true e4 true e5 false e6 q7 e7 latest before rs a k = k _ none (agreed (if-good e1 e2 e3 e5 ∙ this _ e4) (fresh _))
+      go false e1 false e2 true e3 true e4 false e5 q6 e6 true e7 latest before rs a k =
+          k _ none (agreed (if-attempted e1 e2 e3 e5 e7 ∙ this _ e4 ∙ ap (λ (x : Block). bytesOf H o ∷ H .candidates x) (same-block e4)) (added (bytesOf H o) a))
+      go false e1 false e2 true e3 true e4 false e5 q6 e6 false e7 latest before rs a k = k latest before (agreed (if-failed e1 e2 e3 e5 e7) a)
+
+all-right : (b : Block) (start : Sectors) (H : History) (os : List Entry) (latest : List Bytes) (before : Before) → Allows start H os → Agrees (H .candidates b) latest before → Right latest before (reportsOf b start H os)
+all-right b start H [] latest before ok a = tt
+all-right b start H (o ∷ os) latest before ok a =
+    tells b start H o (ok .0) latest before (reportsOf b start (next start H o) os) a (λ latest' before' a'. all-right b start (next start H o) os latest' before' (ok .2) a')
+
+-- DEMAND 3, in the customer's words
+pub demand-3-told : Demand3Told
+demand-3-told old lent h sectors es ok b = all-right b sectors blank (entries (begins (startOf old lent) sectors) es) [] none (demand-3 old lent h sectors es ok) (fresh [])

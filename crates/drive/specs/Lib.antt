@@ -1,0 +1,14 @@
+pub mod Words
+pub mod Records
+pub mod Results
+pub mod Handshake
+pub mod Retries
+pub mod Sparing
+pub mod Access
+pub mod Calls
+pub mod History
+pub mod Surface
+pub mod Run
+pub mod Values
+pub mod Bound
+pub mod Told
