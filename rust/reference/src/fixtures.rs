@@ -4,29 +4,51 @@ use std::fs;
 use std::io;
 use std::path::Path;
 
-use crate::images;
+use crate::{images, script, scripts};
 
 /// A file below the root, and what it should hold.
 #[derive(Clone, Debug, PartialEq, Eq)]
 pub struct Fixture {
-    pub path: &'static str,
+    pub path: String,
     pub contents: String,
+}
+
+impl Fixture {
+    fn new(path: impl Into<String>, contents: String) -> Fixture {
+        Fixture {
+            path: path.into(),
+            contents,
+        }
+    }
 }
 
 /// All files.
 pub fn all() -> Vec<Fixture> {
+    let mut fixtures = of_images();
+    fixtures.extend(of_scripts());
+    fixtures
+}
+
+/// The image cases and their transcript.
+pub fn of_images() -> Vec<Fixture> {
     let input = images::input();
     let transcript = images::transcript(input.as_bytes());
     vec![
-        Fixture {
-            path: "crates/images/stdin",
-            contents: input,
-        },
-        Fixture {
-            path: "crates/images/stdout",
-            contents: transcript,
-        },
+        Fixture::new("crates/images/stdin", input),
+        Fixture::new("crates/images/stdout", transcript),
     ]
+}
+
+/// The stored scripts, each with its transcript.
+pub fn of_scripts() -> Vec<Fixture> {
+    let mut fixtures = vec![];
+    for stored in scripts::all() {
+        let path = format!("tests/scripts/{}", stored.name);
+        let transcript = script::transcript(&stored.text);
+        fixtures.push(Fixture::new(format!("{path}.script"), stored.text));
+        fixtures.push(Fixture::new(format!("{path}.expected"), transcript));
+    }
+    fixtures
 }
 
 /// Writes all files. The root must be there; folders below it are made.
@@ -36,7 +58,7 @@ pub fn regenerate(root: &Path) -> io::Result<()> {
         return Err(io::Error::new(io::ErrorKind::NotFound, message));
     }
     for fixture in all() {
-        let path = root.join(fixture.path);
+        let path = root.join(&fixture.path);
         if let Some(folder) = path.parent() {
             fs::create_dir_all(folder)?;
         }
@@ -50,7 +72,7 @@ pub fn stale(root: &Path) -> Vec<String> {
     all()
         .iter()
         .filter_map(|fixture| {
-            let path = root.join(fixture.path);
+            let path = root.join(&fixture.path);
             let fault = match fs::read(&path) {
                 Ok(found) => difference(&found, fixture.contents.as_bytes())?,
                 Err(error) => format!("cannot be read: {error}"),
@@ -136,7 +158,11 @@ mod tests {
 
     #[test]
     fn names_are_known() {
-        let paths: Vec<_> = all().iter().map(|fixture| fixture.path).collect();
-        assert_eq!(paths, ["crates/images/stdin", "crates/images/stdout"]);
+        let paths: Vec<String> = all().into_iter().map(|fixture| fixture.path).collect();
+        assert_eq!(paths[..2], ["crates/images/stdin", "crates/images/stdout"]);
+        for (pair, stored) in paths[2..].chunks(2).zip(scripts::all()) {
+            let path = format!("tests/scripts/{}", stored.name);
+            assert_eq!(pair, [format!("{path}.script"), format!("{path}.expected")]);
+        }
     }
 }

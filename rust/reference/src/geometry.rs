@@ -6,6 +6,9 @@
 /// Blocks are 0..9727.
 pub const BLOCKS: u32 = 9728;
 
+/// Sectors are 0..9791.
+pub const SECTORS: u32 = 9792;
+
 /// Spares are 0..31.
 pub const SPARES: usize = 32;
 
@@ -43,6 +46,12 @@ impl Block {
 }
 
 impl Sector {
+    /// The sector of this number, if there is one.
+    pub fn new(number: u32) -> Option<Sector> {
+        let small = u16::try_from(number).ok()?;
+        (number < SECTORS).then_some(Sector(small))
+    }
+
     /// Its number.
     pub fn number(self) -> u32 {
         u32::from(self.0)
@@ -88,6 +97,16 @@ mod tests {
             assert_eq!(Block::new(number), None, "{number}");
         }
         assert_eq!(Block::new(9727).map(Block::number), Some(9727));
+    }
+
+    #[test]
+    fn numbers_of_no_sector() {
+        for number in [9792, 0xFFFF, 0x1_0000, 0x1_0001, u32::MAX] {
+            assert_eq!(Sector::new(number), None, "{number}");
+        }
+        assert_eq!(Sector::new(0).map(Sector::number), Some(0));
+        assert_eq!(Sector::new(9791).map(Sector::number), Some(9791));
+        assert_eq!(Sector::new(4960), Some(TABLE));
     }
 
     #[test]

@@ -2,7 +2,7 @@
 //! transcript that is expected for an input.
 
 mod damage;
-mod draft;
+pub mod draft;
 mod lists;
 mod random;
 mod whole;

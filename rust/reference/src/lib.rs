@@ -1,12 +1,21 @@
 //! A second implementation of document 01, written from its text alone.
 //!
 //! It makes inputs for test programs and says what output is expected.
-//! `geometry` and `image` are the rules of the document; `rng` and `text` are
-//! tools; `images` makes the cases; `fixtures` knows the files they go to.
+//! `geometry`, `image` and `controller` are the rules of the document, `ledger`
+//! is its ledger; `rng`, `text`, `coverage`, `drive`, `script` and `surface` are
+//! tools; `images` and `scripts` make the cases; `fixtures` knows the files they
+//! go to.
 
+pub mod controller;
+pub mod coverage;
+pub mod drive;
 pub mod fixtures;
 pub mod geometry;
 pub mod image;
 pub mod images;
+pub mod ledger;
 pub mod rng;
+pub mod script;
+pub mod scripts;
+pub mod surface;
 pub mod text;

@@ -1,48 +1,89 @@
 //! The commands: print or run test inputs, write or check the kept files.
 
 use std::env;
-use std::io::{self, Read, Write};
+use std::ffi::OsString;
+use std::io::{self, BufWriter, Read, Write};
 use std::path::Path;
 use std::process::ExitCode;
 
-use reference::{fixtures, images};
+use reference::{fixtures, images, script, scripts};
 
 const USAGE: &str = "\
-usage: reference images-input       print the input of image cases
-       reference images-run         read an input, print the transcript
-       reference regenerate ROOT    write the kept files below ROOT
-       reference check ROOT         say whether the kept files are current
+usage: reference images-input              print the input of image cases
+       reference images-run                read an input, print the transcript
+       reference script-list               print the names of the stored scripts
+       reference script-input NAME         print a stored script
+       reference script-run                read a call script, print the transcript
+       reference random-script SEED CALLS  print a random script of about so many calls
+       reference coverage                  say what the stored scripts meet
+       reference regenerate ROOT           write the kept files below ROOT
+       reference check ROOT                say whether the kept files are current
 ";
 
 fn main() -> ExitCode {
-    let arguments: Vec<_> = env::args_os().skip(1).collect();
-    let (command, rest) = match arguments.split_first() {
-        Some((command, rest)) => (command.to_str(), rest),
-        None => (None, &[][..]),
-    };
-    let done = match (command, rest) {
-        (Some("images-input"), []) => print(&images::input()),
-        (Some("images-run"), []) => images_run(),
-        (Some("regenerate"), [root]) => regenerate(Path::new(root)),
-        (Some("check"), [root]) => return check(Path::new(root)),
-        _ => {
-            eprint!("{USAGE}");
-            return ExitCode::from(2);
-        }
-    };
-    match done {
-        Ok(()) => ExitCode::SUCCESS,
-        Err(error) => {
+    let arguments: Vec<OsString> = env::args_os().skip(1).collect();
+    match run(&arguments) {
+        Some(Ok(code)) => code,
+        Some(Err(error)) => {
             eprintln!("reference: {error}");
             ExitCode::FAILURE
         }
+        None => {
+            eprint!("{USAGE}");
+            ExitCode::from(2)
+        }
     }
+}
+
+/// Does what the arguments say; nothing if they say nothing.
+fn run(arguments: &[OsString]) -> Option<io::Result<ExitCode>> {
+    let words: Vec<Option<&str>> = arguments.iter().map(|word| word.to_str()).collect();
+    let done = match (words.first()?.as_ref()?, &words[1..]) {
+        (&"images-input", []) => print(&images::input()),
+        (&"images-run", []) => images_run(),
+        (&"script-list", []) => print(&script_list()),
+        (&"script-input", [name]) => script_input((*name)?),
+        (&"script-run", []) => script_run(),
+        (&"random-script", [seed, calls]) => {
+            let seed = (*seed)?.parse().ok()?;
+            let calls = (*calls)?.parse().ok()?;
+            print(&scripts::random(seed, calls))
+        }
+        (&"coverage", []) => print(&scripts::coverage_report()),
+        (&"regenerate", [_]) => regenerate(Path::new(&arguments[1])),
+        (&"check", [_]) => return Some(Ok(check(Path::new(&arguments[1])))),
+        _ => return None,
+    };
+    Some(done.map(|()| ExitCode::SUCCESS))
 }
 
 fn images_run() -> io::Result<()> {
     let mut input = vec![];
     io::stdin().read_to_end(&mut input)?;
     print(&images::transcript(&input))
+}
+
+fn script_list() -> String {
+    let scripts = scripts::all();
+    scripts
+        .iter()
+        .map(|stored| format!("{}\n", stored.name))
+        .collect()
+}
+
+fn script_input(name: &str) -> io::Result<()> {
+    match scripts::named(name) {
+        Some(stored) => print(&stored.text),
+        None => {
+            let message = format!("no stored script is called {name}");
+            Err(io::Error::new(io::ErrorKind::NotFound, message))
+        }
+    }
+}
+
+fn script_run() -> io::Result<()> {
+    let stdout = BufWriter::new(io::stdout().lock());
+    script::run(io::stdin().lock(), stdout)
 }
 
 fn regenerate(root: &Path) -> io::Result<()> {

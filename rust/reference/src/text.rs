@@ -65,7 +65,8 @@ fn parse_bytes(tokens: &[u8]) -> Result<Vec<u8>, Fault> {
     Ok(bytes)
 }
 
-fn parse_token(token: &[u8]) -> Result<(u8, usize), Fault> {
+/// A byte and how many times the token brings it.
+pub fn parse_token(token: &[u8]) -> Result<(u8, usize), Fault> {
     let [high, low, rest @ ..] = token else {
         return Err(Fault::Byte);
     };
@@ -123,19 +124,24 @@ pub fn show_line(bytes: &[u8]) -> String {
 /// A line that brings these bytes, in a spelling that varies: upper-case hex,
 /// zeros before a count, a count of 1, a run in two parts.
 pub fn show_line_varied(bytes: &[u8], rng: &mut Rng) -> String {
-    let mut line = String::from("read");
+    format!("read{}", show_bytes_varied(bytes, rng))
+}
+
+/// Bytes as tokens, each after a blank, in a spelling that varies.
+pub fn show_bytes_varied(bytes: &[u8], rng: &mut Rng) -> String {
+    let mut tokens = String::new();
     for (byte, count) in runs(bytes) {
         let first = if count > 1 && rng.one_in(4) {
             1 + rng.place(count - 1)
         } else {
             count
         };
-        line += &varied_token(byte, first, rng);
+        tokens += &varied_token(byte, first, rng);
         if first < count {
-            line += &varied_token(byte, count - first, rng);
+            tokens += &varied_token(byte, count - first, rng);
         }
     }
-    line
+    tokens
 }
 
 fn varied_token(byte: u8, count: usize, rng: &mut Rng) -> String {

@@ -1,0 +1,607 @@
+//! Acting on a command: the checks before any access, the reads of a read
+//! command, the move routine, the plain write, and the finish.
+
+use super::{
+    data, data_mut, Answer, Job, Moving, Offer, Phase, Place, ReadOutcome, Reading, Record, Stage,
+    Step, WriteOutcome, STATUS,
+};
+use crate::coverage::met;
+use crate::geometry::{spare, Block, Sector, SECTOR_BYTES};
+use crate::image::{DEAD, MOST_BADS};
+
+/// The number that reads and writes the buffer.
+pub const RAM: u32 = 0xFF_FFFE;
+
+/// The number that reads the table.
+pub const TABLE_IMAGE: u32 = 0xFF_FFFF;
+
+/// What the further reads may cost.
+const BUDGET: u32 = 90;
+
+/// What a timeout among them costs.
+const TIMEOUT_COST: u32 = 9;
+
+/// Attempts on one sector.
+const ATTEMPTS: u32 = 2;
+
+/// Bits of status 1.
+mod one {
+    pub const ABORTED: u8 = 1 << 6;
+    pub const NO_SETTLE: u8 = 1 << 4;
+    pub const CRC: u8 = 1 << 3;
+    pub const TIMEOUT: u8 = 1 << 2;
+    pub const FAILED: u8 = 1 << 0;
+}
+
+/// Bits of status 2.
+mod two {
+    pub const NO_SPARE: u8 = 1 << 6;
+    pub const BADS_FULL: u8 = 1 << 4;
+    pub const NO_TABLE: u8 = 1 << 3;
+    pub const MOVED: u8 = 1 << 2;
+}
+
+/// Bits of status 3.
+mod three {
+    pub const FRESH: u8 = 1 << 7;
+    pub const NUMBER: u8 = 1 << 6;
+}
+
+/// The three commands.
+#[derive(Clone, Copy, Debug, PartialEq, Eq)]
+enum Command {
+    Read,
+    Write,
+    Verify,
+}
+
+impl Command {
+    fn name(self) -> &'static str {
+        match self {
+            Command::Read => "read",
+            Command::Write => "write",
+            Command::Verify => "verify",
+        }
+    }
+}
+
+/// A command as its bytes have it.
+#[derive(Clone, Copy, Debug)]
+struct Order {
+    command: Command,
+    number: u32,
+    /// R and T of a read.
+    rereads: u8,
+    threshold: u8,
+}
+
+impl Order {
+    /// The command bytes that stand behind an offer. Bytes that were not fed
+    /// read as 0; no call leaves such a record.
+    fn new(offer: Offer, bytes: &[u8]) -> Order {
+        let byte = |place: usize| bytes.get(place).copied().unwrap_or(0);
+        Order {
+            command: match (offer, byte(0)) {
+                (Offer::Read, _) => Command::Read,
+                (_, 0x02) => Command::Verify,
+                _ => Command::Write,
+            },
+            number: u32::from_be_bytes([0, byte(1), byte(2), byte(3)]),
+            rereads: byte(4),
+            threshold: byte(5),
+        }
+    }
+
+    fn writes(self) -> bool {
+        self.command != Command::Read
+    }
+
+    /// It asks for the table.
+    fn reads_table(self) -> bool {
+        self.number == TABLE_IMAGE && !self.writes()
+    }
+}
+
+impl Record {
+    /// The host went on after offer 02 or 06.
+    pub(super) fn act(&mut self, buffer: &mut [u8], offer: Offer) -> Answer {
+        let order = Order::new(offer, &self.command);
+        if let Some(status) = self.at_once(order) {
+            return self.finish(buffer, status);
+        }
+        match Block::new(order.number) {
+            Some(block) => self.begin(order, block),
+            None => {
+                // FFFFFF on a read is all that is left.
+                met("act.ffffff");
+                data_mut(buffer).copy_from_slice(&self.table_image());
+                self.finish(buffer, [0; STATUS])
+            }
+        }
+    }
+
+    /// The status of a command that is over before any access, and before the
+    /// table is put in the data part.
+    fn at_once(&self, order: Order) -> Option<[u8; STATUS]> {
+        let Order {
+            command, number, ..
+        } = order;
+        let kind = command.name();
+        let block = Block::new(number);
+
+        if order.writes() && self.data_count > SECTOR_BYTES {
+            let what = match block {
+                Some(_) if !self.known => "no-table",
+                Some(_) if self.latch => "latch",
+                Some(_) => "block",
+                None if number == RAM => "fffffe",
+                None => "invalid",
+            };
+            met(&format!("act.too-much.{kind}.{what}"));
+            return Some([one::ABORTED | one::FAILED, 0, 0, 0]);
+        }
+        if block.is_none() && number != RAM && !order.reads_table() {
+            let what = match number {
+                TABLE_IMAGE => "ffffff",
+                9728 => "9728",
+                0x00_FFFE => "00fffe",
+                0xFF_FFFD => "fffffd",
+                _ => "other",
+            };
+            met(&format!("act.invalid.{kind}.{what}"));
+            return Some([one::FAILED, 0, three::NUMBER, 0]);
+        }
+        if number == RAM {
+            let state = match (self.known, self.latch) {
+                (false, _) => "no-table",
+                (true, true) => "latch",
+                (true, false) => "plain",
+            };
+            met(&format!("act.fffffe.{kind}.{state}"));
+            return Some([0; STATUS]);
+        }
+        if !self.known {
+            let what = if order.reads_table() { "ffffff" } else { kind };
+            met(&format!("act.no-table.{what}"));
+            let aborted = if order.writes() { one::ABORTED } else { 0 };
+            return Some([one::FAILED | aborted, two::NO_TABLE, 0, 0]);
+        }
+        if order.writes() && self.latch {
+            let listed = self.is_bad(number);
+            let what = if listed { "listed" } else { "plain" };
+            met(&format!("act.latch.{kind}.{what}"));
+            return Some([one::NO_SETTLE | one::FAILED, 0, 0, 0]);
+        }
+        None
+    }
+
+    /// Asks for the first access of a command.
+    fn begin(&mut self, order: Order, block: Block) -> Answer {
+        let number = block.number();
+        let sector = self.sector(block);
+        let listed = self.is_bad(number);
+        met(&format!(
+            "act.{}.{}.{}",
+            order.command.name(),
+            match self.spare_of(number) {
+                Some(_) => "spare",
+                None => "home",
+            },
+            if listed { "listed" } else { "unlisted" }
+        ));
+        let job = Job {
+            block: number,
+            crc: false,
+            timeout: false,
+            errors: 0,
+        };
+        let at = sector.number();
+        match order.command {
+            Command::Read => {
+                let rereads = u32::from(order.rereads);
+                let reading = Reading {
+                    sector: at,
+                    threshold: order.threshold,
+                    stage: Stage::First { rereads },
+                };
+                self.read_again(job, reading)
+            }
+            Command::Write if !listed => {
+                self.phase = Phase::Writing { job, sector: at };
+                Answer::Write(sector)
+            }
+            Command::Write | Command::Verify => self.begin_move(job, at),
+        }
+    }
+
+    /// Asks for the next read of a read command.
+    fn read_again(&mut self, job: Job, reading: Reading) -> Answer {
+        self.phase = Phase::Reading(job, reading);
+        Answer::Read(in_range(reading.sector))
+    }
+
+    /// One of the reads before the move routine was answered.
+    pub(super) fn command_read(
+        &mut self,
+        buffer: &mut [u8],
+        mut job: Job,
+        reading: Reading,
+        outcome: ReadOutcome,
+    ) -> Answer {
+        let stage = reading.stage;
+        let had_good = matches!(stage, Stage::Again { good: true, .. });
+        met(&read_name(stage, outcome));
+        let good = match outcome {
+            ReadOutcome::NoSettle => return self.no_settle(buffer, job),
+            ReadOutcome::Good(bytes) => {
+                if !had_good {
+                    data_mut(buffer).copy_from_slice(bytes);
+                }
+                true
+            }
+            ReadOutcome::Crc(bytes) => {
+                if !had_good {
+                    data_mut(buffer).copy_from_slice(bytes);
+                }
+                job.crc = true;
+                false
+            }
+            ReadOutcome::Timeout => {
+                job.timeout = true;
+                false
+            }
+        };
+        let next = match stage {
+            Stage::First { .. } if good => {
+                met(match reading.threshold {
+                    0 => "read.first-good.threshold-0",
+                    _ => "read.first-good.threshold-more",
+                });
+                return self.finish_job(buffer, job, 0, 0);
+            }
+            Stage::First { rereads: 0 } => Stage::Further { spent: 0 },
+            Stage::First { rereads } => Stage::Again {
+                more: rereads - 1,
+                good: false,
+            },
+            Stage::Again { more, .. } => {
+                if !good {
+                    job.errors += 1;
+                }
+                match (more, had_good || good) {
+                    (0, true) => return self.was_read(buffer, job, reading),
+                    (0, false) => Stage::Further { spent: 0 },
+                    (_, good) => Stage::Again {
+                        more: more - 1,
+                        good,
+                    },
+                }
+            }
+            Stage::Further { .. } if good => return self.was_read(buffer, job, reading),
+            Stage::Further { spent } => {
+                let cost = match outcome {
+                    ReadOutcome::Timeout => TIMEOUT_COST,
+                    _ => 1,
+                };
+                let spent = spent + cost;
+                if spent >= BUDGET {
+                    met(match spent {
+                        BUDGET => "read.spent.exactly-90",
+                        _ => "read.spent.past-90",
+                    });
+                    return self.never_read(buffer, job);
+                }
+                Stage::Further { spent }
+            }
+        };
+        self.read_again(
+            job,
+            Reading {
+                stage: next,
+                ..reading
+            },
+        )
+    }
+
+    /// No read at all was good.
+    fn never_read(&mut self, buffer: &mut [u8], job: Job) -> Answer {
+        let mut two = 0;
+        if self.is_bad(job.block) {
+            met("read.failed.listed-already");
+        } else if self.bads.len() >= MOST_BADS {
+            met("read.failed.list-full");
+            two = two::BADS_FULL;
+        } else {
+            met(match self.latch {
+                false => "read.failed.entered",
+                true => "read.failed.entered-under-latch",
+            });
+            self.bads.push(job.block);
+            self.changed = true;
+        }
+        self.finish_job(buffer, job, one::FAILED, two)
+    }
+
+    /// All rereads are made and some read was good.
+    fn was_read(&mut self, buffer: &mut [u8], job: Job, reading: Reading) -> Answer {
+        let late = match reading.stage {
+            Stage::Further { .. } => "further",
+            _ => "reread",
+        };
+        if job.errors < u32::from(reading.threshold) {
+            met(&format!("read.late-good.{late}.below-threshold"));
+            return self.finish_job(buffer, job, 0, 0);
+        }
+        met(&format!("read.late-good.{late}.to-move"));
+        if self.latch {
+            met("move.latch");
+            return self.finish_job(buffer, job, one::NO_SETTLE | one::FAILED, 0);
+        }
+        self.begin_move(job, reading.sector)
+    }
+
+    /// The move routine, with no latch, begins on the present sector.
+    fn begin_move(&mut self, job: Job, sector: u32) -> Answer {
+        self.attempt(job, Place::Present(sector), 1)
+    }
+
+    /// Begins an attempt.
+    fn attempt(&mut self, job: Job, place: Place, attempt: u32) -> Answer {
+        self.phase = Phase::Moving(
+            job,
+            Moving {
+                place,
+                attempt,
+                step: Step::Write,
+            },
+        );
+        Answer::Write(sector_of(place))
+    }
+
+    /// The write of an attempt was answered.
+    pub(super) fn move_write(
+        &mut self,
+        buffer: &mut [u8],
+        mut job: Job,
+        moving: Moving,
+        outcome: WriteOutcome,
+    ) -> Answer {
+        let word = match outcome {
+            WriteOutcome::Done => "done",
+            WriteOutcome::Timeout => "timeout",
+            WriteOutcome::NoSettle => "no-settle",
+        };
+        met(&format!("move.{}.write.{word}", place_name(moving)));
+        match outcome {
+            WriteOutcome::Done => {
+                let step = Step::Verify;
+                self.phase = Phase::Moving(job, Moving { step, ..moving });
+                Answer::Read(sector_of(moving.place))
+            }
+            WriteOutcome::Timeout => {
+                job.timeout = true;
+                self.attempt_failed(buffer, job, moving)
+            }
+            WriteOutcome::NoSettle => self.no_settle(buffer, job),
+        }
+    }
+
+    /// The verify of an attempt was answered.
+    pub(super) fn move_verify(
+        &mut self,
+        buffer: &mut [u8],
+        mut job: Job,
+        moving: Moving,
+        outcome: ReadOutcome,
+    ) -> Answer {
+        let word = match outcome {
+            ReadOutcome::Good(bytes) if bytes == data(buffer) => "same",
+            ReadOutcome::Good(_) => "other",
+            ReadOutcome::Crc(bytes) if bytes == data(buffer) => "crc-same",
+            ReadOutcome::Crc(_) => "crc-other",
+            ReadOutcome::Timeout => "timeout",
+            ReadOutcome::NoSettle => "no-settle",
+        };
+        met(&format!("move.{}.verify.{word}", place_name(moving)));
+        match outcome {
+            ReadOutcome::Good(bytes) if bytes == data(buffer) => {
+                self.verified(buffer, job, moving.place)
+            }
+            ReadOutcome::Good(_) | ReadOutcome::Crc(_) => {
+                job.crc = true;
+                self.attempt_failed(buffer, job, moving)
+            }
+            ReadOutcome::Timeout => {
+                job.timeout = true;
+                self.attempt_failed(buffer, job, moving)
+            }
+            ReadOutcome::NoSettle => self.no_settle(buffer, job),
+        }
+    }
+
+    /// An attempt failed: once more here, or on the next unused spare.
+    fn attempt_failed(&mut self, buffer: &mut [u8], job: Job, moving: Moving) -> Answer {
+        if moving.attempt < ATTEMPTS {
+            return self.attempt(job, moving.place, moving.attempt + 1);
+        }
+        let tried = matches!(moving.place, Place::Spare(_));
+        if tried {
+            met("move.spare.dies");
+            self.kill_next_spare();
+        }
+        match self.next_spare() {
+            Some(k) => {
+                met(match k {
+                    31 => "move.next-spare.last",
+                    _ => "move.next-spare",
+                });
+                self.attempt(job, Place::Spare(k), 1)
+            }
+            None => {
+                met(match (tried, self.spare_of(job.block)) {
+                    (true, None) => "move.no-spare.all-died",
+                    (true, Some(_)) => "move.no-spare.all-died.keeps-its-spare",
+                    (false, None) => "move.no-spare.none-unused",
+                    (false, Some(_)) => "move.no-spare.none-unused.keeps-its-spare",
+                });
+                self.finish_job(buffer, job, one::FAILED, two::NO_SPARE)
+            }
+        }
+    }
+
+    /// The spare under trial, which is the next unused one, becomes dead.
+    fn kill_next_spare(&mut self) {
+        self.spares.push(DEAD);
+        self.changed = true;
+    }
+
+    /// An attempt verified.
+    fn verified(&mut self, buffer: &mut [u8], job: Job, place: Place) -> Answer {
+        let mut two = 0;
+        match place {
+            Place::Present(_) => met("move.verified.present"),
+            Place::Spare(_) => {
+                match self.spare_of(job.block) {
+                    Some(old) => {
+                        met("move.verified.spare.old-entry-killed");
+                        self.spares[old] = DEAD;
+                    }
+                    None => met("move.verified.spare.from-home"),
+                }
+                self.spares.push(job.block);
+                self.changed = true;
+                two = two::MOVED;
+            }
+        }
+        match self.bads.iter().position(|&bad| bad == job.block) {
+            Some(listed) => {
+                met(match listed + 1 == self.bads.len() {
+                    true => "move.removed-from-bads.last",
+                    false => "move.removed-from-bads.before-others",
+                });
+                self.bads.remove(listed);
+                self.changed = true;
+            }
+            None => met("move.not-in-bads"),
+        }
+        self.finish_job(buffer, job, 0, two)
+    }
+
+    /// The one write of a write command was answered.
+    pub(super) fn plain_write(
+        &mut self,
+        buffer: &mut [u8],
+        mut job: Job,
+        outcome: WriteOutcome,
+    ) -> Answer {
+        match outcome {
+            WriteOutcome::Done => {
+                met("write.done");
+                self.finish_job(buffer, job, 0, 0)
+            }
+            WriteOutcome::Timeout => {
+                met("write.timeout");
+                job.timeout = true;
+                self.finish_job(buffer, job, one::FAILED, 0)
+            }
+            WriteOutcome::NoSettle => {
+                met("write.no-settle");
+                self.no_settle(buffer, job)
+            }
+        }
+    }
+
+    /// Answer 3 to an access of a command.
+    fn no_settle(&mut self, buffer: &mut [u8], job: Job) -> Answer {
+        if let Phase::Moving(_, moving) = self.phase {
+            match moving.place {
+                Place::Spare(k) => {
+                    met(match k {
+                        31 => "no-settle.last-spare-dies",
+                        _ => "no-settle.spare-dies",
+                    });
+                    self.kill_next_spare();
+                }
+                Place::Present(_) => met(match self.spare_of(job.block) {
+                    Some(_) => "no-settle.present-spare-stays",
+                    None => "no-settle.home",
+                }),
+            }
+        }
+        met(match self.latch {
+            false => "no-settle.latch-made",
+            true => "no-settle.latch-held",
+        });
+        self.latch = true;
+        self.finish_job(buffer, job, one::NO_SETTLE | one::FAILED, 0)
+    }
+
+    /// The finish of a command that made accesses: what it met joins the bits.
+    fn finish_job(&mut self, buffer: &mut [u8], job: Job, one: u8, two: u8) -> Answer {
+        let crc = if job.crc { one::CRC } else { 0 };
+        let timeout = if job.timeout { one::TIMEOUT } else { 0 };
+        // Code 1 and the rereads keep E at most 255.
+        let errors = job.errors.min(255) as u8;
+        met(match errors {
+            0 => "finish.errors.0",
+            255 => "finish.errors.255",
+            _ => "finish.errors.some",
+        });
+        self.finish(buffer, [one | crc | timeout, two, 0, errors])
+    }
+
+    /// The finish of any command.
+    fn finish(&mut self, buffer: &mut [u8], mut status: [u8; STATUS]) -> Answer {
+        let how = if status[0] & one::FAILED == 0 {
+            "good"
+        } else {
+            "failed"
+        };
+        let bit = if self.fresh { "bit-7" } else { "no-bit-7" };
+        met(&format!("finish.{how}.{bit}"));
+        if self.fresh {
+            status[2] |= three::FRESH;
+            self.fresh = false;
+        }
+        buffer[..STATUS].copy_from_slice(&status);
+        self.rest();
+        Answer::Finished
+    }
+}
+
+fn read_name(stage: Stage, outcome: ReadOutcome) -> String {
+    let stage = match stage {
+        Stage::First { .. } => "first",
+        Stage::Again { good: false, .. } => "reread",
+        Stage::Again { good: true, .. } => "reread-after-good",
+        Stage::Further { .. } => "further",
+    };
+    let outcome = match outcome {
+        ReadOutcome::Good(_) => "good",
+        ReadOutcome::Crc(_) => "crc",
+        ReadOutcome::Timeout => "timeout",
+        ReadOutcome::NoSettle => "no-settle",
+    };
+    format!("read.{stage}.{outcome}")
+}
+
+fn place_name(moving: Moving) -> &'static str {
+    match (moving.place, moving.attempt) {
+        (Place::Present(_), 2) => "present.second",
+        (Place::Present(_), _) => "present.first",
+        (Place::Spare(_), 2) => "spare.second",
+        (Place::Spare(_), _) => "spare.first",
+    }
+}
+
+fn sector_of(place: Place) -> Sector {
+    match place {
+        Place::Present(sector) => in_range(sector),
+        Place::Spare(k) => spare(k).expect("code 1 tested the spare"),
+    }
+}
+
+/// The sector of a number that code 1 tested.
+fn in_range(number: u32) -> Sector {
+    Sector::new(number).expect("code 1 tested the sector")
+}

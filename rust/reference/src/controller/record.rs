@@ -1,0 +1,316 @@
+//! The record, its phases, and the test of code 1.
+//!
+//! Numbers in a record are plain ones, since a record that no call returned may
+//! hold any; `valid` is the test of code 1, and behind it they are in range.
+
+use super::{MOST_COMMAND, MOST_DATA, MOST_START_READS};
+use crate::geometry::{home, spare, Block, Sector, SPARES};
+use crate::image::{self, Spare, Table, DEAD};
+
+/// What the controller offers to do next.
+#[derive(Clone, Copy, Debug, PartialEq, Eq)]
+pub enum Offer {
+    /// Take a command.
+    Command,
+    /// Read a block.
+    Read,
+    /// Take the data of a write.
+    Write,
+    /// Take the data of a write/verify.
+    Verify,
+    /// Do the write or the write/verify.
+    Act,
+}
+
+impl Offer {
+    /// The response byte.
+    pub fn byte(self) -> u8 {
+        match self {
+            Offer::Command => 0x01,
+            Offer::Read => 0x02,
+            Offer::Write => 0x03,
+            Offer::Verify => 0x04,
+            Offer::Act => 0x06,
+        }
+    }
+}
+
+/// What the controller is doing. CMD is high while an offer stands and while the
+/// store of a raise is awaited, and low elsewhere.
+#[derive(Clone, Copy, Debug, PartialEq, Eq)]
+pub enum Phase {
+    Idle,
+    /// An offer stands.
+    Offered(Offer),
+    /// Command bytes are taken.
+    Command,
+    /// Data bytes are taken.
+    Data,
+    /// A read of the start is awaited, the last of this many asked for.
+    Starting {
+        reads: u32,
+    },
+    /// The store of a raise is awaited.
+    Storing,
+    /// A read of a read command is awaited.
+    Reading(Job, Reading),
+    /// The one write of a write command is awaited.
+    Writing {
+        job: Job,
+        sector: u32,
+    },
+    /// An access of the move routine is awaited.
+    Moving(Job, Moving),
+}
+
+/// A command with an access under way, and what it has met.
+#[derive(Clone, Copy, Debug, PartialEq, Eq)]
+pub struct Job {
+    pub block: u32,
+    /// Any CRC error.
+    pub crc: bool,
+    /// Any timeout.
+    pub timeout: bool,
+    /// E: the failures among the R rereads.
+    pub errors: u32,
+}
+
+/// Where a read command stands before the move routine.
+#[derive(Clone, Copy, Debug, PartialEq, Eq)]
+pub struct Reading {
+    pub sector: u32,
+    /// T.
+    pub threshold: u8,
+    pub stage: Stage,
+}
+
+/// Which of its reads is awaited.
+#[derive(Clone, Copy, Debug, PartialEq, Eq)]
+pub enum Stage {
+    /// The first; this many rereads would follow.
+    First { rereads: u32 },
+    /// One of the R rereads; this many more follow. Good is whether the block
+    /// was read already.
+    Again { more: u32, good: bool },
+    /// A further one; this much of the 90 is spent.
+    Further { spent: u32 },
+}
+
+/// Where the move routine stands.
+#[derive(Clone, Copy, Debug, PartialEq, Eq)]
+pub struct Moving {
+    pub place: Place,
+    /// Attempts begun here, the one under way included.
+    pub attempt: u32,
+    pub step: Step,
+}
+
+/// The sector of an attempt.
+#[derive(Clone, Copy, Debug, PartialEq, Eq)]
+pub enum Place {
+    /// The block's present sector.
+    Present(u32),
+    /// This spare, under trial.
+    Spare(usize),
+}
+
+/// Which half of an attempt is awaited.
+#[derive(Clone, Copy, Debug, PartialEq, Eq)]
+pub enum Step {
+    Write,
+    Verify,
+}
+
+/// What kind of access is awaited.
+#[derive(Clone, Copy, Debug, PartialEq, Eq)]
+pub enum Awaited {
+    Read,
+    Write,
+}
+
+impl Phase {
+    /// What is awaited from the surface, if anything.
+    pub fn awaited(self) -> Option<Awaited> {
+        match self {
+            Phase::Idle | Phase::Offered(_) | Phase::Command | Phase::Data => None,
+            Phase::Starting { .. } | Phase::Reading(..) => Some(Awaited::Read),
+            Phase::Storing | Phase::Writing { .. } => Some(Awaited::Write),
+            Phase::Moving(_, moving) => Some(match moving.step {
+                Step::Write => Awaited::Write,
+                Step::Verify => Awaited::Read,
+            }),
+        }
+    }
+
+    /// A word for it, for the coverage names.
+    pub fn name(self) -> &'static str {
+        match self {
+            Phase::Idle => "idle",
+            Phase::Offered(_) => "offer",
+            Phase::Command => "command",
+            Phase::Data => "data",
+            Phase::Starting { .. } => "starting",
+            Phase::Storing => "storing",
+            Phase::Reading(_, reading) => match reading.stage {
+                Stage::First { .. } => "first-read",
+                Stage::Again { .. } => "reread",
+                Stage::Further { .. } => "further-read",
+            },
+            Phase::Writing { .. } => "plain-write",
+            Phase::Moving(_, moving) => match (moving.place, moving.step) {
+                (Place::Present(_), Step::Write) => "present-write",
+                (Place::Present(_), Step::Verify) => "present-verify",
+                (Place::Spare(_), Step::Write) => "spare-write",
+                (Place::Spare(_), Step::Verify) => "spare-verify",
+            },
+        }
+    }
+}
+
+/// The drive's record.
+#[derive(Clone, Debug, PartialEq, Eq)]
+pub struct Record {
+    /// The spare list: blocks and FFFFFE.
+    pub spares: Vec<u32>,
+    /// The bad list.
+    pub bads: Vec<u32>,
+    /// There is a table.
+    pub known: bool,
+    /// The table was changed since its last store or the start.
+    pub changed: bool,
+    /// Writes are shut off after answer 3.
+    pub latch: bool,
+    /// Status 3 bit 7 is due.
+    pub fresh: bool,
+    /// The command bytes that were kept.
+    pub command: Vec<u8>,
+    /// The data bytes that were counted.
+    pub data_count: usize,
+    pub phase: Phase,
+}
+
+impl Default for Record {
+    fn default() -> Record {
+        Record::new()
+    }
+}
+
+impl Record {
+    /// A record that was never started.
+    pub fn new() -> Record {
+        Record {
+            spares: vec![],
+            bads: vec![],
+            known: false,
+            changed: false,
+            latch: false,
+            fresh: false,
+            command: vec![],
+            data_count: 0,
+            phase: Phase::Idle,
+        }
+    }
+
+    /// Whether code 1 stays silent.
+    pub fn valid(&self) -> bool {
+        self.table().is_some()
+            && self.command.len() <= MOST_COMMAND
+            && self.data_count <= MOST_DATA
+            && self.valid_phase()
+    }
+
+    fn valid_phase(&self) -> bool {
+        match self.phase {
+            Phase::Idle | Phase::Offered(_) | Phase::Command | Phase::Data => true,
+            Phase::Starting { reads } => reads <= MOST_START_READS,
+            Phase::Storing => self.known,
+            Phase::Reading(job, reading) => {
+                let (left, spent) = match reading.stage {
+                    Stage::First { rereads } => (u64::from(rereads), 0),
+                    // The awaited one is left too.
+                    Stage::Again { more, .. } => (u64::from(more) + 1, 0),
+                    Stage::Further { spent } => (0, spent),
+                };
+                self.known
+                    && is_block(job.block)
+                    && is_sector(reading.sector)
+                    && u64::from(job.errors) + left <= 255
+                    && spent <= 89
+            }
+            Phase::Writing { job, sector } => {
+                self.known && is_block(job.block) && is_sector(sector) && job.errors <= 255
+            }
+            Phase::Moving(job, moving) => {
+                let placed = match moving.place {
+                    Place::Present(sector) => is_sector(sector),
+                    Place::Spare(k) => self.next_spare() == Some(k),
+                };
+                self.known
+                    && is_block(job.block)
+                    && placed
+                    && job.errors <= 255
+                    && moving.attempt <= 2
+            }
+        }
+    }
+
+    /// The table that the lists make, if they are well formed.
+    pub fn table(&self) -> Option<Table> {
+        let spares: Option<Vec<Spare>> = self.spares.iter().map(|&entry| spare_of(entry)).collect();
+        let bads: Option<Vec<Block>> = self.bads.iter().map(|&entry| Block::new(entry)).collect();
+        Table::new(spares?, bads?)
+    }
+
+    /// Takes the lists of a table that was read.
+    pub(super) fn take_table(&mut self, table: &Table) {
+        let number = |spare: &Spare| match spare {
+            Spare::Moved(block) => block.number(),
+            Spare::Dead => DEAD,
+        };
+        self.spares = table.spares().iter().map(number).collect();
+        self.bads = table.bads().iter().map(|bad| bad.number()).collect();
+        self.known = true;
+    }
+
+    /// The image of the lists, which are well formed.
+    pub(super) fn table_image(&self) -> [u8; image::LENGTH] {
+        image::write(&self.table().expect("code 1 tested the lists"))
+    }
+
+    /// The next unused spare.
+    pub fn next_spare(&self) -> Option<usize> {
+        (self.spares.len() < SPARES).then_some(self.spares.len())
+    }
+
+    /// The spare to which a block was moved.
+    pub fn spare_of(&self, block: u32) -> Option<usize> {
+        self.spares.iter().position(|&entry| entry == block)
+    }
+
+    /// Whether a block stands in the bad list.
+    pub fn is_bad(&self, block: u32) -> bool {
+        self.bads.contains(&block)
+    }
+
+    /// The sector of a block: its spare if listed, else its home.
+    pub fn sector(&self, block: Block) -> Sector {
+        self.spare_of(block.number())
+            .and_then(spare)
+            .unwrap_or(home(block))
+    }
+}
+
+fn spare_of(entry: u32) -> Option<Spare> {
+    match entry {
+        DEAD => Some(Spare::Dead),
+        _ => Block::new(entry).map(Spare::Moved),
+    }
+}
+
+fn is_block(number: u32) -> bool {
+    Block::new(number).is_some()
+}
+
+fn is_sector(number: u32) -> bool {
+    Sector::new(number).is_some()
+}

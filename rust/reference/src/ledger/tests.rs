@@ -1,0 +1,412 @@
+//! Lists written by hand, most of which no controller makes.
+
+use super::*;
+use crate::controller::{Code, BUFFER};
+use crate::images::draft::Draft;
+
+/// A ledger and the buffer that the last call left.
+struct List {
+    ledger: Ledger,
+    buffer: Vec<u8>,
+}
+
+fn sector(number: u32) -> Sector {
+    Sector::new(number).expect("a sector")
+}
+
+fn block(number: u32) -> Block {
+    Block::new(number).expect("a block")
+}
+
+const OLD: [u8; 532] = [0x01; 532];
+const NEW: [u8; 532] = [0x02; 532];
+
+impl List {
+    /// A list whose read of 4960 is awaited; sector 5 holds the old bytes and
+    /// sector 6 is spoiled.
+    fn begun() -> List {
+        let mut sectors = Sectors::new();
+        sectors.hold(sector(5), &OLD);
+        sectors.spoil(sector(6));
+        List {
+            ledger: Ledger::new(&sectors),
+            buffer: vec![0; BUFFER],
+        }
+    }
+
+    /// The same with this table read.
+    fn with(spares: &[u32]) -> List {
+        let mut list = List::begun();
+        list.table(0, &Draft::new(spares, &[]).bytes());
+        list
+    }
+
+    fn table(&mut self, answer: u8, bytes: &[u8]) {
+        let call = Call::Surface(answer, bytes.to_vec());
+        self.call(call, Answer::Wait);
+    }
+
+    fn call(&mut self, call: Call, answer: Answer) {
+        self.ledger.call(&call, answer, &self.buffer);
+    }
+
+    /// Handshake and command bytes up to the lower that acts; its answer and
+    /// what follows is for the caller to say.
+    fn command(&mut self, bytes: &[u8]) {
+        self.call(Call::Raise, Answer::Offer(Offer::Command));
+        self.call(Call::Lower(0x55), Answer::Wait);
+        self.call(Call::Feed(bytes.to_vec()), Answer::Wait);
+        let offer = match bytes[0] {
+            0 => Offer::Read,
+            1 => Offer::Write,
+            _ => Offer::Verify,
+        };
+        self.call(Call::Raise, Answer::Offer(offer));
+    }
+
+    /// A read of a block whose only access is at this sector.
+    fn read(&mut self, number: u8, at: u32, status: [u8; 4], data: &[u8]) {
+        self.command(&[0, 0, 0, number, 0, 0]);
+        self.call(Call::Lower(0x55), Answer::Read(sector(at)));
+        self.finished(status, data);
+    }
+
+    /// The awaited access is answered, and the command finished.
+    fn finished(&mut self, status: [u8; 4], data: &[u8]) {
+        self.buffer[..STATUS].copy_from_slice(&status);
+        self.buffer[STATUS..].copy_from_slice(data);
+        self.call(Call::Surface(0, vec![]), Answer::Finished);
+    }
+
+    /// Up to the offer 06 of a write that feeds these bytes.
+    fn up_to_06(&mut self, opcode: u8, number: u8, data: &[u8]) {
+        self.command(&[opcode, 0, 0, number]);
+        self.call(Call::Lower(0x55), Answer::Wait);
+        let laid = data.len().min(532);
+        self.buffer[STATUS..STATUS + laid].copy_from_slice(&data[..laid]);
+        self.call(Call::Feed(data.to_vec()), Answer::Wait);
+        self.call(Call::Raise, Answer::Offer(Offer::Act));
+    }
+
+    /// A write whose only access is at this sector.
+    fn write(&mut self, number: u8, at: u32, data: &[u8], status: [u8; 4]) {
+        self.up_to_06(1, number, data);
+        self.call(Call::Lower(0x55), Answer::Write(sector(at)));
+        let data = self.buffer[STATUS..].to_vec();
+        self.finished(status, &data);
+    }
+
+    #[track_caller]
+    fn allowed(&self) {
+        assert_eq!(self.ledger.verdict(), Ok(()));
+    }
+
+    #[track_caller]
+    fn broken(&self, broken: Broken) {
+        assert_eq!(self.ledger.verdict(), Err(broken));
+    }
+}
+
+const GOOD: [u8; 4] = [0; 4];
+const FAILED: [u8; 4] = [0x05, 0, 0, 0];
+
+#[test]
+fn what_was_found_at_the_start() {
+    let mut list = List::with(&[]);
+    list.read(5, 5, GOOD, &OLD);
+    list.read(5, 5, GOOD, &OLD);
+    list.allowed();
+    assert_eq!(list.ledger.good_reads(), 2);
+    list.read(5, 5, GOOD, &NEW);
+    list.broken(Broken::GoodRead(block(5)));
+}
+
+#[test]
+fn a_spoiled_sector_has_no_candidate() {
+    let mut list = List::with(&[]);
+    list.read(6, 6, FAILED, &OLD);
+    list.allowed();
+    list.read(6, 6, GOOD, &OLD);
+    list.broken(Broken::GoodRead(block(6)));
+}
+
+#[test]
+fn a_failed_read_may_bring_anything() {
+    let mut list = List::with(&[]);
+    list.read(5, 5, FAILED, &NEW);
+    list.read(5, 5, GOOD, &OLD);
+    list.allowed();
+}
+
+#[test]
+fn a_good_write_replaces() {
+    let mut list = List::with(&[]);
+    list.write(5, 5, &NEW, GOOD);
+    list.read(5, 5, GOOD, &NEW);
+    list.allowed();
+    list.read(5, 5, GOOD, &OLD);
+    list.broken(Broken::GoodRead(block(5)));
+}
+
+#[test]
+fn a_failed_write_adds() {
+    // Either the old bytes or the new ones may come, but not both in turn.
+    for (first, then) in [(OLD, NEW), (NEW, OLD)] {
+        let mut list = List::with(&[]);
+        list.write(5, 5, &NEW, FAILED);
+        list.read(5, 5, GOOD, &first);
+        list.read(5, 5, GOOD, &first);
+        list.allowed();
+        list.read(5, 5, GOOD, &then);
+        list.broken(Broken::GoodRead(block(5)));
+    }
+}
+
+#[test]
+fn a_failed_write_without_an_access_adds_nothing() {
+    let mut list = List::with(&[]);
+    list.up_to_06(1, 5, &NEW);
+    list.buffer[0] = 0x11;
+    list.call(Call::Lower(0x55), Answer::Finished);
+    list.read(5, 5, GOOD, &NEW);
+    list.broken(Broken::GoodRead(block(5)));
+}
+
+#[test]
+fn a_write_reported_good_without_an_access() {
+    // The bytes are its own all the same; the read shows that it was none.
+    let mut list = List::with(&[]);
+    list.up_to_06(1, 5, &NEW);
+    list.call(Call::Lower(0x55), Answer::Finished);
+    list.allowed();
+    list.read(5, 5, GOOD, &OLD);
+    list.broken(Broken::GoodRead(block(5)));
+}
+
+#[test]
+fn a_write_broken_off_is_neither() {
+    for reset in [false, true] {
+        let mut list = List::with(&[]);
+        list.up_to_06(2, 5, &NEW);
+        if reset {
+            list.call(Call::Reset, Answer::Wait);
+        } else {
+            list.buffer[..4].copy_from_slice(&[0x80, 0, 0, 0]);
+            list.call(Call::Lower(0x54), Answer::Finished);
+        }
+        let mut other = List {
+            ledger: list.ledger.clone(),
+            buffer: list.buffer.clone(),
+        };
+        list.read(5, 5, GOOD, &OLD);
+        list.allowed();
+        other.read(5, 5, GOOD, &NEW);
+        other.broken(Broken::GoodRead(block(5)));
+    }
+}
+
+#[test]
+fn short_data_lie_over_what_was_there() {
+    let mut list = List::with(&[]);
+    list.buffer[STATUS..].copy_from_slice(&NEW);
+    list.write(5, 5, &[7; 3], GOOD);
+    let mut wanted = NEW;
+    wanted[..3].fill(7);
+    list.read(5, 5, GOOD, &wanted);
+    list.allowed();
+}
+
+#[test]
+fn data_come_in_pieces_and_too_many() {
+    let mut list = List::with(&[]);
+    list.command(&[1, 0, 0, 5]);
+    list.call(Call::Lower(0x55), Answer::Wait);
+    list.call(Call::Feed(vec![7; 530]), Answer::Wait);
+    list.call(Call::Feed(vec![8; 9]), Answer::Wait);
+    list.call(Call::Feed(vec![9; 9]), Answer::Wait);
+    list.call(Call::Raise, Answer::Offer(Offer::Act));
+    list.call(Call::Lower(0x55), Answer::Write(sector(5)));
+    let mut wanted = [7; 532];
+    wanted[530..].fill(8);
+    list.finished(GOOD, &wanted);
+    list.read(5, 5, GOOD, &wanted);
+    list.allowed();
+}
+
+#[test]
+fn refused_calls_change_nothing() {
+    let mut list = List::with(&[]);
+    let refused = Answer::Refused(Code::Place);
+    list.call(Call::Raise, Answer::Offer(Offer::Command));
+    list.call(Call::Feed(vec![1, 0, 0, 9]), refused);
+    list.call(Call::Lower(0x55), Answer::Wait);
+    list.call(Call::Feed(vec![9; 9]), Answer::Refused(Code::Buffer));
+    list.call(Call::Feed(vec![0, 0, 0]), Answer::Wait);
+    list.call(Call::Reset, refused);
+    list.call(Call::Feed(vec![5, 0, 0]), Answer::Wait);
+    list.call(Call::Raise, Answer::Offer(Offer::Read));
+    list.call(Call::Lower(0x54), Answer::Refused(Code::Buffer));
+    list.call(Call::Start, Answer::Refused(Code::Buffer));
+    list.call(Call::Lower(0x55), Answer::Read(sector(5)));
+    list.call(Call::Image, Answer::Wait);
+    list.call(
+        Call::Surface(0, NEW.to_vec()),
+        Answer::Refused(Code::Buffer),
+    );
+    list.finished(GOOD, &OLD);
+    list.allowed();
+    assert_eq!(list.ledger.good_reads(), 1);
+}
+
+#[test]
+fn the_first_access_is_at_the_blocks_sector() {
+    let mut list = List::with(&[]);
+    list.read(5, 5, FAILED, &OLD);
+    list.allowed();
+    list.read(5, 6, FAILED, &OLD);
+    list.broken(Broken::FirstAccess {
+        number: 5,
+        wanted: Some(sector(5)),
+        found: sector(6),
+    });
+    // Later accesses may be elsewhere.
+    let mut list = List::with(&[]);
+    list.command(&[0, 0, 0, 5, 0, 0]);
+    list.call(Call::Lower(0x55), Answer::Read(sector(5)));
+    list.call(Call::Surface(2, vec![]), Answer::Write(sector(4928)));
+    list.finished(FAILED, &OLD);
+    list.allowed();
+}
+
+#[test]
+fn an_access_without_a_sector() {
+    // No table: a malformed image, or a whole one with answer 1.
+    let whole = Draft::new(&[], &[]).bytes();
+    for (answer, bytes) in [(0, &vec![0; 532]), (1, &whole)] {
+        let mut list = List::begun();
+        list.table(answer, bytes);
+        list.read(5, 5, FAILED, &OLD);
+        list.broken(Broken::FirstAccess {
+            number: 5,
+            wanted: None,
+            found: sector(5),
+        });
+    }
+    // A number of no block.
+    let mut list = List::with(&[]);
+    list.command(&[0, 0xFF, 0xFF, 0xFE, 0, 0]);
+    list.call(Call::Lower(0x55), Answer::Read(sector(5)));
+    list.broken(Broken::FirstAccess {
+        number: 0xFF_FFFE,
+        wanted: None,
+        found: sector(5),
+    });
+}
+
+#[test]
+fn numbers_of_no_block_have_no_rule() {
+    let mut list = List::with(&[]);
+    list.command(&[0, 0xFF, 0xFF, 0xFF, 0, 0]);
+    list.buffer[STATUS..].copy_from_slice(&NEW);
+    list.call(Call::Lower(0x55), Answer::Finished);
+    list.read(5, 5, GOOD, &OLD);
+    list.allowed();
+}
+
+#[test]
+fn the_table_is_taken_when_it_comes() {
+    let mut list = List::begun();
+    list.call(Call::Surface(2, vec![]), Answer::Read(TABLE));
+    list.call(Call::Surface(0, vec![0; 532]), Answer::Read(TABLE));
+    list.table(0, &Draft::new(&[0xFF_FFFE, 7, 5], &[]).bytes());
+    let found = Sectors::new();
+    let held = |number: u32| found.get(sector(number)).expect("held").to_vec();
+    list.read(7, 4929, GOOD, &held(4929));
+    list.read(5, 4930, GOOD, &held(4930));
+    list.read(8, 8, GOOD, &held(8));
+    list.allowed();
+    // An image that comes later is no table.
+    list.call(Call::Raise, Answer::Store);
+    let other = Draft::new(&[], &[]).bytes();
+    list.call(Call::Surface(0, other), Answer::Offer(Offer::Command));
+    list.read(7, 4929, GOOD, &held(4929));
+    list.allowed();
+}
+
+#[test]
+fn a_move_changes_the_sector() {
+    let mut list = List::with(&[]);
+    list.up_to_06(2, 5, &NEW);
+    list.call(Call::Lower(0x55), Answer::Write(sector(5)));
+    list.call(Call::Surface(2, vec![]), Answer::Write(sector(5)));
+    list.call(Call::Surface(2, vec![]), Answer::Write(sector(4928)));
+    list.call(Call::Surface(0, vec![]), Answer::Read(sector(4928)));
+    list.finished([0x04, 0x04, 0, 0], &NEW);
+    list.read(5, 4928, GOOD, &NEW);
+    list.allowed();
+    let mut other = List {
+        ledger: list.ledger.clone(),
+        buffer: list.buffer.clone(),
+    };
+    list.read(5, 5, GOOD, &NEW);
+    list.broken(Broken::FirstAccess {
+        number: 5,
+        wanted: Some(sector(4928)),
+        found: sector(5),
+    });
+    // Another block in the same spare.
+    other.up_to_06(2, 9, &NEW);
+    other.call(Call::Lower(0x55), Answer::Write(sector(9)));
+    other.call(Call::Surface(0, vec![]), Answer::Read(sector(4928)));
+    other.allowed();
+    other.finished([0, 0x04, 0, 0], &NEW);
+    other.broken(Broken::SameSector(block(5), block(9), sector(4928)));
+}
+
+#[test]
+fn a_freed_sector_may_be_anothers() {
+    // Block 5 leaves its home, then block 9 comes there: no moment has both.
+    let mut list = List::with(&[]);
+    for (number, from, to) in [(5, 5, 4928), (9, 9, 5)] {
+        list.up_to_06(2, number, &NEW);
+        list.call(Call::Lower(0x55), Answer::Write(sector(from)));
+        list.call(Call::Surface(0, vec![]), Answer::Read(sector(to)));
+        list.finished([0, 0x04, 0, 0], &NEW);
+    }
+    list.allowed();
+}
+
+#[test]
+fn in_words() {
+    let wanted = Some(sector(5));
+    let found = sector(6);
+    let number = 5;
+    for (broken, words) in [
+        (
+            Broken::GoodRead(block(5)),
+            "a good read of block 5 gave other bytes",
+        ),
+        (
+            Broken::FirstAccess {
+                number,
+                wanted,
+                found,
+            },
+            "the first access for 5 was at 6 and not at 5",
+        ),
+        (
+            Broken::FirstAccess {
+                number,
+                wanted: None,
+                found,
+            },
+            "the first access for 5 was at 6, and it has no sector",
+        ),
+        (
+            Broken::SameSector(block(1), block(2), found),
+            "blocks 1 and 2 had both sector 6",
+        ),
+    ] {
+        assert_eq!(broken.to_string(), words);
+    }
+}

@@ -1,0 +1,365 @@
+//! A simulated host over the simulated surface: random scripts, and the ledger's
+//! word on them.
+
+use super::bench::{Bench, Tally};
+use super::Stored;
+use crate::controller::{Answer, Awaited, Offer, Phase, BUFFER, GO_ON};
+use crate::drive::Call;
+use crate::geometry::{BLOCKS, TABLE};
+use crate::image::{self, DEAD};
+use crate::images::draft::{distinct, Draft};
+use crate::rng::Rng;
+use crate::script::{show, Line};
+use crate::surface::{plain_bytes, Mood, Policy};
+use crate::text::show_bytes_varied;
+
+pub fn all() -> Vec<Stored> {
+    let stored = |name, seed, lies| {
+        let (text, tally) = simulate(seed, 150, lies);
+        Stored { name, text, tally }
+    };
+    vec![
+        stored("random-1", 11, Lies::Never),
+        stored("random-2", 12, Lies::Never),
+        stored("random-lies", 13, Lies::Always),
+    ]
+}
+
+/// Whether the surface breaks its rules.
+#[derive(Clone, Copy, Debug, PartialEq, Eq)]
+pub enum Lies {
+    Never,
+    /// After some starts.
+    Sometimes,
+    Always,
+}
+
+/// A random script of about so many calls.
+pub fn random(seed: u64, calls: usize) -> String {
+    let (text, _) = simulate(seed, calls, Lies::Sometimes);
+    text
+}
+
+/// A random script, and what the ledger said of its lists.
+pub fn simulate(seed: u64, calls: usize, lies: Lies) -> (String, Tally) {
+    let mut host = Host::new(seed, lies);
+    host.restart();
+    while host.bench.calls() < calls {
+        host.step();
+    }
+    host.bench.finish()
+}
+
+/// Blocks that the host likes: few, so that commands meet again.
+const FAVOURITES: [u32; 12] = [0, 1, 17, 18, 255, 256, 4927, 4928, 4960, 9000, 9726, 9727];
+
+const NO_BLOCKS: [u32; 8] = [
+    9728, 0x00_FFFE, 0x00_FFFF, 0x01_0011, 0x80_0000, 0xFF_0000, 0xFF_FFFD, 0xFF_FFFC,
+];
+
+struct Host {
+    bench: Bench,
+    rng: Rng,
+    policy: Policy,
+    lies: Lies,
+    /// The number of the last command, which is often that of the next.
+    last_number: u32,
+    /// What is still to be fed.
+    command: Vec<Vec<u8>>,
+    data: Vec<Vec<u8>>,
+}
+
+impl Host {
+    fn new(seed: u64, lies: Lies) -> Host {
+        let mut rng = Rng::new(seed);
+        let policy = Policy::new(rng.word());
+        Host {
+            bench: Bench::new(&format!("A random script, seed {seed}.")),
+            rng,
+            policy,
+            lies,
+            last_number: FAVOURITES[0],
+            command: vec![],
+            data: vec![],
+        }
+    }
+
+    /// A call in the plain spelling or another.
+    fn say(&mut self, lend: Option<usize>, call: Call) -> Answer {
+        let line = Line { lend, call };
+        let spelled = if self.rng.one_in(8) {
+            varied(&line, &mut self.rng)
+        } else {
+            show(&line)
+        };
+        self.bench.spelled(line, &spelled)
+    }
+
+    /// What the host or the surface does next.
+    fn step(&mut self) {
+        if self.rng.one_in(8) {
+            return self.stray();
+        }
+        match self.bench.drive.record.phase {
+            Phase::Idle => {
+                self.idle();
+            }
+            Phase::Offered(offer) => {
+                if offer == Offer::Command {
+                    self.plan();
+                }
+                let byte = if self.rng.one_in(25) {
+                    self.rng.other_byte(GO_ON)
+                } else {
+                    GO_ON
+                };
+                self.say(None, Call::Lower(byte));
+            }
+            Phase::Command => {
+                let piece = self.command.pop();
+                self.feed_or_raise(piece);
+            }
+            Phase::Data => {
+                let piece = self.data.pop();
+                self.feed_or_raise(piece);
+            }
+            _ => self.answer(),
+        }
+    }
+
+    fn feed_or_raise(&mut self, piece: Option<Vec<u8>>) {
+        match piece {
+            Some(bytes) => self.say(None, Call::Feed(bytes)),
+            None => self.say(None, Call::Raise),
+        };
+    }
+
+    /// A raise, or a restart when not much can be done any more.
+    fn idle(&mut self) {
+        let record = &self.bench.drive.record;
+        let dull = !record.known || record.latch || record.spares.len() == 32;
+        if dull && self.rng.one_in(4) || self.rng.one_in(150) {
+            self.restart();
+        } else {
+            self.say(None, Call::Raise);
+        }
+    }
+
+    /// The surface answers.
+    fn answer(&mut self) {
+        let access = self.bench.pending().expect("an access is awaited");
+        let sent = self.bench.sent();
+        let outcome = self.policy.answer(&self.bench.sectors, access, &sent);
+        self.bench.outcome(outcome);
+    }
+
+    /// Chooses the next command, its pieces in the order of their popping.
+    fn plan(&mut self) {
+        if self.rng.one_in(3) {
+            self.policy.turn();
+        }
+        let rng = &mut self.rng;
+        let number = match rng.below(20) {
+            0 => 0xFF_FFFE,
+            1 => 0xFF_FFFF,
+            2 => rng.pick(&NO_BLOCKS),
+            3 => rng.below(BLOCKS),
+            4..=10 => rng.pick(&FAVOURITES),
+            _ => self.last_number,
+        };
+        self.last_number = number;
+        let opcode = match rng.below(30) {
+            0 => 3 + rng.below(253) as u8,
+            1..=14 => 0,
+            15..=21 => 1,
+            _ => 2,
+        };
+        let [_, high, middle, low] = number.to_be_bytes();
+        let rereads = match rng.below(60) {
+            0 => 255,
+            1 => 30,
+            _ => rng.pick(&[0, 0, 0, 1, 1, 2, 3, 6]),
+        };
+        let threshold = rng.pick(&[0, 1, 1, 2, 3, 255]);
+        let mut command = vec![opcode, high, middle, low, rereads, threshold];
+        match rng.below(16) {
+            0 => command.truncate(rng.place(7)),
+            1 => command.extend([7; 5]),
+            2 if opcode != 0 => command.truncate(4),
+            _ => {}
+        }
+        self.command = pieces(rng, command);
+
+        let mut data = plain_bytes(rng);
+        match rng.below(16) {
+            0 => data.truncate(rng.place(533)),
+            1 => data.truncate(rng.place(20)),
+            2 => data.push(9),
+            3 => data.resize(533 + rng.place(600), 9),
+            _ => {}
+        }
+        self.data = pieces(rng, data);
+    }
+
+    /// A start, with the surface as it is or prepared in some way.
+    fn restart(&mut self) {
+        let held = self.bench.sectors.get(TABLE);
+        let whole = held.is_some_and(|held| image::read(&held).is_some());
+        match self.rng.below(16) {
+            0 => self.bench.sectors.spoil(TABLE),
+            1 => {
+                let mut bytes = self.table().bytes();
+                let place = self.rng.place(bytes.len());
+                bytes[place] = self.rng.other_byte(bytes[place]);
+                self.bench.sectors.hold(TABLE, &bytes);
+            }
+            2..=8 if whole => {}
+            _ => {
+                let bytes = self.table().bytes();
+                self.bench.sectors.hold(TABLE, &bytes);
+            }
+        }
+        self.policy.lies = match self.lies {
+            Lies::Never => false,
+            Lies::Sometimes => self.rng.one_in(4),
+            Lies::Always => true,
+        };
+        self.policy.mood = Mood::Calm;
+        if self.rng.one_in(4) {
+            self.policy.turn();
+        }
+        self.say(None, Call::Start);
+    }
+
+    /// A table in which favourite blocks are moved or bad.
+    fn table(&mut self) -> Draft {
+        let rng = &mut self.rng;
+        let spares = rng.pick(&[0, 0, 1, 3, 6, 29, 31, 32]);
+        let bads = rng.pick(&[0, 0, 1, 3, 6, 99, 100]);
+        let mut lists = vec![];
+        for count in [spares, bads] {
+            let mut list = vec![];
+            for number in distinct(rng, count, 0, BLOCKS) {
+                let favourite = rng.pick(&FAVOURITES);
+                let liked = rng.one_in(2) && !list.contains(&favourite);
+                let entry = if liked { favourite } else { number };
+                if !list.contains(&entry) {
+                    list.push(entry);
+                }
+            }
+            lists.push(list);
+        }
+        for spare in &mut lists[0] {
+            if rng.one_in(2) {
+                *spare = DEAD;
+            }
+        }
+        Draft::new(&lists[0], &lists[1])
+    }
+
+    /// A call that no sensible host makes now, or something besides.
+    fn stray(&mut self) {
+        let lend = self.rng.one_in(4).then(|| self.length());
+        match self.rng.below(60) {
+            0 => self.restart(),
+            1..=3 => {
+                self.say(lend, Call::Reset);
+            }
+            4..=12 => {
+                self.say(lend, Call::Image);
+            }
+            13..=16 => {
+                self.bench.skipped("");
+                self.bench.skipped("# aside");
+            }
+            17..=20 => {
+                self.say(lend, Call::Raise);
+            }
+            21..=23 => {
+                let byte = self.rng.pick(&[GO_ON, GO_ON, 0, 0x54, 0xAA]);
+                self.say(lend, Call::Lower(byte));
+            }
+            24..=28 => {
+                let bytes = self.few_bytes();
+                self.say(lend, Call::Feed(bytes));
+            }
+            29..=31 => {
+                // Lent a wrong length it is refused; others are in `restart`.
+                let length = self.length();
+                if length != BUFFER {
+                    self.say(Some(length), Call::Start);
+                }
+            }
+            _ => self.stray_answer(),
+        }
+    }
+
+    /// A length to lend, most often a wrong one.
+    fn length(&mut self) -> usize {
+        match self.rng.below(4) {
+            0 => self.rng.place(601),
+            _ => self.rng.pick(&[0, 531, 532, 533, 535, 536, 537, 600]),
+        }
+    }
+
+    fn few_bytes(&mut self) -> Vec<u8> {
+        let count = self.rng.pick(&[0, 0, 1, 2, 4, 6]);
+        vec![self.rng.byte(); count]
+    }
+
+    /// A surface answer that is refused, whatever is awaited.
+    fn stray_answer(&mut self) {
+        let answer = match self.rng.below(3) {
+            0 => 4 + self.rng.below(252) as u8,
+            _ => self.rng.below(4) as u8,
+        };
+        let count = self.rng.pick(&[0, 1, 531, 532, 533]);
+        let lend = self.rng.one_in(8).then(|| self.length());
+        let taken = match (self.bench.drive.record.phase.awaited(), answer) {
+            (Some(Awaited::Read), 0 | 1) => count == 532,
+            (Some(_), 0 | 2 | 3) => count == 0,
+            _ => false,
+        };
+        // What would be taken is for the policy to say.
+        if !taken || lend.is_some_and(|length| length != BUFFER) {
+            let bytes = vec![self.rng.byte(); count];
+            self.say(lend, Call::Surface(answer, bytes));
+        }
+    }
+}
+
+/// Bytes cut in pieces, the first one last.
+fn pieces(rng: &mut Rng, mut bytes: Vec<u8>) -> Vec<Vec<u8>> {
+    let mut pieces = vec![];
+    while bytes.len() > 1 && rng.one_in(4) {
+        let from = rng.place(bytes.len());
+        pieces.push(bytes.split_off(from));
+    }
+    pieces.push(bytes);
+    pieces
+}
+
+/// A line in a spelling that varies.
+fn varied(line: &Line, rng: &mut Rng) -> String {
+    let zeros = |rng: &mut Rng| "0".repeat(rng.place(4));
+    let call = match &line.call {
+        Call::Lower(byte) => format!("lower {byte:02X}"),
+        Call::Feed(bytes) => format!("feed{}", show_bytes_varied(bytes, rng)),
+        Call::Surface(answer, bytes) => format!(
+            "surface {}{answer}{}",
+            zeros(rng),
+            show_bytes_varied(bytes, rng)
+        ),
+        call => show(&Line {
+            lend: None,
+            call: call.clone(),
+        }),
+    };
+    match line.lend {
+        Some(length) => format!("lend {}{length} {call}", zeros(rng)),
+        None => call,
+    }
+}
+
+#[cfg(test)]
+mod tests;

@@ -1,0 +1,76 @@
+//! Random scripts against the ledger.
+
+use super::*;
+use crate::coverage;
+use crate::script;
+
+/// What random runs over some seeds add up to.
+fn together(seeds: std::ops::Range<u64>, calls: usize, lies: Lies) -> Tally {
+    let mut sum = Tally::default();
+    for seed in seeds {
+        let (_, tally) = simulate(seed, calls, lies);
+        sum.calls += tally.calls;
+        sum.lists += tally.lists;
+        sum.listed_calls += tally.listed_calls;
+        sum.good_reads += tally.good_reads;
+        sum.other_lists += tally.other_lists;
+        sum.disallowed += tally.disallowed;
+    }
+    sum
+}
+
+#[test]
+fn the_ledger_allows_every_list_of_a_surface_that_keeps_its_rules() {
+    // The bench itself fails when a list is not allowed.
+    let tally = together(100..106, 3000, Lies::Never);
+    assert!(tally.calls >= 18_000, "{tally:?}");
+    assert!(tally.listed_calls > 15_000, "{tally:?}");
+    assert!(tally.good_reads > 200, "{tally:?}");
+    assert_eq!(tally.other_lists, 0, "{tally:?}");
+}
+
+/// The same at length: `cargo test --release -- --ignored`.
+#[test]
+#[ignore = "takes a minute"]
+fn the_ledger_allows_many_more_lists() {
+    let tally = together(1000..1200, 20_000, Lies::Never);
+    println!("{tally:?}");
+    assert_eq!(tally.other_lists, 0, "{tally:?}");
+}
+
+#[test]
+fn the_ledger_finds_lies() {
+    let tally = together(200..204, 2000, Lies::Always);
+    assert!(tally.other_lists > 20, "{tally:?}");
+    assert!(tally.disallowed > 10, "{tally:?}");
+}
+
+#[test]
+fn random_scripts_are_scripts() {
+    for seed in [1, 2, 3] {
+        let text = random(seed, 500);
+        assert_eq!(text, random(seed, 500));
+        let transcript = script::transcript(&text);
+        let lines = transcript.lines().count();
+        assert!((500..520).contains(&lines), "{lines}");
+        assert!(!transcript.contains("error"));
+    }
+    assert_ne!(random(1, 500), random(2, 500));
+}
+
+#[test]
+fn random_scripts_reach_most_names() {
+    coverage::clear();
+    for seed in 300..303 {
+        simulate(seed, 3000, Lies::Sometimes);
+    }
+    assert_eq!(coverage::strangers(), [""; 0]);
+    // Refusals have very many names, so only the others are counted.
+    let others = |names: &[&'static str]| -> usize {
+        let other = |name: &&&str| !name.starts_with("refused");
+        names.iter().filter(other).count()
+    };
+    let all = others(coverage::NAMES);
+    let missing = others(&coverage::missing());
+    assert!(missing < all / 5, "{missing} of {all}");
+}

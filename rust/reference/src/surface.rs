@@ -1,0 +1,410 @@
+//! A simulated surface (document 01, "Surface"): sectors that hold bytes or are
+//! spoiled, and a random policy that answers accesses.
+//!
+//! The policy keeps the surface's rules unless it is told to lie.
+
+use std::collections::HashMap;
+use std::rc::Rc;
+
+use crate::geometry::{Sector, SECTOR_BYTES};
+use crate::rng::Rng;
+
+/// What a sector holds.
+pub type Bytes = Rc<[u8]>;
+
+/// All sectors.
+#[derive(Clone, Debug, Default)]
+pub struct Sectors {
+    /// Those that were changed; nothing stands for a spoiled one.
+    changed: HashMap<Sector, Option<Bytes>>,
+}
+
+impl Sectors {
+    /// Sectors of which each holds its own bytes: its number, then one byte
+    /// over and over.
+    pub fn new() -> Sectors {
+        Sectors::default()
+    }
+
+    /// What a sector holds, if it is not spoiled.
+    pub fn get(&self, sector: Sector) -> Option<Bytes> {
+        match self.changed.get(&sector) {
+            Some(held) => held.clone(),
+            None => Some(found(sector)),
+        }
+    }
+
+    /// Lets a sector hold these 532 bytes.
+    pub fn hold(&mut self, sector: Sector, bytes: &[u8]) {
+        assert_eq!(bytes.len(), SECTOR_BYTES, "a sector holds 532 bytes");
+        self.changed.insert(sector, Some(Rc::from(bytes)));
+    }
+
+    /// Spoils a sector.
+    pub fn spoil(&mut self, sector: Sector) {
+        self.changed.insert(sector, None);
+    }
+
+    /// Does to the sector of an access what its outcome says.
+    pub fn leave(&mut self, access: Access, left: &Left) {
+        match left {
+            Left::Alone => {}
+            Left::Held(bytes) => self.hold(access.sector(), bytes),
+            Left::Spoiled => self.spoil(access.sector()),
+        }
+    }
+}
+
+/// What a sector holds that was never changed.
+fn found(sector: Sector) -> Bytes {
+    let [.., high, low] = sector.number().to_be_bytes();
+    let mut bytes = [(sector.number() % 251) as u8; SECTOR_BYTES];
+    bytes[..2].copy_from_slice(&[high, low]);
+    Rc::from(bytes)
+}
+
+/// One access that the controller asks for. A store is a write of 4960.
+#[derive(Clone, Copy, Debug, PartialEq, Eq)]
+pub enum Access {
+    Read(Sector),
+    Write(Sector),
+}
+
+impl Access {
+    /// Its sector.
+    pub fn sector(self) -> Sector {
+        match self {
+            Access::Read(sector) | Access::Write(sector) => sector,
+        }
+    }
+}
+
+/// What an access does to its sector.
+#[derive(Clone, Debug, PartialEq, Eq)]
+pub enum Left {
+    Alone,
+    Held(Vec<u8>),
+    Spoiled,
+}
+
+/// How the surface answers an access.
+#[derive(Clone, Debug, PartialEq, Eq)]
+pub struct Outcome {
+    pub answer: u8,
+    pub bytes: Vec<u8>,
+    pub left: Left,
+}
+
+impl Outcome {
+    /// An answer that brings these bytes and leaves the sector alone.
+    pub fn new(answer: u8, bytes: Vec<u8>) -> Outcome {
+        let left = Left::Alone;
+        Outcome {
+            answer,
+            bytes,
+            left,
+        }
+    }
+
+    /// A write that is done.
+    pub fn done(left: Left) -> Outcome {
+        Outcome {
+            answer: 0,
+            bytes: vec![],
+            left,
+        }
+    }
+}
+
+/// Whether an outcome keeps the surface's rules; a write was sent these bytes.
+pub fn obeys(sectors: &Sectors, access: Access, sent: &[u8], outcome: &Outcome) -> bool {
+    let Outcome {
+        answer,
+        bytes,
+        left,
+    } = outcome;
+    match (access, answer) {
+        (Access::Read(sector), 0) => {
+            let held = sectors.get(sector);
+            *left == Left::Alone && held.is_some_and(|held| held[..] == bytes[..])
+        }
+        (Access::Read(_), 1) => *left == Left::Alone && bytes.len() == SECTOR_BYTES,
+        (Access::Write(_), 0) => {
+            let kept = match left {
+                Left::Alone => false,
+                Left::Held(held) => held[..] == sent[..],
+                Left::Spoiled => true,
+            };
+            kept && bytes.is_empty()
+        }
+        (_, 2 | 3) => *left == Left::Alone && bytes.is_empty(),
+        _ => false,
+    }
+}
+
+/// How the surface behaves for a while.
+#[derive(Clone, Copy, Debug, PartialEq, Eq)]
+pub enum Mood {
+    /// Nearly all accesses are good.
+    Calm,
+    /// Half of the reads are.
+    Rough,
+    /// All writes are done, but no read is good.
+    Blind,
+    /// Reads are good, but no write is done.
+    Stuck,
+    /// Some sectors are as in `Blind`, the others as in `Calm`.
+    Worn,
+    /// No access is good.
+    Dead,
+}
+
+/// Those that come more often stand there more often.
+const MOODS: [Mood; 13] = [
+    Mood::Calm,
+    Mood::Calm,
+    Mood::Calm,
+    Mood::Rough,
+    Mood::Rough,
+    Mood::Rough,
+    Mood::Worn,
+    Mood::Worn,
+    Mood::Worn,
+    Mood::Worn,
+    Mood::Stuck,
+    Mood::Blind,
+    Mood::Dead,
+];
+
+/// The policy that answers for the sectors.
+#[derive(Clone, Debug)]
+pub struct Policy {
+    pub mood: Mood,
+    /// The rules are broken now and then.
+    pub lies: bool,
+    rng: Rng,
+}
+
+impl Policy {
+    /// A calm one that keeps the rules.
+    pub fn new(seed: u64) -> Policy {
+        Policy {
+            mood: Mood::Calm,
+            lies: false,
+            rng: Rng::new(seed),
+        }
+    }
+
+    /// Another mood.
+    pub fn turn(&mut self) {
+        self.mood = self.rng.pick(&MOODS);
+    }
+
+    /// How an access is answered. Nothing changes before `Sectors::leave`.
+    pub fn answer(&mut self, sectors: &Sectors, access: Access, sent: &[u8]) -> Outcome {
+        if self.lies && self.rng.one_in(6) {
+            return self.lie(access, sent);
+        }
+        match access {
+            Access::Read(sector) => self.read(sectors, sector),
+            Access::Write(sector) => self.write(sector, sent),
+        }
+    }
+
+    /// Out of 100: good and CRC for a read, done for a write. Of the rest one
+    /// in 30 is a no settle, the others are timeouts.
+    fn chances(&self, sector: Sector) -> (u32, u32, u32) {
+        let weak = sector.number().is_multiple_of(3);
+        match self.mood {
+            Mood::Calm => (96, 2, 98),
+            Mood::Rough => (50, 35, 75),
+            Mood::Blind => (0, 60, 100),
+            Mood::Stuck => (70, 20, 0),
+            Mood::Worn if weak => (0, 70, 80),
+            Mood::Worn => (97, 2, 98),
+            Mood::Dead => (0, 50, 0),
+        }
+    }
+
+    fn read(&mut self, sectors: &Sectors, sector: Sector) -> Outcome {
+        let (good, crc, _) = self.chances(sector);
+        let draw = self.rng.below(100);
+        match sectors.get(sector) {
+            Some(held) if draw < good => Outcome::new(0, held.to_vec()),
+            held if draw < good + crc => Outcome::new(1, self.garbled(held)),
+            _ => self.no_answer(),
+        }
+    }
+
+    fn write(&mut self, sector: Sector, sent: &[u8]) -> Outcome {
+        let (_, _, done) = self.chances(sector);
+        if self.rng.below(100) >= done {
+            return self.no_answer();
+        }
+        let calm = matches!(self.mood, Mood::Calm);
+        let spoils = self.rng.one_in(if calm { 40 } else { 6 });
+        Outcome::done(match spoils {
+            true => Left::Spoiled,
+            false => Left::Held(sent.to_vec()),
+        })
+    }
+
+    fn no_answer(&mut self) -> Outcome {
+        let answer = if self.rng.one_in(30) { 3 } else { 2 };
+        Outcome::new(answer, vec![])
+    }
+
+    /// What a CRC error brings: any bytes.
+    fn garbled(&mut self, held: Option<Bytes>) -> Vec<u8> {
+        match held {
+            Some(held) if self.rng.one_in(2) => {
+                let mut bytes = held.to_vec();
+                // Sometimes it is the right bytes after all.
+                if !self.rng.one_in(4) {
+                    let place = self.rng.place(SECTOR_BYTES);
+                    bytes[place] = self.rng.other_byte(bytes[place]);
+                }
+                bytes
+            }
+            _ => plain_bytes(&mut self.rng),
+        }
+    }
+
+    /// An outcome that breaks the rules, of a form that is not refused.
+    fn lie(&mut self, access: Access, sent: &[u8]) -> Outcome {
+        let other = plain_bytes(&mut self.rng);
+        let mut outcome = match access {
+            Access::Read(_) => match self.rng.below(3) {
+                0 => Outcome::new(self.rng.pick(&[2, 3]), vec![]),
+                1 => Outcome::new(1, other.clone()),
+                _ => return Outcome::new(0, other),
+            },
+            Access::Write(_) => {
+                let answer = self.rng.pick(&[0, 0, 2, 3]);
+                Outcome::new(answer, vec![])
+            }
+        };
+        outcome.left = match self.rng.below(3) {
+            0 if outcome.answer != 0 => Left::Spoiled,
+            1 if outcome.answer != 0 && !sent.is_empty() => Left::Held(sent.to_vec()),
+            2 if outcome.answer == 0 => Left::Alone,
+            _ => Left::Held(other),
+        };
+        outcome
+    }
+}
+
+/// Bytes for a sector that are written in few words: up to three runs.
+pub fn plain_bytes(rng: &mut Rng) -> Vec<u8> {
+    let mut bytes = vec![rng.byte(); SECTOR_BYTES];
+    for _ in 0..rng.below(3) {
+        let from = rng.place(SECTOR_BYTES);
+        let byte = rng.byte();
+        bytes[from..].fill(byte);
+    }
+    bytes
+}
+
+#[cfg(test)]
+mod tests {
+    use super::*;
+    use std::collections::HashSet;
+
+    fn sector(number: u32) -> Sector {
+        Sector::new(number).expect("a sector")
+    }
+
+    #[test]
+    fn every_sector_has_its_own_bytes() {
+        let sectors = Sectors::new();
+        let all: HashSet<Bytes> = (0..9792)
+            .filter_map(|number| sectors.get(sector(number)))
+            .collect();
+        assert_eq!(all.len(), 9792);
+    }
+
+    #[test]
+    fn rules_of_a_read() {
+        let mut sectors = Sectors::new();
+        let here = sector(17);
+        let held = sectors.get(here).expect("held").to_vec();
+        let read = |sectors: &Sectors, answer, bytes: &[u8]| {
+            let outcome = Outcome::new(answer, bytes.to_vec());
+            obeys(sectors, Access::Read(here), &[], &outcome)
+        };
+        assert!(read(&sectors, 0, &held));
+        assert!(!read(&sectors, 0, &[7; 532]));
+        assert!(read(&sectors, 1, &held));
+        assert!(read(&sectors, 1, &[7; 532]));
+        assert!(!read(&sectors, 1, &[]));
+        assert!(read(&sectors, 2, &[]));
+        assert!(!read(&sectors, 2, &held));
+        assert!(read(&sectors, 3, &[]));
+        assert!(!read(&sectors, 4, &[]));
+        let changing = Outcome {
+            left: Left::Spoiled,
+            ..Outcome::new(2, vec![])
+        };
+        assert!(!obeys(&sectors, Access::Read(here), &[], &changing));
+        sectors.spoil(here);
+        assert!(!read(&sectors, 0, &held));
+        assert!(read(&sectors, 1, &held));
+    }
+
+    #[test]
+    fn rules_of_a_write() {
+        let sectors = Sectors::new();
+        let sent = vec![7; 532];
+        let write = |answer, left: Left| {
+            let outcome = Outcome {
+                answer,
+                bytes: vec![],
+                left,
+            };
+            obeys(&sectors, Access::Write(sector(17)), &sent, &outcome)
+        };
+        assert!(write(0, Left::Held(sent.clone())));
+        assert!(write(0, Left::Spoiled));
+        assert!(!write(0, Left::Alone));
+        assert!(!write(0, Left::Held(vec![8; 532])));
+        assert!(!write(1, Left::Alone));
+        for answer in [2, 3] {
+            assert!(write(answer, Left::Alone));
+            assert!(!write(answer, Left::Spoiled));
+            assert!(!write(answer, Left::Held(sent.clone())));
+        }
+    }
+
+    /// How many of a thousand outcomes keep the rules.
+    fn obedient(lies: bool) -> usize {
+        let mut sectors = Sectors::new();
+        let mut policy = Policy::new(11);
+        policy.lies = lies;
+        let mut rng = Rng::new(12);
+        let mut count = 0;
+        for _ in 0..1000 {
+            if rng.one_in(20) {
+                policy.turn();
+            }
+            let here = sector(rng.below(10));
+            let sent = plain_bytes(&mut rng);
+            let access = match rng.below(2) {
+                0 => Access::Read(here),
+                _ => Access::Write(here),
+            };
+            let outcome = policy.answer(&sectors, access, &sent);
+            if obeys(&sectors, access, &sent, &outcome) {
+                count += 1;
+            }
+            sectors.leave(access, &outcome.left);
+        }
+        count
+    }
+
+    #[test]
+    fn the_policy_keeps_the_rules_unless_it_lies() {
+        assert_eq!(obedient(false), 1000);
+        let count = obedient(true);
+        assert!((800..950).contains(&count), "{count}");
+    }
+}
