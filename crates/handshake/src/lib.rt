@@ -15,7 +15,7 @@ use drive::Refusal;
 use records::Turn;
 
 // An offer stands, with n command bytes kept and no data byte fed.
-fn offer(l: Line, o: Offer, n: usize) -> Turn
+pub fn offer(l: Line, o: Offer, n: usize) -> Turn
     ensures { λ x. ⌜ x ≡ turnOf (say (opened l o n) (answer.Offer o) []) ⌝ }
 {
     let m = l.marks;

@@ -4,10 +4,22 @@ ghost use mathlib.Core.Bool.{true, cond, _||_};
 ghost use Prim.Native.Nat.{_+_, _-_};
 ghost use lib.Dec.{ltb, eqb};
 ghost use Rattle.drive.specs.Records.{retryOk};
+ghost use Rattle.drive.specs.Results.{clean};
 ghost use Rattle.drive.specs.Retries.{met, isReread, passed, failed, goesOnReading, afterRead};
 use drive::Outcome;
 use drive::Retry;
 use drive::Seen;
+
+// Nothing met yet.
+pub fn nothing_met() -> Seen
+    ensures { λ r. ⌜ r ≡ clean ⌝ }
+{
+    Seen {
+        errors: 0,
+        crc: false,
+        timeout: false,
+    }
+}
 
 // What an access answered a adds to what was met.
 pub fn with_answer(a: u8, s: Seen) -> Seen

@@ -1,0 +1,13 @@
+-- `accesses::due` meets its contract.
+use borrow.Author.Tests.{le-leb, lt-leb}
+use Rattle.accesses.proofs.due.Statement.{statement}
+use Rattle.accesses.proofs.due.Tie as tie
+
+returns : tie.Need-returns
+returns c = rw (le-leb _ _ (c .if1 .taken))
+
+returns-2 : tie.Need-returns-2
+returns-2 c = rw (lt-leb _ _ (c .if1 .left))
+
+pub due-spec : {M : Type 1} → statement M
+due-spec = tie.close (tie.spec returns returns-2)

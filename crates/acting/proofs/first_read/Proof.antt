@@ -1,0 +1,37 @@
+-- `acting::first_read` meets its contract.
+use borrow.Author.Needs.{needs}
+use Rattle.acting.proofs.first_read.Statement.{statement}
+use Rattle.acting.proofs.first_read.Tie as tie
+
+sector-of-requires : tie.Need-sector-of-requires
+sector-of-requires c κs = search needs
+
+nothing-met-requires : tie.Need-nothing-met-requires
+nothing-met-requires c κs = search needs
+
+array-read-t10 : tie.Need-array-read-t10
+array-read-t10 c = search needs
+
+array-read-t13 : tie.Need-array-read-t13
+array-read-t13 c = search needs
+
+in-phase-requires : tie.Need-in-phase-requires
+in-phase-requires c κs = search needs
+
+said-requires : tie.Need-said-requires
+said-requires c κs = search needs
+
+returns : tie.Need-returns
+returns c = rw (c .said .ensures, c .before .in-phase .ensures, c .before .before .nothing-met .ensures, c .before .before .before .sector-of .ensures)
+
+pub first-read-spec : {M : Type 1} → statement M
+first-read-spec =
+    tie.close
+    (tie.spec
+    sector-of-requires
+    nothing-met-requires
+    array-read-t10
+    array-read-t13
+    in-phase-requires
+    said-requires
+    returns)
