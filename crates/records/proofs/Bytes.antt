@@ -1,10 +1,9 @@
 -- The status bytes fit, and a run of four laid over a buffer's start leaves its data part.
 use mathlib.Core.Path.{_≡_, refl}
 use mathlib.Core.Bool.{Bool, true, false, cond}
-use mathlib.Core.List.{List, [], _∷_, _++_}
+use mathlib.Core.List.{List, _++_}
 use Prim.Native.Nat.{ℕ, _+_, _≤_}
 use native.Mathlib.Omega.{arith}
-use lib.ListN.{length}
 use Rattle.buffer.specs.Runs.{over}
 use Rattle.drive.specs.declared.Ending.{Ending}
 use Rattle.drive.specs.declared.Ending.the-variants as ending

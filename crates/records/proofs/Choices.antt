@@ -1,5 +1,5 @@
 -- Calls that leave the buffer: they say the same whatever it holds, case by case of a choice.
-use mathlib.Core.Path.{_≡_, refl}
+use mathlib.Core.Path.{_≡_}
 use mathlib.Core.Bool.{Bool, true, false, cond}
 use mathlib.Core.List.{List}
 use Prim.Native.Nat.{ℕ}

@@ -19,6 +19,7 @@ use drive::Refusal;
 use drive::Retry;
 use drive::Seen;
 use drive::Trial;
+use table::NextSpare;
 
 // What the code of a line hands back: the next line, the answer, and what becomes of the table.
 pub struct Turn {
@@ -36,14 +37,14 @@ pub fn retry_ok(r: Retry) -> bool
         & (r.spent <= 89)
 }
 
-// Whether this is the sector of spare n, and there is one.
+// Whether this is the sector of the next unused spare, with n listed.
 fn next_unused(n: usize, s: u32) -> bool
     ensures { λ x. ⌜ x ≡ (ltb n 32 && eqb s (4928 + n)) ⌝ }
 {
-    if n < 32 {
-        return s == 4928 + n as u32;
+    match table::next_spare(n) {
+        NextSpare::At(at) => s == at.0,
+        NextSpare::None => false,
     }
-    false
 }
 
 // With n spares listed.

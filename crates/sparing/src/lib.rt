@@ -1,11 +1,11 @@
 // The move routine of document 01: attempts on the present sector, then on each next unused spare.
 ghost use mathlib.Core.Path.{_≡_};
-ghost use mathlib.Core.Bool.{cond};
+ghost use mathlib.Core.Bool.{true, cond};
 ghost use mathlib.Core.List.{[]};
-ghost use Prim.Native.Nat.{_+_, _≤_, _<_};
+ghost use Prim.Native.Nat.{_+_, _≤_};
 ghost use lib.Dec.{eqb};
 ghost use lib.ListN.{length};
-ghost use Rattle.drive.specs.Sparing.{attempt, onSpare, once, nextAttempt, missed, brokenOff, verified, tried, checked};
+ghost use Rattle.drive.specs.Sparing.{attempt, once, nextAttempt, missed, brokenOff, verified, tried, checked};
 ghost use Rattle.records.specs.Turns.{turnOf, lent};
 use drive::Answer;
 use drive::Change;
@@ -15,7 +15,9 @@ use drive::Marks;
 use drive::Phase;
 use drive::Seen;
 use drive::Trial;
+use geometry::Sector;
 use records::Turn;
+use table::NextSpare;
 
 // An attempt's write is asked for.
 pub fn begin(l: Line, m: Marks, c: Change, r: Trial) -> Turn
@@ -29,16 +31,14 @@ pub fn begin(l: Line, m: Marks, c: Change, r: Trial) -> Turn
     }
 }
 
-// The first attempt on spare n.
-fn first_on(n: usize, r: Trial, s: Seen) -> Trial
-    requires { ⌜ n < 32 ⌝ }
-    ensures { λ x. ⌜ x ≡ onSpare n r s ⌝ }
+// The first attempt on a spare.
+fn first_on(at: Sector, r: Trial, s: Seen) -> Trial
+    ensures { λ x. ⌜ x ≡ record { block = r .block; sector = at; spare = true; attempts = 1; seen = s } ⌝ }
 {
     let block = r.block;
-    let sector = geometry::spare(n);
     Trial {
         block: block,
-        sector: sector,
+        sector: at,
         spare: true,
         attempts: 1,
         seen: s,
@@ -66,11 +66,10 @@ fn next_on(n: usize, l: Line, m: Marks, c: Change, r: Trial, s: Seen, buf: &mut 
     requires { ⌜ length (now buf) ≡ 536 ⌝ }
     ensures { λ x. ⌜ (x ≡ turnOf (nextAttempt n l m c r s (now (buf .entry)))) × (now (buf .exit) ≡ nextAttempt n l m c r s (now (buf .entry)) .bytes) ⌝ }
 {
-    if n < 32 {
-        let next = first_on(n, r, s);
-        return begin(l, m, c, next);
+    match table::next_spare(n) {
+        NextSpare::At(at) => begin(l, m, c, first_on(at, r, s)),
+        NextSpare::None => records::finished(l, m, c, Ending::NoSpare, s, buf),
     }
-    records::finished(l, m, c, Ending::NoSpare, s, buf)
 }
 
 // An attempt failed, with n spares listed.

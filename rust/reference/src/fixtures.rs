@@ -4,7 +4,7 @@ use std::fs;
 use std::io;
 use std::path::Path;
 
-use crate::{images, script, scripts};
+use crate::{damaged, images, script, scripts};
 
 /// A file below the root, and what it should hold.
 #[derive(Clone, Debug, PartialEq, Eq)]
@@ -25,6 +25,7 @@ impl Fixture {
 /// All files.
 pub fn all() -> Vec<Fixture> {
     let mut fixtures = of_images();
+    fixtures.push(of_damaged());
     fixtures.extend(of_scripts());
     fixtures
 }
@@ -37,6 +38,11 @@ pub fn of_images() -> Vec<Fixture> {
         Fixture::new("crates/images/stdin", input),
         Fixture::new("crates/images/stdout", transcript),
     ]
+}
+
+/// What the calls do with damaged records.
+pub fn of_damaged() -> Fixture {
+    Fixture::new("crates/damaged/stdout", damaged::transcript())
 }
 
 /// The stored scripts, each with its transcript.
@@ -160,7 +166,8 @@ mod tests {
     fn names_are_known() {
         let paths: Vec<String> = all().into_iter().map(|fixture| fixture.path).collect();
         assert_eq!(paths[..2], ["crates/images/stdin", "crates/images/stdout"]);
-        for (pair, stored) in paths[2..].chunks(2).zip(scripts::all()) {
+        assert_eq!(paths[2], "crates/damaged/stdout");
+        for (pair, stored) in paths[3..].chunks(2).zip(scripts::all()) {
             let path = format!("tests/scripts/{}", stored.name);
             assert_eq!(pair, [format!("{path}.script"), format!("{path}.expected")]);
         }

@@ -6,7 +6,8 @@ use std::io::{self, BufWriter, Read, Write};
 use std::path::Path;
 use std::process::ExitCode;
 
-use reference::{fixtures, images, script, scripts};
+use reference::compare::{self, Plan, Verdict};
+use reference::{coverage, damaged, fixtures, images, script, scripts};
 
 const USAGE: &str = "\
 usage: reference images-input              print the input of image cases
@@ -16,6 +17,11 @@ usage: reference images-input              print the input of image cases
        reference script-run                read a call script, print the transcript
        reference random-script SEED CALLS  print a random script of about so many calls
        reference coverage                  say what the stored scripts meet
+       reference damaged                   print what the calls do with damaged records
+       reference compare PROGRAM SEEDS CALLS [FIRST]
+                                           run random scripts on a program, which is a
+                                           command and its arguments in one word, and
+                                           compare its transcripts with those made here
        reference regenerate ROOT           write the kept files below ROOT
        reference check ROOT                say whether the kept files are current
 ";
@@ -50,6 +56,20 @@ fn run(arguments: &[OsString]) -> Option<io::Result<ExitCode>> {
             print(&scripts::random(seed, calls))
         }
         (&"coverage", []) => print(&scripts::coverage_report()),
+        (&"damaged", []) => print(&damaged::transcript()),
+        (&"compare", [program, seeds, calls, first @ ..]) => {
+            let first = match first {
+                [] => 1,
+                [first] => (*first)?.parse().ok()?,
+                _ => return None,
+            };
+            let plan = Plan {
+                first,
+                seeds: (*seeds)?.parse().ok()?,
+                calls: (*calls)?.parse().ok()?,
+            };
+            return Some(compare((*program)?, plan));
+        }
         (&"regenerate", [_]) => regenerate(Path::new(&arguments[1])),
         (&"check", [_]) => return Some(Ok(check(Path::new(&arguments[1])))),
         _ => return None,
@@ -84,6 +104,23 @@ fn script_input(name: &str) -> io::Result<()> {
 fn script_run() -> io::Result<()> {
     let stdout = BufWriter::new(io::stdout().lock());
     script::run(io::stdin().lock(), stdout)
+}
+
+fn compare(program: &str, plan: Plan) -> io::Result<ExitCode> {
+    let words: Vec<&str> = program.split_whitespace().collect();
+    match compare::compare(&words, plan)? {
+        Verdict::Agreed(agreed) => {
+            print(&format!("{}{agreed}\n", coverage::report()))?;
+            Ok(ExitCode::SUCCESS)
+        }
+        Verdict::Differ(seed, difference) => {
+            let again = format!("random-script {seed} {}", plan.calls);
+            print(&format!(
+                "seed {seed}: {difference}\n  script:    {again}\n"
+            ))?;
+            Ok(ExitCode::FAILURE)
+        }
+    }
 }
 
 fn regenerate(root: &Path) -> io::Result<()> {

@@ -16,7 +16,7 @@ mod ways;
 mod week;
 
 pub use bench::{Bench, Tally};
-pub use host::{random, simulate, Lies};
+pub use host::random;
 
 use crate::coverage;
 use crate::script;

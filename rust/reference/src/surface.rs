@@ -157,10 +157,14 @@ pub enum Mood {
     Worn,
     /// No access is good.
     Dead,
+    /// One read in seven is good, and one write in three is done.
+    Faint,
+    /// All writes are done, and all reads are CRC errors.
+    Garbled,
 }
 
-/// Those that come more often stand there more often.
-const MOODS: [Mood; 13] = [
+/// Moods to turn to. Those that come more often stand there more often.
+pub const MOODS: [Mood; 13] = [
     Mood::Calm,
     Mood::Calm,
     Mood::Calm,
@@ -182,6 +186,11 @@ pub struct Policy {
     pub mood: Mood,
     /// The rules are broken now and then.
     pub lies: bool,
+    /// What it turns to.
+    pub moods: &'static [Mood],
+    /// An access that gets no answer is a no settle once in so many times, else
+    /// a timeout.
+    pub no_settle: u32,
     rng: Rng,
 }
 
@@ -191,13 +200,15 @@ impl Policy {
         Policy {
             mood: Mood::Calm,
             lies: false,
+            moods: &MOODS,
+            no_settle: 30,
             rng: Rng::new(seed),
         }
     }
 
     /// Another mood.
     pub fn turn(&mut self) {
-        self.mood = self.rng.pick(&MOODS);
+        self.mood = self.rng.pick(self.moods);
     }
 
     /// How an access is answered. Nothing changes before `Sectors::leave`.
@@ -211,8 +222,8 @@ impl Policy {
         }
     }
 
-    /// Out of 100: good and CRC for a read, done for a write. Of the rest one
-    /// in 30 is a no settle, the others are timeouts.
+    /// Out of 100: good and CRC for a read, done for a write. The rest get no
+    /// answer.
     fn chances(&self, sector: Sector) -> (u32, u32, u32) {
         let weak = sector.number().is_multiple_of(3);
         match self.mood {
@@ -223,6 +234,8 @@ impl Policy {
             Mood::Worn if weak => (0, 70, 80),
             Mood::Worn => (97, 2, 98),
             Mood::Dead => (0, 50, 0),
+            Mood::Faint => (14, 60, 33),
+            Mood::Garbled => (0, 100, 100),
         }
     }
 
@@ -250,7 +263,11 @@ impl Policy {
     }
 
     fn no_answer(&mut self) -> Outcome {
-        let answer = if self.rng.one_in(30) { 3 } else { 2 };
+        let answer = if self.rng.one_in(self.no_settle) {
+            3
+        } else {
+            2
+        };
         Outcome::new(answer, vec![])
     }
 

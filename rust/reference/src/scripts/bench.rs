@@ -26,6 +26,8 @@ pub struct Tally {
     /// Lists on which it did not, and those of them that the ledger disallowed.
     pub other_lists: usize,
     pub disallowed: usize,
+    /// The most accesses that a command asked for.
+    pub most_accesses: usize,
 }
 
 /// The bench.
@@ -216,6 +218,7 @@ impl Bench {
         if matches!(answer, Answer::Read(_) | Answer::Write(_)) && *call != Call::Start {
             self.accesses += 1;
             assert!(self.accesses <= MOST_ACCESSES, "a command goes on and on");
+            self.tally.most_accesses = self.tally.most_accesses.max(self.accesses);
         }
     }
 

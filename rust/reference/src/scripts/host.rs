@@ -1,9 +1,13 @@
 //! A simulated host over the simulated surface: random scripts, and the ledger's
 //! word on them.
 
+mod temper;
+
+use temper::{Temper, EVEN};
+
 use super::bench::{Bench, Tally};
 use super::Stored;
-use crate::controller::{Answer, Awaited, Offer, Phase, BUFFER, GO_ON};
+use crate::controller::{Answer, Awaited, Offer, Phase, Stage, BUFFER, GO_ON};
 use crate::drive::Call;
 use crate::geometry::{BLOCKS, TABLE};
 use crate::image::{self, DEAD};
@@ -15,7 +19,7 @@ use crate::text::show_bytes_varied;
 
 pub fn all() -> Vec<Stored> {
     let stored = |name, seed, lies| {
-        let (text, tally) = simulate(seed, 150, lies);
+        let (text, tally) = simulate(seed, 150, lies, &EVEN);
         Stored { name, text, tally }
     };
     vec![
@@ -27,28 +31,31 @@ pub fn all() -> Vec<Stored> {
 
 /// Whether the surface breaks its rules.
 #[derive(Clone, Copy, Debug, PartialEq, Eq)]
-pub enum Lies {
+enum Lies {
     Never,
     /// After some starts.
     Sometimes,
     Always,
 }
 
-/// A random script of about so many calls.
+/// A random script of about so many calls, in the temper of its seed.
 pub fn random(seed: u64, calls: usize) -> String {
-    let (text, _) = simulate(seed, calls, Lies::Sometimes);
+    let (text, _) = simulate(seed, calls, Lies::Sometimes, Temper::of(seed));
     text
 }
 
 /// A random script, and what the ledger said of its lists.
-pub fn simulate(seed: u64, calls: usize, lies: Lies) -> (String, Tally) {
-    let mut host = Host::new(seed, lies);
+fn simulate(seed: u64, calls: usize, lies: Lies, temper: &'static Temper) -> (String, Tally) {
+    let mut host = Host::new(seed, lies, temper);
     host.restart();
     while host.bench.calls() < calls {
         host.step();
     }
     host.bench.finish()
 }
+
+/// The last read that a read command may make: all before cost 89.
+const LAST: Stage = Stage::Further { spent: 89 };
 
 /// Blocks that the host likes: few, so that commands meet again.
 const FAVOURITES: [u32; 12] = [0, 1, 17, 18, 255, 256, 4927, 4928, 4960, 9000, 9726, 9727];
@@ -62,6 +69,9 @@ struct Host {
     rng: Rng,
     policy: Policy,
     lies: Lies,
+    temper: &'static Temper,
+    /// The command is to go on as long as it can.
+    longest: bool,
     /// The number of the last command, which is often that of the next.
     last_number: u32,
     /// What is still to be fed.
@@ -70,14 +80,18 @@ struct Host {
 }
 
 impl Host {
-    fn new(seed: u64, lies: Lies) -> Host {
+    fn new(seed: u64, lies: Lies, temper: &'static Temper) -> Host {
         let mut rng = Rng::new(seed);
-        let policy = Policy::new(rng.word());
+        let mut policy = Policy::new(rng.word());
+        policy.moods = temper.moods;
+        policy.no_settle = temper.no_settle;
         Host {
             bench: Bench::new(&format!("A random script, seed {seed}.")),
             rng,
             policy,
             lies,
+            temper,
+            longest: false,
             last_number: FAVOURITES[0],
             command: vec![],
             data: vec![],
@@ -97,7 +111,7 @@ impl Host {
 
     /// What the host or the surface does next.
     fn step(&mut self) {
-        if self.rng.one_in(8) {
+        if self.rng.one_in(self.temper.stray) {
             return self.stray();
         }
         match self.bench.drive.record.phase {
@@ -108,7 +122,7 @@ impl Host {
                 if offer == Offer::Command {
                     self.plan();
                 }
-                let byte = if self.rng.one_in(25) {
+                let byte = if self.rng.one_in(self.temper.wrong) {
                     self.rng.other_byte(GO_ON)
                 } else {
                     GO_ON
@@ -138,7 +152,12 @@ impl Host {
     fn idle(&mut self) {
         let record = &self.bench.drive.record;
         let dull = !record.known || record.latch || record.spares.len() == 32;
-        if dull && self.rng.one_in(4) || self.rng.one_in(150) {
+        let Temper {
+            restart,
+            dull_restart,
+            ..
+        } = *self.temper;
+        if dull && self.rng.one_in(dull_restart) || self.rng.one_in(restart) {
             self.restart();
         } else {
             self.say(None, Call::Raise);
@@ -149,25 +168,29 @@ impl Host {
     fn answer(&mut self) {
         let access = self.bench.pending().expect("an access is awaited");
         let sent = self.bench.sent();
+        if self.longest {
+            self.policy.mood = match self.bench.drive.record.phase {
+                Phase::Reading(_, reading) if reading.stage == LAST => Mood::Calm,
+                _ => Mood::Garbled,
+            };
+        }
         let outcome = self.policy.answer(&self.bench.sectors, access, &sent);
         self.bench.outcome(outcome);
     }
 
     /// Chooses the next command, its pieces in the order of their popping.
     fn plan(&mut self) {
-        if self.rng.one_in(3) {
+        if self.rng.one_in(self.temper.turn) || self.longest {
             self.policy.turn();
         }
+        let long = |n| self.rng.one_in(n);
+        self.longest = self.temper.longest.is_some_and(long);
+        if self.longest {
+            return self.plan_longest();
+        }
+        self.last_number = self.number();
+        let number = self.last_number;
         let rng = &mut self.rng;
-        let number = match rng.below(20) {
-            0 => 0xFF_FFFE,
-            1 => 0xFF_FFFF,
-            2 => rng.pick(&NO_BLOCKS),
-            3 => rng.below(BLOCKS),
-            4..=10 => rng.pick(&FAVOURITES),
-            _ => self.last_number,
-        };
-        self.last_number = number;
         let opcode = match rng.below(30) {
             0 => 3 + rng.below(253) as u8,
             1..=14 => 0,
@@ -175,7 +198,7 @@ impl Host {
             _ => 2,
         };
         let [_, high, middle, low] = number.to_be_bytes();
-        let rereads = match rng.below(60) {
+        let rereads = match rng.below(self.temper.most_rereads) {
             0 => 255,
             1 => 30,
             _ => rng.pick(&[0, 0, 0, 1, 1, 2, 3, 6]),
@@ -201,6 +224,30 @@ impl Host {
         self.data = pieces(rng, data);
     }
 
+    /// The number of the next command.
+    fn number(&mut self) -> u32 {
+        let rng = &mut self.rng;
+        if self.temper.roams && rng.one_in(2) {
+            return rng.below(BLOCKS);
+        }
+        match rng.below(20) {
+            0 => 0xFF_FFFE,
+            1 => 0xFF_FFFF,
+            2 => rng.pick(&NO_BLOCKS),
+            3 => rng.below(BLOCKS),
+            4..=10 => rng.pick(&FAVOURITES),
+            _ => self.last_number,
+        }
+    }
+
+    /// The next command is a read with R 255, of which the last read alone is
+    /// good and no attempt verifies.
+    fn plan_longest(&mut self) {
+        let [_, high, middle, low] = self.rng.below(BLOCKS).to_be_bytes();
+        let threshold = self.rng.pick(&[0, 1, 255]);
+        self.command = vec![vec![0, high, middle, low, 255, threshold]];
+    }
+
     /// A start, with the surface as it is or prepared in some way.
     fn restart(&mut self) {
         let held = self.bench.sectors.get(TABLE);
@@ -224,8 +271,9 @@ impl Host {
             Lies::Sometimes => self.rng.one_in(4),
             Lies::Always => true,
         };
+        self.longest = false;
         self.policy.mood = Mood::Calm;
-        if self.rng.one_in(4) {
+        if self.rng.one_in(self.temper.bad_start) {
             self.policy.turn();
         }
         self.say(None, Call::Start);

@@ -1,14 +1,16 @@
 //! Random scripts against the ledger.
 
+use super::temper::{FAILING, HOSTILE, PATIENT, WORN};
 use super::*;
 use crate::coverage;
 use crate::script;
+use crate::scripts::bench::MOST_ACCESSES;
 
 /// What random runs over some seeds add up to.
 fn together(seeds: std::ops::Range<u64>, calls: usize, lies: Lies) -> Tally {
     let mut sum = Tally::default();
     for seed in seeds {
-        let (_, tally) = simulate(seed, calls, lies);
+        let (_, tally) = simulate(seed, calls, lies, &EVEN);
         sum.calls += tally.calls;
         sum.lists += tally.lists;
         sum.listed_calls += tally.listed_calls;
@@ -47,7 +49,7 @@ fn the_ledger_finds_lies() {
 
 #[test]
 fn random_scripts_are_scripts() {
-    for seed in [1, 2, 3] {
+    for seed in 1..=5 {
         let text = random(seed, 500);
         assert_eq!(text, random(seed, 500));
         let transcript = script::transcript(&text);
@@ -62,7 +64,7 @@ fn random_scripts_are_scripts() {
 fn random_scripts_reach_most_names() {
     coverage::clear();
     for seed in 300..303 {
-        simulate(seed, 3000, Lies::Sometimes);
+        simulate(seed, 3000, Lies::Sometimes, &EVEN);
     }
     assert_eq!(coverage::strangers(), [""; 0]);
     // Refusals have very many names, so only the others are counted.
@@ -73,4 +75,45 @@ fn random_scripts_reach_most_names() {
     let all = others(coverage::NAMES);
     let missing = others(&coverage::missing());
     assert!(missing < all / 5, "{missing} of {all}");
+}
+
+/// How often a name was met in a script of this temper, and its tally.
+fn tempered(temper: &'static Temper, name: &str) -> (u64, Tally) {
+    coverage::clear();
+    let (_, tally) = simulate(400, 4000, Lies::Never, temper);
+    (coverage::count(name), tally)
+}
+
+#[test]
+fn the_ledger_allows_the_lists_of_every_temper() {
+    for temper in temper::ALL {
+        let (_, tally) = tempered(temper, "");
+        assert!(tally.lists > 0 && tally.other_lists == 0, "{temper:?}");
+    }
+}
+
+#[test]
+fn tempers_differ() {
+    let often = |temper, name| tempered(temper, name).0;
+    let starts = "start.from.idle";
+    assert!(4 * often(&PATIENT, starts) < often(&EVEN, starts));
+    let wrong = "lower.wrong.01";
+    assert!(often(&HOSTILE, wrong) > 2 * often(&EVEN, wrong));
+    let spent = "start.ten-reads-spent";
+    assert!(often(&FAILING, spent) > 2 * often(&EVEN, spent));
+    assert!(often(&WORN, "finish.errors.255") > 3);
+}
+
+#[test]
+fn a_worn_drive_makes_the_longest_read() {
+    let (_, tally) = simulate(401, 10_000, Lies::Never, &WORN);
+    assert_eq!(tally.most_accesses, MOST_ACCESSES);
+}
+
+#[test]
+fn neighbouring_seeds_have_different_tempers() {
+    for seed in 0..20 {
+        let [one, next] = [seed, seed + 1].map(Temper::of);
+        assert!(!std::ptr::eq(one, next), "{seed}");
+    }
 }

@@ -1,0 +1,53 @@
+-- `damaged::tried::fill` is safe and ends.
+use Prim.Native.Nat.{_≤_, _-_}
+use mathlib.Core.Path.{_≡_}
+use lib.ListN.{length, length-set}
+use borrow.Author.Needs.{needs}
+use native.Mathlib.Omega.{arith}
+use Rattle.damaged.proofs.tried.fill.Statement.{statement}
+use Rattle.damaged.proofs.tried.fill.Tie as tie
+
+abbrev Inv-loop : tie.InvT-loop
+Inv-loop lent₀ i₀ lent i = (i ≤ length lent₀) × (length lent ≡ length lent₀)
+
+abbrev μ-loop : tie.MeasureT-loop
+μ-loop lent₀ i₀ lent i = length lent₀ - i
+
+loop-holds : tie.Need-loop-holds Inv-loop μ-loop
+loop-holds c = search needs
+
+mark-requires : tie.Need-mark-requires Inv-loop μ-loop
+mark-requires c κs = search needs
+
+slice-write-lent : tie.Need-slice-write-lent Inv-loop μ-loop
+slice-write-lent c = search needs
+
+add-i : tie.Need-add-i Inv-loop μ-loop
+add-i c = search needs
+
+loop-less : tie.Need-loop-less Inv-loop μ-loop
+loop-less c = search needs
+
+loop-again : tie.Need-loop-again Inv-loop μ-loop
+loop-again c = (omega arith, simp length-set (c .before .before .loop .inv .1))
+
+same-length : tie.Need-same-length Inv-loop μ-loop
+same-length c = search needs
+
+returns : tie.Need-returns Inv-loop μ-loop
+returns c = search needs
+
+pub fill-spec : {M : Type 1} → statement M
+fill-spec =
+    tie.close
+    (tie.spec
+    Inv-loop
+    μ-loop
+    loop-holds
+    mark-requires
+    slice-write-lent
+    add-i
+    loop-less
+    loop-again
+    same-length
+    returns)
