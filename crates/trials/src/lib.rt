@@ -1,16 +1,19 @@
 // What the seven calls do with one record: whether each refuses it with code 1, and whether a call
 // that does so leaves the record and the lent bytes as they were.
-use crate::same::same_drive;
+mod print;
+
 use controller::Controller;
 use drive::Answer;
 use drive::Drive;
 use drive::Refusal;
 use drive::Step;
+pub use print::put_results;
+use specimens::same_drive;
 
 // One call. changed is said of a refusal alone.
-pub struct Tried {
-    pub refused: bool,
-    pub changed: bool,
+struct Tried {
+    refused: bool,
+    changed: bool,
 }
 
 // All seven: raise, lower, feed, surface, reset, image, start.

@@ -1,11 +1,11 @@
--- `damaged::tried::fill` is safe and ends.
+-- `trials::fill` is safe and ends.
 use Prim.Native.Nat.{_≤_, _-_}
 use mathlib.Core.Path.{_≡_}
 use lib.ListN.{length, length-set}
 use borrow.Author.Needs.{needs}
 use native.Mathlib.Omega.{arith}
-use Rattle.damaged.proofs.tried.fill.Statement.{statement}
-use Rattle.damaged.proofs.tried.fill.Tie as tie
+use Rattle.trials.proofs.fill.Statement.{statement}
+use Rattle.trials.proofs.fill.Tie as tie
 
 abbrev Inv-loop : tie.InvT-loop
 Inv-loop lent₀ i₀ lent i = (i ≤ length lent₀) × (length lent ≡ length lent₀)

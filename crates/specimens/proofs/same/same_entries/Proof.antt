@@ -1,10 +1,10 @@
--- `damaged::same::same_entries` is safe and ends.
+-- `specimens::same::same_entries` is safe and ends.
 use Prim.Native.Nat.{_≤_, _-_}
 use mathlib.Core.Path.{_≡_}
 use lib.ListN.{length}
 use borrow.Author.Needs.{needs}
-use Rattle.damaged.proofs.same.same_entries.Statement.{statement}
-use Rattle.damaged.proofs.same.same_entries.Tie as tie
+use Rattle.specimens.proofs.same.same_entries.Statement.{statement}
+use Rattle.specimens.proofs.same.same_entries.Tie as tie
 
 abbrev Inv-loop : tie.InvT-loop
 Inv-loop a b ok₀ i₀ ok i = (i ≤ length a) × (length a ≡ length b)

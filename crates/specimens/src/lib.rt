@@ -1,5 +1,8 @@
-// Records to try the calls on. What a clause does not speak of is sound in all of them, and no field
-// that a call could clear is clear.
+// Records to try the calls on, their names in print, and whether two are the same. What a clause does
+// not speak of is sound in all of them, and no field that a call could clear is clear.
+pub mod names;
+mod same;
+
 use drive::Drive;
 use drive::Line;
 use drive::Marks;
@@ -9,7 +12,18 @@ use drive::Seen;
 use drive::Trial;
 use geometry::Block;
 use geometry::Sector;
+pub use same::same_drive;
 use table::Table;
+
+// An access that is awaited. An attempt of the move routine is tried and then checked.
+pub enum Kind {
+    Starting,
+    Storing,
+    Reading,
+    Writing,
+    Trying,
+    Checking,
+}
 
 // The block in place k of the spare list: 100 on.
 pub fn spare_block(k: u16) -> u16 {
@@ -158,4 +172,24 @@ pub fn trial(b: u16, s: u32, spare: bool, attempts: u8) -> Trial {
 
 pub fn reading(r: Retry) -> Drive {
     in_phase(3, true, Phase::Reading(r))
+}
+
+// The access, for a block and a sector where it has them.
+pub fn phase(k: Kind, b: u16, s: u32) -> Phase {
+    match k {
+        Kind::Starting => Phase::Starting(1),
+        Kind::Storing => Phase::Storing,
+        Kind::Reading => Phase::Reading(first_read(b, s)),
+        Kind::Writing => Phase::Writing(Sector(s)),
+        Kind::Trying => Phase::Trying(trial(b, s, false, 1)),
+        Kind::Checking => Phase::Checking(trial(b, s, false, 1)),
+    }
+}
+
+// The write or the read of an attempt.
+pub fn half(k: Kind, t: Trial) -> Phase {
+    if let Kind::Checking = k {
+        return Phase::Checking(t);
+    }
+    Phase::Trying(t)
 }

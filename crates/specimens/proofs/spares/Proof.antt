@@ -1,10 +1,10 @@
--- `damaged::made::spares` is safe and ends.
+-- `specimens::spares` is safe and ends.
 use Prim.Native.Nat.{_≤_, _-_}
 use mathlib.Core.Path.{_≡_}
 use lib.ListN.{length}
 use borrow.Author.Needs.{needs}
-use Rattle.damaged.proofs.made.spares.Statement.{statement}
-use Rattle.damaged.proofs.made.spares.Tie as tie
+use Rattle.specimens.proofs.spares.Statement.{statement}
+use Rattle.specimens.proofs.spares.Tie as tie
 
 abbrev Inv-loop : tie.InvT-loop
 Inv-loop list₀ i₀ list i = (i ≤ 32) × (length list ≡ 32)

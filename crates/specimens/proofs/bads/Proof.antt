@@ -1,10 +1,10 @@
--- `damaged::made::bads` is safe and ends.
+-- `specimens::bads` is safe and ends.
 use Prim.Native.Nat.{_≤_, _-_}
 use mathlib.Core.Path.{_≡_}
 use lib.ListN.{length}
 use borrow.Author.Needs.{needs}
-use Rattle.damaged.proofs.made.bads.Statement.{statement}
-use Rattle.damaged.proofs.made.bads.Tie as tie
+use Rattle.specimens.proofs.bads.Statement.{statement}
+use Rattle.specimens.proofs.bads.Tie as tie
 
 abbrev Inv-loop : tie.InvT-loop
 Inv-loop list₀ i₀ list i = (i ≤ 100) × (length list ≡ 100)

@@ -1,9 +1,9 @@
--- `replay::call_cut` is safe.
+-- `player::call_cut` is safe.
 use native.Mathlib.Omega.{arith}
 use lib.ListN.{length-take}
 use borrow.Author.Needs.{needs}
-use Rattle.replay.proofs.call_cut.Statement.{statement}
-use Rattle.replay.proofs.call_cut.Tie as tie
+use Rattle.player.proofs.call_cut.Statement.{statement}
+use Rattle.player.proofs.call_cut.Tie as tie
 
 slice-relend-prefix-call : tie.Need-slice-relend-prefix-call
 slice-relend-prefix-call c = search needs
