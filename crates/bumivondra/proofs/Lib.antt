@@ -1,0 +1,4 @@
+pub mod Thin
+pub mod ThinByte
+pub mod ThinBytes
+pub mod ThinByteBytes
