@@ -1,10 +1,11 @@
--- One law for every thin call of this shape.
---     fn thin(drive: &mut Drive, buf: &mut [u8], x0: u8, x1: &[u8]) -> Answer { let d = *drive; let step = d.callee(buf, x0, x1); *drive = step.drive; step.answer }
+-- One law for every thin call of this shape, over any record, any answer and any step of the two.
+--     fn thin(drive: &mut R, buf: &mut [u8], x0: u8, x1: &[u8]) -> N { let d = *drive; let step = callee(d, buf, x0, x1); *drive = step.drive; step.answer }
 --     thin f           its code, where f is the callee's key
 --     Callee           the callee's contract: Req is what it and the thin call require, and Says what it ensures. Tells is what the thin call ensures
 --     meets            the thin call's code meets its contract where the callee meets its own, and Says gives Tells
 --     thinly           the same at the thin call's routine: what a proof cites.        equally      the same where nothing is required and the contracts are equations
 -- The record's borrow is opened at the first statement, and closed after the last at the record that came back. The buffer's borrow is passed on for good, at its own lifetime. What the other parameters own is passed on too.
+-- DT, NT and Step are the record, the answer and the step as Rattle declared them. The law never looks inside them.
 -- Assumes `Given`.
 use mathlib.Core.Path.{_≡_, refl, ap}
 use Prim.Native.Nat.{ℕ, _<_, _^_}
