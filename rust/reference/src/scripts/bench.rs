@@ -212,7 +212,7 @@ impl Bench {
             Answer::Store => Some(Access::Write(TABLE)),
             _ => None,
         };
-        if matches!(call, Call::Lower(_)) {
+        if matches!(call, Call::Lower(_) | Call::Start) {
             self.accesses = 0;
         }
         if matches!(answer, Answer::Read(_) | Answer::Write(_)) && *call != Call::Start {
