@@ -1,0 +1,228 @@
+/* A board's whole loop over the library. What a board has at its pins is a stub here: the bus is a short
+ * script of events, the disk is an array of sectors with a few planned faults. One line is printed for
+ * each event, with the accesses that it led to.
+ *
+ *   gcc -std=c11 -Wall -Wextra -Werror -O2 -Iinclude examples/board_loop.c \
+ *       target/staticlib/libbumivondra.a -o target/board_loop
+ *   target/board_loop | diff - examples/board_loop.expected
+ */
+#include <stdio.h>
+#include <stdlib.h>
+#include <string.h>
+
+#include "bumivondra.h"
+
+/* THE DISK */
+
+static uint8_t disk[BV_SECTORS][BV_SECTOR_BYTES];
+
+/* A planned fault: the accesses of one kind to one sector that it covers, and their answer. */
+struct fault {
+    uint32_t sector;
+    int write;
+    int skip;  /* accesses that go well before it begins */
+    int times; /* accesses that it covers then, or -1 for all */
+    uint8_t answer;
+};
+
+static struct fault faults[] = {
+    {BV_TABLE_SECTOR, 0, 0, 1, BV_SURFACE_CRC},     /* the start has to read the table twice */
+    {17, 0, 1, -1, BV_SURFACE_CRC},                 /* sector 17 is read once, then never again */
+    {BV_FIRST_SPARE, 1, 0, 2, BV_SURFACE_TIMEOUT},  /* spare 0 cannot be written */
+    {BV_TABLE_SECTOR, 1, 0, 1, BV_SURFACE_TIMEOUT}, /* the first store does not reach the disk */
+    {300, 0, 0, 1, BV_SURFACE_TIMEOUT},             /* sector 300 needs a reread */
+};
+
+/* The planned answer to this access, BV_SURFACE_GOOD if none is. */
+static uint8_t planned(uint32_t sector, int write)
+{
+    for (size_t i = 0; i < sizeof faults / sizeof faults[0]; i++) {
+        struct fault *fault = &faults[i];
+        if (fault->sector != sector || fault->write != write)
+            continue;
+        if (fault->skip > 0) {
+            fault->skip--;
+        } else if (fault->times != 0) {
+            fault->times -= fault->times > 0;
+            return fault->answer;
+        }
+    }
+    return BV_SURFACE_GOOD;
+}
+
+/* Reads a sector into 532 bytes. A board seeks, waits for the sector and checks its CRC here. */
+static uint8_t read_sector(uint32_t sector, uint8_t *bytes)
+{
+    uint8_t answer = planned(sector, 0);
+    if (answer == BV_SURFACE_GOOD || answer == BV_SURFACE_CRC)
+        memcpy(bytes, disk[sector], BV_SECTOR_BYTES);
+    if (answer == BV_SURFACE_CRC)
+        bytes[100] ^= 0x40;
+    return answer;
+}
+
+/* Writes 532 bytes to a sector. */
+static uint8_t write_sector(uint32_t sector, const uint8_t *bytes)
+{
+    uint8_t answer = planned(sector, 1);
+    if (answer == BV_SURFACE_GOOD)
+        memcpy(disk[sector], bytes, BV_SECTOR_BYTES);
+    return answer;
+}
+
+/* Formats the disk: the image of an empty table in its sector. */
+static void format_disk(void)
+{
+    static const uint8_t image[] = "PROFILE      \0\0\0\x03\x90\0\x26\0\x02\x14\x20\0\0\xFF\xFF\xFF\xFF\xFF\xFF";
+    memcpy(disk[BV_TABLE_SECTOR], image, sizeof image - 1);
+}
+
+/* THE BUS */
+
+enum event_kind { POWER, RAISE, LOWER, COMMAND, DATA, RESET, END };
+
+struct event {
+    enum event_kind kind;
+    uint8_t byte;                      /* LOWER */
+    uint8_t command[BV_COMMAND_BYTES]; /* COMMAND */
+    const char *data;                  /* DATA: a text, zeros to 532 bytes */
+};
+
+#define GO {LOWER, BV_GO_ON, {0}, NULL}
+#define UP {RAISE, 0, {0}, NULL}
+#define SAY(op, number, r, t) {COMMAND, 0, {op, 0, (number) >> 8, (number) & 0xFF, r, t}, NULL}
+#define SEND(text) {DATA, 0, {0}, text}
+
+static const struct event bus[] = {
+    /* Power on. */
+    {POWER, 0, {0}, NULL},
+    /* Write block 17, and read it back: R 10, T 3. */
+    UP, GO, SAY(BV_OP_WRITE, 17, 0, 0), UP, GO, SEND("SUMMER SALE, part 1"), UP, GO,
+    UP, GO, SAY(BV_OP_READ, 17, 10, 3), UP, GO,
+    /* A read that needs a reread stays below its threshold. */
+    UP, GO, SAY(BV_OP_READ, 300, 2, 1), UP, GO,
+    /* Write/verify block 17: its sector fails now, and so does spare 0; spare 1 takes it. */
+    UP, GO, SAY(BV_OP_WRITE_VERIFY, 17, 0, 0), UP, GO, SEND("SUMMER SALE, part 2"), UP, GO,
+    /* The raise stores the table first; the store fails, so the next raise stores it again. */
+    UP, GO, SAY(BV_OP_READ, 17, 10, 3), UP, GO,
+    UP, GO, SAY(BV_OP_READ, 17, 10, 3), UP, GO,
+    /* A host that breaks off, and a reset. */
+    UP, {LOWER, 0xAA, {0}, NULL}, {RESET, 0, {0}, NULL},
+    /* The power fails and comes back: the table on the disk knows where block 17 is. */
+    {POWER, 0, {0}, NULL},
+    UP, GO, SAY(BV_OP_READ, 17, 10, 3), UP, GO,
+    {END, 0, {0}, NULL},
+};
+
+/* The next event. A board waits for its pins here. */
+static const struct event *next_event(void)
+{
+    static size_t place;
+    return &bus[place++];
+}
+
+/* THE LOOP */
+
+static struct bv_drive drive;
+static uint8_t buffer[BV_BUFFER_BYTES];
+
+/* Does the access that a reply asks for, and tells the library how it went. */
+static struct bv_reply access_disk(struct bv_reply reply)
+{
+    static const char *const words[] = {"good", "crc", "timeout", "no settle"};
+    uint8_t bytes[BV_SECTOR_BYTES];
+    uint8_t answer;
+    size_t brought = 0;
+    switch (reply.kind) {
+    case BV_READ:
+        answer = read_sector(reply.value, bytes);
+        if (answer == BV_SURFACE_GOOD || answer == BV_SURFACE_CRC)
+            brought = BV_SECTOR_BYTES;
+        printf(" read %u %s,", reply.value, words[answer]);
+        break;
+    case BV_WRITE:
+        answer = write_sector(reply.value, buffer + BV_DATA);
+        printf(" write %u %s,", reply.value, words[answer]);
+        break;
+    default: /* BV_STORE: the image is made in bytes of its own, since the buffer is the host's */
+        if (bv_image(&drive, bytes, sizeof bytes).kind != BV_WAIT)
+            abort();
+        answer = write_sector(BV_TABLE_SECTOR, bytes);
+        printf(" store %s,", words[answer]);
+        break;
+    }
+    return bv_surface(&drive, buffer, sizeof buffer, answer, bytes, brought);
+}
+
+/* Tells the library of an event. */
+static struct bv_reply call(const struct event *event)
+{
+    uint8_t bytes[BV_SECTOR_BYTES] = {0};
+    switch (event->kind) {
+    case POWER:
+        printf("power:");
+        return bv_start(&drive, buffer, sizeof buffer);
+    case RAISE:
+        printf("raise:");
+        return bv_raise(&drive, buffer, sizeof buffer);
+    case LOWER:
+        printf("lower %02x:", event->byte);
+        return bv_lower(&drive, buffer, sizeof buffer, event->byte);
+    case COMMAND:
+        printf("command");
+        for (size_t i = 0; i < BV_COMMAND_BYTES; i++)
+            printf(" %02x", event->command[i]);
+        printf(":");
+        return bv_feed(&drive, buffer, sizeof buffer, event->command, BV_COMMAND_BYTES);
+    case DATA:
+        printf("data \"%s\":", event->data);
+        memcpy(bytes, event->data, strlen(event->data));
+        return bv_feed(&drive, buffer, sizeof buffer, bytes, sizeof bytes);
+    default:
+        printf("reset:");
+        return bv_reset(&drive, buffer, sizeof buffer);
+    }
+}
+
+/* Shows the host what became of its event. */
+static void show(struct bv_reply reply)
+{
+    switch (reply.kind) {
+    case BV_WAIT:
+        printf(" wait\n");
+        break;
+    case BV_OFFER:
+        printf(" offer %02x\n", reply.value);
+        break;
+    case BV_FINISHED:
+        printf(" finished, status %02x %02x %02x %02x, data \"%.30s\"\n", buffer[0], buffer[1], buffer[2],
+               buffer[3], (const char *)buffer + BV_DATA);
+        break;
+    default:
+        printf(" refused %u\n", reply.value);
+        break;
+    }
+}
+
+int main(void)
+{
+    format_disk();
+    for (;;) {
+        const struct event *event = next_event();
+        if (event->kind == END)
+            break;
+        struct bv_reply reply = call(event);
+        while (reply.kind == BV_READ || reply.kind == BV_WRITE || reply.kind == BV_STORE)
+            reply = access_disk(reply);
+        show(reply);
+    }
+    printf("spares %zu:", drive.nspares);
+    for (size_t k = 0; k < drive.nspares; k++) {
+        if (drive.spares[k] == BV_DEAD_SPARE)
+            printf(" dead");
+        else
+            printf(" %u", drive.spares[k]);
+    }
+    printf("\n");
+    return 0;
+}

@@ -1,0 +1,263 @@
+/* The ProFile controller as a library for a board: seven calls over a record and a buffer that the
+ * board holds. Link with libbumivondra.a, which needs nothing but memcpy and memset.
+ *
+ * The board turns what happens on the host's bus and at the heads into calls, and does what each call
+ * answers. docs/BOARD.md has the loop, examples/board_loop.c is one. Usable from C11 and from C++11.
+ *
+ * WHAT IS PROMISED. For every record, every buffer and every argument a call answers as document 01
+ * defines it, changes the record and the buffer as it defines, reads and writes nothing else, and ends.
+ * No call waits, allocates, or keeps a pointer.
+ *
+ * WHAT THE CALLER OWES, and no call can test:
+ *   - `drive` points to a struct bv_drive, aligned as C aligns it;
+ *   - `buf` points to at least `len` bytes that may be written, `bytes` to at least `n` bytes;
+ *   - the record, the buffer and the bytes do not overlap;
+ *   - no pointer is null, not even where its count is 0 (pass the buffer's, say; nothing is read);
+ *   - one call at a time on one record.
+ * For the promise that each good read gives the right bytes it also hands record and buffer on
+ * unaltered from call to call, after a bv_start that was not refused. */
+#ifndef BUMIVONDRA_H
+#define BUMIVONDRA_H
+
+#include <stddef.h>
+#include <stdint.h>
+
+#ifdef __cplusplus
+extern "C" {
+#define BV_STATIC_ASSERT(test, text) static_assert(test, text)
+#else
+#define BV_STATIC_ASSERT(test, text) _Static_assert(test, text)
+#endif
+
+/* SIZES */
+
+enum {
+    BV_BUFFER_BYTES = 536,  /* the lent buffer: status and data */
+    BV_STATUS_BYTES = 4,    /* its first four bytes are the status, set at each finish */
+    BV_SECTOR_BYTES = 532,  /* the rest is the data part; a sector and a table image have as many */
+    BV_DATA = 4,            /* where the data part begins */
+    BV_COMMAND_BYTES = 6,   /* command bytes that are kept */
+    BV_BLOCKS = 9728,       /* blocks are 0..9727 */
+    BV_SECTORS = 9792,      /* sectors are 0..9791: cylinder * 64 + head * 16 + place on the track */
+    BV_FIRST_SPARE = 4928,  /* spare k (0..31) is sector 4928 + k */
+    BV_SPARES = 32,         /* the most entries of the spare list */
+    BV_BADS = 100,          /* the most entries of the bad list */
+    BV_TABLE_SECTOR = 4960, /* the sector of the table */
+    BV_DEAD_SPARE = 0xFFFE, /* the entry of a dead spare in bv_drive.spares */
+    BV_MOST_ACCESSES = 478  /* a command is over after at most so many accesses */
+};
+
+/* ON THE HOST'S BUS */
+
+/* The first command byte. Three bytes of the number follow, high first, and for a read the retry count
+ * and the threshold. */
+enum { BV_OP_READ = 0x00, BV_OP_WRITE = 0x01, BV_OP_WRITE_VERIFY = 0x02 };
+
+/* Numbers of no block with a meaning: the buffer itself, and the table (reads only). */
+enum { BV_NUMBER_BUFFER = 0xFFFFFE, BV_NUMBER_TABLE = 0xFFFFFF };
+
+/* The byte with which the host goes on; any other breaks off. */
+enum { BV_GO_ON = 0x55 };
+
+/* Response bytes: the value of BV_OFFER, and the detail of BV_AT_OFFER. */
+enum {
+    BV_OFFER_COMMAND = 0x01, /* to take a command */
+    BV_OFFER_READ = 0x02,    /* to read a block */
+    BV_OFFER_WRITE = 0x03,   /* to take a write's data */
+    BV_OFFER_VERIFY = 0x04,  /* to take a write/verify's data */
+    BV_OFFER_ACT = 0x06      /* to do the write */
+};
+
+/* The status bytes, buf[0] to buf[3] (document 01 counts them from 1). */
+enum {
+    /* buf[0] */
+    BV_S1_BROKEN_OFF = 0x80, /* a wrong handshake byte; all else is 0 */
+    BV_S1_ABORTED = 0x40,    /* more than 532 data bytes, or a write with no table */
+    BV_S1_NO_SETTLE = 0x10,  /* no settle, now or since the last start */
+    BV_S1_CRC = 0x08,        /* the command met a CRC error */
+    BV_S1_TIMEOUT = 0x04,    /* the command met a timeout */
+    BV_S1_FAILED = 0x01,     /* the command failed */
+    /* buf[1] */
+    BV_S2_NO_SPARE = 0x40,   /* no spare is unused */
+    BV_S2_BADS_FULL = 0x10,  /* the bad list holds 100 */
+    BV_S2_NO_TABLE = 0x08,   /* the start found no table */
+    BV_S2_MOVED = 0x04,      /* the block was moved to a spare */
+    /* buf[2] */
+    BV_S3_FRESH = 0x80,      /* the first finish after a start or a reset */
+    BV_S3_NUMBER = 0x40      /* no such block */
+    /* buf[3] is E: how many of a read's R rereads failed. */
+};
+
+/* AT THE HEADS: how an access went, the answer of bv_surface. */
+enum {
+    BV_SURFACE_GOOD = 0,     /* a read brings 532 bytes; a write, or the store, is done */
+    BV_SURFACE_CRC = 1,      /* reads only: 532 bytes came, with a CRC error */
+    BV_SURFACE_TIMEOUT = 2,  /* the sector was not found; brings no bytes */
+    BV_SURFACE_NO_SETTLE = 3 /* the heads did not settle; brings no bytes */
+};
+
+/* WHAT A CALL ANSWERS */
+
+struct bv_reply {
+    uint32_t kind;  /* BV_WAIT to BV_REFUSED */
+    uint32_t value; /* see there; 0 where nothing is said */
+};
+
+enum {
+    BV_WAIT = 0,     /* nothing is to be done until the next event */
+    BV_OFFER = 1,    /* put the response byte `value` on the bus and answer the handshake */
+    BV_READ = 2,     /* read sector `value`, then call bv_surface with what came */
+    BV_WRITE = 3,    /* write the data part, buf + BV_DATA, to sector `value`, then call bv_surface */
+    BV_STORE = 4,    /* write bv_image's 532 bytes to BV_TABLE_SECTOR, then call bv_surface */
+    BV_FINISHED = 5, /* a command is over: the status bytes stand in the buffer */
+    BV_REFUSED = 6   /* the call is refused with code `value`; record and buffer are as they were */
+};
+
+/* Why a call is refused. They are tested in this order; of them bv_start knows BV_BAD_BUFFER alone. */
+enum {
+    BV_BAD_RECORD = 1, /* the record is none that a call returned */
+    BV_BAD_BUFFER = 2, /* len is not BV_BUFFER_BYTES (bv_image: BV_SECTOR_BYTES) */
+    BV_BAD_PLACE = 3,  /* out of place: an answer is awaited, or none is; the line is so already; no bytes
+                          are taken now; bv_image with no table */
+    BV_BAD_ANSWER = 4, /* bv_surface: an answer above 3, or BV_SURFACE_CRC to a write */
+    BV_BAD_BYTES = 5   /* bv_surface: n is not 532 with a read's answer 0 or 1, or not 0 otherwise */
+};
+
+/* THE RECORD. The board keeps it and need not look into it. */
+
+/* Where the drive stands: bv_stage.kind. */
+enum {
+    BV_AT_IDLE = 0,          /* CMD is low, nothing is under way */
+    BV_AT_OFFER = 1,         /* CMD is high, an offer stands; detail is its response byte */
+    BV_AT_COMMAND = 2,       /* command bytes are taken */
+    BV_AT_DATA = 3,          /* data bytes are taken */
+    BV_AT_START = 4,         /* the start's read is awaited; detail is how many were asked for */
+    BV_AT_STORE = 5,         /* the store is awaited */
+    BV_AT_READ = 6,          /* a read command's read is awaited */
+    BV_AT_WRITE = 7,         /* a plain write is awaited */
+    BV_AT_ATTEMPT_WRITE = 8, /* an attempt's write is awaited; detail is the attempts begun here */
+    BV_AT_ATTEMPT_READ = 9   /* an attempt's read is awaited; detail as before */
+};
+
+/* Every field that a kind does not have is 0, and a flag is 0 or 1. */
+struct bv_stage {
+    uint32_t sector;   /* the pending sector: kinds 6 to 9 */
+    uint16_t block;    /* the pending block: kinds 6, 8, 9 */
+    uint8_t kind;      /* BV_AT_IDLE to BV_AT_ATTEMPT_READ */
+    uint8_t detail;    /* kinds 1, 4, 8, 9 */
+    uint8_t first;     /* flag, kind 6: the first read is awaited */
+    uint8_t left;      /* kind 6: rereads left */
+    uint8_t spent;     /* kind 6: what further reads have cost */
+    uint8_t threshold; /* kind 6: T */
+    uint8_t good;      /* flag, kind 6: good bytes stand in the data part */
+    uint8_t spare;     /* flag, kinds 8, 9: on the next unused spare */
+    uint8_t errors;    /* kinds 6, 8, 9: E */
+    uint8_t crc;       /* flag, kinds 6, 8, 9: a CRC error was met */
+    uint8_t timeout;   /* flag, kinds 6, 8, 9: a timeout was met */
+};
+
+/* Each 0 or 1. */
+struct bv_flags {
+    uint8_t known;   /* there is a table */
+    uint8_t changed; /* it has changes that are not stored */
+    uint8_t latch;   /* no settle since the last start: writes are shut off */
+    uint8_t fresh;   /* no command finished since the last start or reset */
+};
+
+struct bv_drive {
+    uint16_t spares[BV_SPARES]; /* entry k: the block moved to spare k, or BV_DEAD_SPARE */
+    uint16_t bads[BV_BADS];     /* the bad blocks in their order */
+    size_t nspares, nbads;      /* entries in use; the places behind them mean nothing */
+    size_t count;               /* command bytes kept */
+    size_t fed;                 /* data bytes counted, up to 533 */
+    struct bv_stage stage;
+    struct bv_flags flags;
+    uint8_t command[BV_COMMAND_BYTES];
+};
+
+BV_STATIC_ASSERT(sizeof(size_t) == 8, "the library is one of 64 bits");
+BV_STATIC_ASSERT(sizeof(struct bv_reply) == 8, "bv_reply");
+BV_STATIC_ASSERT(offsetof(struct bv_reply, kind) == 0, "bv_reply.kind");
+BV_STATIC_ASSERT(offsetof(struct bv_reply, value) == 4, "bv_reply.value");
+BV_STATIC_ASSERT(sizeof(struct bv_stage) == 20, "bv_stage");
+BV_STATIC_ASSERT(offsetof(struct bv_stage, sector) == 0, "bv_stage.sector");
+BV_STATIC_ASSERT(offsetof(struct bv_stage, block) == 4, "bv_stage.block");
+BV_STATIC_ASSERT(offsetof(struct bv_stage, kind) == 6, "bv_stage.kind");
+BV_STATIC_ASSERT(offsetof(struct bv_stage, detail) == 7, "bv_stage.detail");
+BV_STATIC_ASSERT(offsetof(struct bv_stage, first) == 8, "bv_stage.first");
+BV_STATIC_ASSERT(offsetof(struct bv_stage, left) == 9, "bv_stage.left");
+BV_STATIC_ASSERT(offsetof(struct bv_stage, spent) == 10, "bv_stage.spent");
+BV_STATIC_ASSERT(offsetof(struct bv_stage, threshold) == 11, "bv_stage.threshold");
+BV_STATIC_ASSERT(offsetof(struct bv_stage, good) == 12, "bv_stage.good");
+BV_STATIC_ASSERT(offsetof(struct bv_stage, spare) == 13, "bv_stage.spare");
+BV_STATIC_ASSERT(offsetof(struct bv_stage, errors) == 14, "bv_stage.errors");
+BV_STATIC_ASSERT(offsetof(struct bv_stage, crc) == 15, "bv_stage.crc");
+BV_STATIC_ASSERT(offsetof(struct bv_stage, timeout) == 16, "bv_stage.timeout");
+BV_STATIC_ASSERT(sizeof(struct bv_flags) == 4, "bv_flags");
+BV_STATIC_ASSERT(offsetof(struct bv_flags, known) == 0, "bv_flags.known");
+BV_STATIC_ASSERT(offsetof(struct bv_flags, changed) == 1, "bv_flags.changed");
+BV_STATIC_ASSERT(offsetof(struct bv_flags, latch) == 2, "bv_flags.latch");
+BV_STATIC_ASSERT(offsetof(struct bv_flags, fresh) == 3, "bv_flags.fresh");
+BV_STATIC_ASSERT(sizeof(struct bv_drive) == 328, "bv_drive");
+BV_STATIC_ASSERT(offsetof(struct bv_drive, spares) == 0, "bv_drive.spares");
+BV_STATIC_ASSERT(offsetof(struct bv_drive, bads) == 64, "bv_drive.bads");
+BV_STATIC_ASSERT(offsetof(struct bv_drive, nspares) == 264, "bv_drive.nspares");
+BV_STATIC_ASSERT(offsetof(struct bv_drive, nbads) == 272, "bv_drive.nbads");
+BV_STATIC_ASSERT(offsetof(struct bv_drive, count) == 280, "bv_drive.count");
+BV_STATIC_ASSERT(offsetof(struct bv_drive, fed) == 288, "bv_drive.fed");
+BV_STATIC_ASSERT(offsetof(struct bv_drive, stage) == 296, "bv_drive.stage");
+BV_STATIC_ASSERT(offsetof(struct bv_drive, flags) == 316, "bv_drive.flags");
+BV_STATIC_ASSERT(offsetof(struct bv_drive, command) == 320, "bv_drive.command");
+
+/* THE CALLS. In each, `buf` and `len` are the lent buffer. A refused call changes nothing. */
+
+/* Power came on, or the drive is to be made anew. Whatever the record held, it is made anew: no table, no
+ * latch, nothing under way. The buffer is zeroed. Answers BV_READ of BV_TABLE_SECTOR, or refuses with
+ * BV_BAD_BUFFER. bv_surface then answers BV_READ again until a well-formed table came with answer 0, at
+ * most ten times in all, and BV_WAIT at the end of the start: idle, with the table or with none. Answer 3
+ * ends the start at once and sets no latch. The table's bytes never enter the buffer. */
+struct bv_reply bv_start(struct bv_drive *drive, uint8_t *buf, size_t len);
+
+/* The host raised CMD. In idle: BV_STORE if there is a table with unstored changes and no latch (the
+ * bv_surface that ends it answers the offer), else BV_OFFER of BV_OFFER_COMMAND. After command bytes: the
+ * offer of their opcode, or BV_OFFER_COMMAND with the bytes dropped if they are fewer than 6 for a read
+ * or 4 for a write, or the opcode is none. After data bytes: BV_OFFER_ACT. The buffer stays as it is.
+ * Elsewhere BV_BAD_PLACE. */
+struct bv_reply bv_raise(struct bv_drive *drive, uint8_t *buf, size_t len);
+
+/* The host lowered CMD with `byte` on the bus, after an offer. With BV_GO_ON: after offer 01, 03 or 04
+ * bytes are taken (BV_WAIT); after 02 or 06 the command is acted on, and the answer is its first BV_READ
+ * or BV_WRITE, or BV_FINISHED where it is over without an access. With any other byte the command is
+ * broken off: status 80 00 00 00, idle, BV_FINISHED. With no offer standing BV_BAD_PLACE. */
+struct bv_reply bv_lower(struct bv_drive *drive, uint8_t *buf, size_t len, uint8_t byte);
+
+/* The host sent `n` bytes, any number in a call. Command bytes: the first six are kept, later ones are
+ * ignored. Data bytes fill the data part from its start; fewer than 532 leave the rest of it as it was,
+ * those after the 532nd are dropped and make the command fail. Answers BV_WAIT, or BV_BAD_PLACE where no
+ * bytes are taken. */
+struct bv_reply bv_feed(struct bv_drive *drive, uint8_t *buf, size_t len, const uint8_t *bytes, size_t n);
+
+/* The access that the last answer asked for is over: `answer` is one of BV_SURFACE_.., and `bytes` are
+ * the 532 that a read brought with answer 0 or 1, else none (n is 0). Answers what comes next: another
+ * access, BV_OFFER after the store, BV_WAIT at the end of the start, or BV_FINISHED with the status bytes
+ * set and, for a good read, the block in the data part. A command is over after at most
+ * BV_MOST_ACCESSES. With no access awaited BV_BAD_PLACE. Bytes of a read that is no good are in the data
+ * part only until good ones come; bytes of a verify never are. */
+struct bv_reply bv_surface(struct bv_drive *drive, uint8_t *buf, size_t len, uint8_t answer,
+                           const uint8_t *bytes, size_t n);
+
+/* The host's reset line. In idle or in a handshake: idle, with CMD taken as low; table, unstored changes,
+ * latch and buffer stay, and the next finish shows BV_S3_FRESH. Answers BV_WAIT, or BV_BAD_PLACE while an
+ * access is awaited (let the access end first). */
+struct bv_reply bv_reset(struct bv_drive *drive, uint8_t *buf, size_t len);
+
+/* Writes the table's image into 532 bytes, which are not the buffer of the other calls but its own. In
+ * place whenever there is a table, while an access is awaited too, since the board fetches the bytes of a
+ * store with it. Leaves the record as it is. Answers BV_WAIT, or BV_BAD_PLACE with no table. */
+struct bv_reply bv_image(struct bv_drive *drive, uint8_t *image, size_t len);
+
+#ifdef __cplusplus
+}
+#endif
+
+#endif

@@ -1,0 +1,670 @@
+//! The same calls as ordinary Rust over a `&mut` record, to measure the library
+//! against. It tests in each call what document 01 asks each call to test, and is
+//! run beside the library by `fuzz`.
+
+use crate::{Answer, Code, Offer, Sector, BUFFER, GO_ON, SECTOR_BYTES, STATUS, TABLE};
+
+const SPARES: usize = 32;
+const BADS: usize = 100;
+const BLOCKS: u16 = 9728;
+const SECTORS: u32 = 9792;
+const FIRST_SPARE: u32 = 4928;
+const DEAD: u16 = 0xFFFE;
+const RAM: u32 = 0xFF_FFFE;
+const TABLE_IMAGE: u32 = 0xFF_FFFF;
+
+/// What a command has met.
+#[derive(Clone, Copy, Debug, Default)]
+struct Seen {
+    errors: u8,
+    crc: bool,
+    timeout: bool,
+}
+
+/// A read command before the move routine.
+#[derive(Clone, Copy, Debug)]
+struct Read {
+    block: u16,
+    sector: u32,
+    first: bool,
+    left: u8,
+    spent: u8,
+    threshold: u8,
+    good: bool,
+    seen: Seen,
+}
+
+/// An attempt of the move routine.
+#[derive(Clone, Copy, Debug)]
+struct Trial {
+    block: u16,
+    sector: u32,
+    spare: bool,
+    attempts: u8,
+    seen: Seen,
+}
+
+#[derive(Clone, Copy, Debug)]
+enum Phase {
+    Idle,
+    Offered(Offer),
+    Command,
+    Data,
+    Starting(u8),
+    Storing,
+    Reading(Read),
+    Writing(u32),
+    Trying(Trial),
+    Checking(Trial),
+}
+
+/// The record.
+#[derive(Clone, Debug)]
+pub struct Drive {
+    spares: [u16; SPARES],
+    bads: [u16; BADS],
+    nspares: usize,
+    nbads: usize,
+    known: bool,
+    changed: bool,
+    latch: bool,
+    fresh: bool,
+    command: [u8; 6],
+    count: usize,
+    fed: usize,
+    phase: Phase,
+}
+
+impl Default for Drive {
+    fn default() -> Drive {
+        Drive::new()
+    }
+}
+
+/// No block twice. Dead marks may repeat where they may stand.
+fn list_ok(list: &[u16], marks: bool) -> bool {
+    if list.is_empty() {
+        return true;
+    }
+    let mut seen = [0u64; BLOCKS as usize / 64];
+    for &entry in list {
+        if entry >= BLOCKS {
+            if marks && entry == DEAD {
+                continue;
+            }
+            return false;
+        }
+        let (word, bit) = (usize::from(entry / 64), 1 << (entry % 64));
+        if seen[word] & bit != 0 {
+            return false;
+        }
+        seen[word] |= bit;
+    }
+    true
+}
+
+fn read_lengths(answer: u8, bytes: &[u8]) -> Result<(), Code> {
+    match answer {
+        0 | 1 if bytes.len() == SECTOR_BYTES => Ok(()),
+        2 | 3 if bytes.is_empty() => Ok(()),
+        0..=3 => Err(Code::Bytes),
+        _ => Err(Code::Answer),
+    }
+}
+
+fn write_lengths(answer: u8, bytes: &[u8]) -> Result<(), Code> {
+    match answer {
+        0 | 2 | 3 if bytes.is_empty() => Ok(()),
+        0 | 2 | 3 => Err(Code::Bytes),
+        _ => Err(Code::Answer),
+    }
+}
+
+impl Drive {
+    /// A record that was never started.
+    pub fn new() -> Drive {
+        Drive {
+            spares: [0; SPARES],
+            bads: [0; BADS],
+            nspares: 0,
+            nbads: 0,
+            known: false,
+            changed: false,
+            latch: false,
+            fresh: false,
+            command: [0; 6],
+            count: 0,
+            fed: 0,
+            phase: Phase::Idle,
+        }
+    }
+
+    #[inline(never)]
+    pub fn start(&mut self, buffer: &mut [u8]) -> Answer {
+        if buffer.len() != BUFFER {
+            return Answer::Refused(Code::Buffer);
+        }
+        *self = Drive {
+            fresh: true,
+            phase: Phase::Starting(1),
+            ..Drive::new()
+        };
+        buffer.fill(0);
+        Answer::Read(TABLE)
+    }
+
+    #[inline(never)]
+    pub fn raise(&mut self, buffer: &mut [u8]) -> Answer {
+        self.raised(buffer).unwrap_or_else(Answer::Refused)
+    }
+
+    #[inline(never)]
+    pub fn lower(&mut self, buffer: &mut [u8], byte: u8) -> Answer {
+        self.lowered(buffer, byte).unwrap_or_else(Answer::Refused)
+    }
+
+    #[inline(never)]
+    pub fn feed(&mut self, buffer: &mut [u8], bytes: &[u8]) -> Answer {
+        self.taken(buffer, bytes).unwrap_or_else(Answer::Refused)
+    }
+
+    #[inline(never)]
+    pub fn surface(&mut self, buffer: &mut [u8], answer: u8, bytes: &[u8]) -> Answer {
+        self.answered(buffer, answer, bytes)
+            .unwrap_or_else(Answer::Refused)
+    }
+
+    #[inline(never)]
+    pub fn reset(&mut self, buffer: &mut [u8]) -> Answer {
+        self.was_reset(buffer).unwrap_or_else(Answer::Refused)
+    }
+
+    #[inline(never)]
+    pub fn image(&self, lent: &mut [u8]) -> Answer {
+        self.imaged(lent).unwrap_or_else(Answer::Refused)
+    }
+
+    fn valid(&self) -> bool {
+        self.nspares <= SPARES
+            && self.nbads <= BADS
+            && self.count <= 6
+            && self.fed <= SECTOR_BYTES + 1
+            && self.valid_phase()
+            && list_ok(&self.spares[..self.nspares], true)
+            && list_ok(&self.bads[..self.nbads], false)
+    }
+
+    fn valid_phase(&self) -> bool {
+        match &self.phase {
+            Phase::Idle | Phase::Offered(_) | Phase::Command | Phase::Data => true,
+            Phase::Starting(reads) => *reads <= 10,
+            Phase::Storing => self.known,
+            Phase::Reading(read) => {
+                self.known
+                    && read.block < BLOCKS
+                    && read.sector < SECTORS
+                    && u16::from(read.seen.errors) + u16::from(read.left) <= 255
+                    && read.spent <= 89
+            }
+            Phase::Writing(sector) => self.known && *sector < SECTORS,
+            Phase::Trying(trial) | Phase::Checking(trial) => {
+                self.known
+                    && trial.block < BLOCKS
+                    && trial.sector < SECTORS
+                    && trial.attempts <= 2
+                    && (!trial.spare || self.next_spare() == Some(trial.sector))
+            }
+        }
+    }
+
+    fn accept(&self, lent: &[u8], length: usize) -> Result<(), Code> {
+        if !self.valid() {
+            return Err(Code::Record);
+        }
+        if lent.len() != length {
+            return Err(Code::Buffer);
+        }
+        Ok(())
+    }
+
+    fn next_spare(&self) -> Option<u32> {
+        (self.nspares < SPARES).then(|| FIRST_SPARE + self.nspares as u32)
+    }
+
+    fn spare_of(&self, block: u16) -> Option<usize> {
+        self.spares[..self.nspares].iter().position(|&e| e == block)
+    }
+
+    fn bad_at(&self, block: u16) -> Option<usize> {
+        self.bads[..self.nbads].iter().position(|&e| e == block)
+    }
+
+    fn sector(&self, block: u16) -> u32 {
+        match self.spare_of(block) {
+            Some(k) => FIRST_SPARE + k as u32,
+            None if u32::from(block) < FIRST_SPARE => u32::from(block),
+            None => u32::from(block) + 64,
+        }
+    }
+
+    fn offer(&mut self, offer: Offer) -> Answer {
+        self.phase = Phase::Offered(offer);
+        Answer::Offer(offer)
+    }
+
+    fn raised(&mut self, buffer: &[u8]) -> Result<Answer, Code> {
+        self.accept(buffer, BUFFER)?;
+        match self.phase {
+            Phase::Idle if self.known && self.changed && !self.latch => {
+                self.phase = Phase::Storing;
+                Ok(Answer::Store)
+            }
+            Phase::Idle => Ok(self.offer(Offer::Command)),
+            Phase::Command => {
+                let offer = match (self.command[0], self.count) {
+                    (0, 6) => Offer::Read,
+                    (1, 4..) => Offer::Write,
+                    (2, 4..) => Offer::Verify,
+                    _ => Offer::Command,
+                };
+                self.fed = 0;
+                Ok(self.offer(offer))
+            }
+            Phase::Data => Ok(self.offer(Offer::Act)),
+            _ => Err(Code::Place),
+        }
+    }
+
+    fn lowered(&mut self, buffer: &mut [u8], byte: u8) -> Result<Answer, Code> {
+        self.accept(buffer, BUFFER)?;
+        let Phase::Offered(offer) = self.phase else {
+            return Err(Code::Place);
+        };
+        if byte != GO_ON {
+            buffer[..STATUS].copy_from_slice(&[0x80, 0, 0, 0]);
+            self.phase = Phase::Idle;
+            return Ok(Answer::Finished);
+        }
+        Ok(match offer {
+            Offer::Command => {
+                self.count = 0;
+                self.phase = Phase::Command;
+                Answer::Wait
+            }
+            Offer::Write | Offer::Verify => {
+                self.fed = 0;
+                self.phase = Phase::Data;
+                Answer::Wait
+            }
+            Offer::Read | Offer::Act => self.act(buffer, offer),
+        })
+    }
+
+    fn act(&mut self, buffer: &mut [u8], offer: Offer) -> Answer {
+        let reads = offer == Offer::Read;
+        let [opcode, high, middle, low, rereads, threshold] = self.command;
+        let number = u32::from_be_bytes([0, high, middle, low]);
+        let block = u16::try_from(number).ok().filter(|&block| block < BLOCKS);
+        if !reads && self.fed > SECTOR_BYTES {
+            return self.finish(buffer, [0x41, 0, 0, 0]);
+        }
+        if block.is_none() && number != RAM && !(number == TABLE_IMAGE && reads) {
+            return self.finish(buffer, [0x01, 0, 0x40, 0]);
+        }
+        if number == RAM {
+            return self.finish(buffer, [0; STATUS]);
+        }
+        if !self.known {
+            let one = if reads { 0x01 } else { 0x41 };
+            return self.finish(buffer, [one, 0x08, 0, 0]);
+        }
+        let Some(block) = block else {
+            self.write_image(&mut buffer[STATUS..]);
+            return self.finish(buffer, [0; STATUS]);
+        };
+        if reads {
+            let sector = self.sector(block);
+            self.phase = Phase::Reading(Read {
+                block,
+                sector,
+                first: true,
+                left: rereads,
+                spent: 0,
+                threshold,
+                good: false,
+                seen: Seen::default(),
+            });
+            return Answer::Read(Sector(sector));
+        }
+        if self.latch {
+            return self.finish(buffer, [0x11, 0, 0, 0]);
+        }
+        let sector = self.sector(block);
+        if opcode == 2 || self.bad_at(block).is_some() {
+            return self.attempt(Trial {
+                block,
+                sector,
+                spare: false,
+                attempts: 1,
+                seen: Seen::default(),
+            });
+        }
+        self.phase = Phase::Writing(sector);
+        Answer::Write(Sector(sector))
+    }
+
+    fn taken(&mut self, buffer: &mut [u8], bytes: &[u8]) -> Result<Answer, Code> {
+        self.accept(buffer, BUFFER)?;
+        match self.phase {
+            Phase::Command => {
+                let kept = bytes.len().min(6 - self.count);
+                self.command[self.count..self.count + kept].copy_from_slice(&bytes[..kept]);
+                self.count += kept;
+            }
+            Phase::Data => {
+                let from = self.fed.min(SECTOR_BYTES);
+                let kept = bytes.len().min(SECTOR_BYTES - from);
+                buffer[STATUS + from..STATUS + from + kept].copy_from_slice(&bytes[..kept]);
+                self.fed = self.fed.saturating_add(bytes.len()).min(SECTOR_BYTES + 1);
+            }
+            _ => return Err(Code::Place),
+        }
+        Ok(Answer::Wait)
+    }
+
+    fn was_reset(&mut self, buffer: &[u8]) -> Result<Answer, Code> {
+        self.accept(buffer, BUFFER)?;
+        match self.phase {
+            Phase::Idle | Phase::Offered(_) | Phase::Command | Phase::Data => {
+                self.fresh = true;
+                self.phase = Phase::Idle;
+                Ok(Answer::Wait)
+            }
+            _ => Err(Code::Place),
+        }
+    }
+
+    fn imaged(&self, lent: &mut [u8]) -> Result<Answer, Code> {
+        self.accept(lent, SECTOR_BYTES)?;
+        if !self.known {
+            return Err(Code::Place);
+        }
+        self.write_image(lent);
+        Ok(Answer::Wait)
+    }
+
+    fn answered(&mut self, buffer: &mut [u8], answer: u8, bytes: &[u8]) -> Result<Answer, Code> {
+        self.accept(buffer, BUFFER)?;
+        Ok(match self.phase {
+            Phase::Starting(reads) => {
+                read_lengths(answer, bytes)?;
+                self.start_read(reads, answer, bytes)
+            }
+            Phase::Storing => {
+                write_lengths(answer, bytes)?;
+                if answer == 0 {
+                    self.changed = false;
+                }
+                self.offer(Offer::Command)
+            }
+            Phase::Reading(read) => {
+                read_lengths(answer, bytes)?;
+                self.command_read(buffer, read, answer, bytes)
+            }
+            Phase::Writing(_) => {
+                write_lengths(answer, bytes)?;
+                match answer {
+                    0 => self.finish(buffer, [0; STATUS]),
+                    2 => self.finish(buffer, [0x05, 0, 0, 0]),
+                    _ => self.no_settle(buffer, Seen::default()),
+                }
+            }
+            Phase::Trying(trial) => {
+                write_lengths(answer, bytes)?;
+                self.attempt_written(buffer, trial, answer)
+            }
+            Phase::Checking(trial) => {
+                read_lengths(answer, bytes)?;
+                self.attempt_read(buffer, trial, answer, bytes)
+            }
+            _ => return Err(Code::Place),
+        })
+    }
+
+    fn start_read(&mut self, reads: u8, answer: u8, bytes: &[u8]) -> Answer {
+        if answer == 3 || answer == 0 && self.read_image(bytes) || reads >= 10 {
+            self.phase = Phase::Idle;
+            return Answer::Wait;
+        }
+        self.phase = Phase::Starting(reads + 1);
+        Answer::Read(TABLE)
+    }
+
+    fn command_read(
+        &mut self,
+        buffer: &mut [u8],
+        mut read: Read,
+        answer: u8,
+        bytes: &[u8],
+    ) -> Answer {
+        match answer {
+            3 => return self.no_settle(buffer, read.seen),
+            2 => read.seen.timeout = true,
+            _ => {
+                if !read.good {
+                    buffer[STATUS..].copy_from_slice(bytes);
+                }
+                read.seen.crc |= answer == 1;
+            }
+        }
+        let good = answer == 0;
+        if read.first {
+            if good {
+                return self.end(buffer, read.seen, 0, 0);
+            }
+            read.first = false;
+        } else if read.left > 0 {
+            read.left -= 1;
+            read.seen.errors += u8::from(!good);
+            read.good |= good;
+            if read.left == 0 && read.good {
+                return self.was_read(buffer, read);
+            }
+        } else if good {
+            return self.was_read(buffer, read);
+        } else {
+            read.spent += if answer == 2 { 9 } else { 1 };
+            if read.spent >= 90 {
+                return self.never_read(buffer, read);
+            }
+        }
+        self.phase = Phase::Reading(read);
+        Answer::Read(Sector(read.sector))
+    }
+
+    fn never_read(&mut self, buffer: &mut [u8], read: Read) -> Answer {
+        let mut two = 0;
+        if self.bad_at(read.block).is_none() {
+            if self.nbads < BADS {
+                self.bads[self.nbads] = read.block;
+                self.nbads += 1;
+                self.changed = true;
+            } else {
+                two = 0x10;
+            }
+        }
+        self.end(buffer, read.seen, 0x01, two)
+    }
+
+    fn was_read(&mut self, buffer: &mut [u8], read: Read) -> Answer {
+        if read.seen.errors < read.threshold {
+            return self.end(buffer, read.seen, 0, 0);
+        }
+        if self.latch {
+            return self.end(buffer, read.seen, 0x11, 0);
+        }
+        self.attempt(Trial {
+            block: read.block,
+            sector: read.sector,
+            spare: false,
+            attempts: 1,
+            seen: read.seen,
+        })
+    }
+
+    fn attempt(&mut self, trial: Trial) -> Answer {
+        self.phase = Phase::Trying(trial);
+        Answer::Write(Sector(trial.sector))
+    }
+
+    fn attempt_written(&mut self, buffer: &mut [u8], mut trial: Trial, answer: u8) -> Answer {
+        match answer {
+            0 => {
+                self.phase = Phase::Checking(trial);
+                Answer::Read(Sector(trial.sector))
+            }
+            2 => {
+                trial.seen.timeout = true;
+                self.attempt_failed(buffer, trial)
+            }
+            _ => self.no_settle(buffer, trial.seen),
+        }
+    }
+
+    fn attempt_read(
+        &mut self,
+        buffer: &mut [u8],
+        mut trial: Trial,
+        answer: u8,
+        bytes: &[u8],
+    ) -> Answer {
+        match answer {
+            0 if bytes == &buffer[STATUS..] => return self.verified(buffer, trial),
+            0 | 1 => trial.seen.crc = true,
+            2 => trial.seen.timeout = true,
+            _ => return self.no_settle(buffer, trial.seen),
+        }
+        self.attempt_failed(buffer, trial)
+    }
+
+    fn attempt_failed(&mut self, buffer: &mut [u8], mut trial: Trial) -> Answer {
+        if trial.attempts < 2 {
+            trial.attempts += 1;
+            return self.attempt(trial);
+        }
+        if trial.spare {
+            self.push_spare(DEAD);
+        }
+        match self.next_spare() {
+            Some(sector) => self.attempt(Trial {
+                sector,
+                spare: true,
+                attempts: 1,
+                ..trial
+            }),
+            None => self.end(buffer, trial.seen, 0x01, 0x40),
+        }
+    }
+
+    fn push_spare(&mut self, entry: u16) {
+        self.spares[self.nspares] = entry;
+        self.nspares += 1;
+        self.changed = true;
+    }
+
+    fn verified(&mut self, buffer: &mut [u8], trial: Trial) -> Answer {
+        let mut two = 0;
+        if trial.spare {
+            if let Some(old) = self.spare_of(trial.block) {
+                self.spares[old] = DEAD;
+            }
+            self.push_spare(trial.block);
+            two = 0x04;
+        }
+        if let Some(at) = self.bad_at(trial.block) {
+            self.bads.copy_within(at + 1..self.nbads, at);
+            self.nbads -= 1;
+            self.changed = true;
+        }
+        self.end(buffer, trial.seen, 0, two)
+    }
+
+    fn no_settle(&mut self, buffer: &mut [u8], seen: Seen) -> Answer {
+        if let Phase::Trying(Trial { spare: true, .. })
+        | Phase::Checking(Trial { spare: true, .. }) = self.phase
+        {
+            self.push_spare(DEAD);
+        }
+        self.latch = true;
+        self.end(buffer, seen, 0x11, 0)
+    }
+
+    fn end(&mut self, buffer: &mut [u8], seen: Seen, one: u8, two: u8) -> Answer {
+        let met = u8::from(seen.crc) << 3 | u8::from(seen.timeout) << 2;
+        self.finish(buffer, [one | met, two, 0, seen.errors])
+    }
+
+    fn finish(&mut self, buffer: &mut [u8], mut status: [u8; STATUS]) -> Answer {
+        status[2] |= u8::from(self.fresh) << 7;
+        self.fresh = false;
+        buffer[..STATUS].copy_from_slice(&status);
+        self.phase = Phase::Idle;
+        Answer::Finished
+    }
+
+    /// Writes the image of the table into 532 bytes.
+    fn write_image(&self, image: &mut [u8]) {
+        image.fill(0);
+        image[..24].copy_from_slice(FIXED);
+        // Both counts fit in a byte: code 1 tested them.
+        image[24] = self.nspares as u8;
+        image[25] = self.nbads as u8;
+        let mut at = 26;
+        for list in [&self.spares[..self.nspares], &self.bads[..self.nbads]] {
+            for &entry in list {
+                let [high, low] = entry.to_be_bytes();
+                let top = if entry == DEAD { 0xFF } else { 0 };
+                image[at..at + 3].copy_from_slice(&[top, high, low]);
+                at += 3;
+            }
+            image[at..at + 3].fill(0xFF);
+            at += 3;
+        }
+    }
+
+    /// Takes the table of an image if it is well formed.
+    fn read_image(&mut self, image: &[u8]) -> bool {
+        let (nspares, nbads) = (usize::from(image[24]), usize::from(image[25]));
+        if &image[..24] != FIXED || nspares > SPARES || nbads > BADS {
+            return false;
+        }
+        let mut spares = [0; SPARES];
+        let mut bads = [0; BADS];
+        let mut at = 26;
+        for list in [&mut spares[..nspares], &mut bads[..nbads]] {
+            for entry in list {
+                *entry = match u32::from_be_bytes([0, image[at], image[at + 1], image[at + 2]]) {
+                    RAM => DEAD,
+                    number @ 0..=9727 => number as u16,
+                    _ => return false,
+                };
+                at += 3;
+            }
+            if image[at..at + 3] != [0xFF; 3] {
+                return false;
+            }
+            at += 3;
+        }
+        let formed = image[at..].iter().all(|&byte| byte == 0)
+            && list_ok(&spares[..nspares], true)
+            && list_ok(&bads[..nbads], false);
+        if formed {
+            (self.spares, self.bads) = (spares, bads);
+            (self.nspares, self.nbads) = (nspares, nbads);
+            self.known = true;
+        }
+        formed
+    }
+}
+
+const FIXED: &[u8; 24] = b"PROFILE      \x00\x00\x00\x03\x90\x00\x26\x00\x02\x14\x20";

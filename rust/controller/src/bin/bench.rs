@@ -1,0 +1,299 @@
+//! The library against the baseline, ordinary Rust over a `&mut` record: three
+//! commands, each with tables of three sizes. `tools/bench` has the instructions
+//! counted too.
+
+use std::env;
+use std::hint::black_box;
+use std::mem::size_of;
+use std::process::ExitCode;
+use std::time::Instant;
+
+use controller::{baseline, raw, Answer, BUFFER, SECTOR_BYTES};
+use reference::images::draft::Draft;
+use reference::rng::Rng;
+
+const USAGE: &str = "\
+usage: bench                                    time, and the records' sizes
+       bench WHO WHAT SPARES BADS TIMES         one kind of work, to count instructions:
+                                                library or baseline; read, write or longest
+       bench calls WHAT SPARES                  how many calls the work has
+";
+
+/// The seed of the tables' entries.
+const SEED: u64 = 1;
+
+/// The block that is read and written, which is in no list.
+const BLOCK: u32 = 4000;
+
+fn main() -> ExitCode {
+    let arguments: Vec<String> = env::args().skip(1).collect();
+    let words: Vec<&str> = arguments.iter().map(String::as_str).collect();
+    match run(&words) {
+        Some(()) => ExitCode::SUCCESS,
+        None => {
+            eprint!("{USAGE}");
+            ExitCode::from(2)
+        }
+    }
+}
+
+fn run(words: &[&str]) -> Option<()> {
+    match words {
+        [] => times(),
+        ["calls", what, spares] => println!("{}", What::named(what)?.calls(spares.parse().ok()?)),
+        [who, what, spares, bads, times] => {
+            let what = What::named(what)?;
+            let (spares, bads) = (spares.parse().ok()?, bads.parse().ok()?);
+            let times = times.parse().ok()?;
+            match *who {
+                "library" => bench_work(&mut Work::<raw::Drive>::new(what, spares, bads), times),
+                "baseline" => {
+                    bench_work(&mut Work::<baseline::Drive>::new(what, spares, bads), times);
+                }
+                _ => return None,
+            }
+        }
+        _ => return None,
+    }
+    Some(())
+}
+
+/// Does the work so many times. Instructions are counted in here alone.
+#[no_mangle]
+#[inline(never)]
+pub fn bench_work(work: &mut dyn Once, times: u32) {
+    for _ in 0..times {
+        work.once();
+    }
+}
+
+/// What the time table and the counter run.
+pub trait Once {
+    fn once(&mut self);
+}
+
+/// A kind of work.
+#[derive(Clone, Copy, Debug, PartialEq, Eq)]
+enum What {
+    /// A read command whose first read is good.
+    Read,
+    /// A plain write command.
+    Write,
+    /// The longest read: R is 255 and all fails that may.
+    Longest,
+}
+
+impl What {
+    fn named(name: &str) -> Option<What> {
+        match name {
+            "read" => Some(What::Read),
+            "write" => Some(What::Write),
+            "longest" => Some(What::Longest),
+            _ => None,
+        }
+    }
+
+    /// How many calls it has with so many spares listed.
+    fn calls(self, spares: usize) -> usize {
+        match self {
+            What::Read => 5 + 1,
+            What::Write => 8 + 1,
+            What::Longest => 5 + longest(spares),
+        }
+    }
+}
+
+/// Reads before the move routine, the last of them good.
+const READS: usize = 1 + 255 + 90;
+
+/// The accesses of the longest read.
+fn longest(spares: usize) -> usize {
+    READS + 4 * (33 - spares)
+}
+
+/// The calls that the work makes.
+trait Calls: Clone {
+    fn fresh() -> Self;
+    fn start(&mut self, buffer: &mut [u8]);
+    fn raise(&mut self, buffer: &mut [u8]);
+    fn lower(&mut self, buffer: &mut [u8]);
+    fn feed(&mut self, buffer: &mut [u8], bytes: &[u8]);
+    /// Whether a command is finished by it.
+    fn surface(&mut self, buffer: &mut [u8], answer: u8, bytes: &[u8]) -> bool;
+}
+
+impl Calls for raw::Drive {
+    fn fresh() -> raw::Drive {
+        raw::Drive::NEW
+    }
+
+    fn start(&mut self, buffer: &mut [u8]) {
+        black_box(unsafe { raw::bv_start(self, buffer.as_mut_ptr(), buffer.len()) });
+    }
+
+    fn raise(&mut self, buffer: &mut [u8]) {
+        black_box(unsafe { raw::bv_raise(self, buffer.as_mut_ptr(), buffer.len()) });
+    }
+
+    fn lower(&mut self, buffer: &mut [u8]) {
+        black_box(unsafe { raw::bv_lower(self, buffer.as_mut_ptr(), buffer.len(), 0x55) });
+    }
+
+    fn feed(&mut self, buffer: &mut [u8], bytes: &[u8]) {
+        let (from, n) = (bytes.as_ptr(), bytes.len());
+        black_box(unsafe { raw::bv_feed(self, buffer.as_mut_ptr(), buffer.len(), from, n) });
+    }
+
+    fn surface(&mut self, buffer: &mut [u8], answer: u8, bytes: &[u8]) -> bool {
+        let (buf, len) = (buffer.as_mut_ptr(), buffer.len());
+        let (from, n) = (bytes.as_ptr(), bytes.len());
+        unsafe { raw::bv_surface(self, buf, len, answer, from, n) }.kind == 5
+    }
+}
+
+impl Calls for baseline::Drive {
+    fn fresh() -> baseline::Drive {
+        baseline::Drive::new()
+    }
+
+    fn start(&mut self, buffer: &mut [u8]) {
+        black_box(baseline::Drive::start(self, buffer));
+    }
+
+    fn raise(&mut self, buffer: &mut [u8]) {
+        black_box(baseline::Drive::raise(self, buffer));
+    }
+
+    fn lower(&mut self, buffer: &mut [u8]) {
+        black_box(baseline::Drive::lower(self, buffer, 0x55));
+    }
+
+    fn feed(&mut self, buffer: &mut [u8], bytes: &[u8]) {
+        black_box(baseline::Drive::feed(self, buffer, bytes));
+    }
+
+    fn surface(&mut self, buffer: &mut [u8], answer: u8, bytes: &[u8]) -> bool {
+        baseline::Drive::surface(self, buffer, answer, bytes) == Answer::Finished
+    }
+}
+
+/// A drive with a table, and the work on it.
+struct Work<D> {
+    what: What,
+    /// As the longest read finds it, which fills the spare list.
+    began: D,
+    drive: D,
+    buffer: [u8; BUFFER],
+    bytes: [u8; SECTOR_BYTES],
+    spares: usize,
+}
+
+impl<D: Calls> Work<D> {
+    fn new(what: What, spares: usize, bads: usize) -> Work<D> {
+        let draft = Draft::of_size(&mut Rng::new(SEED), spares, bads);
+        let listed = draft.spares.contains(&BLOCK) || draft.bads.contains(&BLOCK);
+        assert!(!listed, "the block is in no list");
+        let image = draft.bytes();
+        let mut drive = D::fresh();
+        let mut buffer = [0; BUFFER];
+        drive.start(&mut buffer);
+        drive.surface(&mut buffer, 0, &image);
+        let began = drive.clone();
+        Work {
+            what,
+            began,
+            drive,
+            buffer,
+            bytes: [0x5A; SECTOR_BYTES],
+            spares,
+        }
+    }
+
+    /// All of a handshake before the data or the access.
+    fn begin(&mut self, opcode: u8) {
+        let (drive, buffer) = (&mut self.drive, &mut self.buffer[..]);
+        drive.raise(buffer);
+        drive.lower(buffer);
+        let [_, high, middle, low] = BLOCK.to_be_bytes();
+        let command = [opcode, high, middle, low, 255, 1];
+        drive.feed(buffer, &command[..if opcode == 0 { 6 } else { 4 }]);
+        drive.raise(buffer);
+        drive.lower(buffer);
+    }
+}
+
+impl<D: Calls> Once for Work<D> {
+    fn once(&mut self) {
+        if self.what == What::Longest {
+            self.drive = self.began.clone();
+        }
+        self.begin(u8::from(self.what == What::Write));
+        let (drive, buffer) = (&mut self.drive, &mut self.buffer[..]);
+        let mut finished = false;
+        match self.what {
+            What::Read => finished = drive.surface(buffer, 0, &self.bytes),
+            What::Write => {
+                drive.feed(buffer, &self.bytes);
+                drive.raise(buffer);
+                drive.lower(buffer);
+                finished = drive.surface(buffer, 0, &[]);
+            }
+            What::Longest => {
+                for _ in 1..READS {
+                    drive.surface(buffer, 1, &self.bytes);
+                }
+                drive.surface(buffer, 0, &self.bytes);
+                for _ in 0..2 * (33 - self.spares) {
+                    drive.surface(buffer, 0, &[]);
+                    finished = drive.surface(buffer, 1, &self.bytes);
+                }
+            }
+        }
+        assert!(finished, "the command is over with its last call");
+    }
+}
+
+const SIZES: [(usize, usize); 3] = [(0, 0), (10, 10), (32, 100)];
+
+const WORKS: [(&str, What, u32); 3] = [
+    ("read", What::Read, 2000),
+    ("write", What::Write, 1500),
+    ("longest", What::Longest, 30),
+];
+
+/// Short runs, so that one of them is not disturbed.
+const ROUNDS: usize = 150;
+
+fn times() {
+    println!(
+        "record: library {} bytes, baseline {}",
+        size_of::<raw::Drive>(),
+        size_of::<baseline::Drive>()
+    );
+    println!("nanoseconds a call, the best of many short runs in turns:");
+    println!("work      lists    library  baseline  ratio");
+    for (name, what, count) in WORKS {
+        for (spares, bads) in SIZES {
+            let mut library = Work::<raw::Drive>::new(what, spares, bads);
+            let mut baseline = Work::<baseline::Drive>::new(what, spares, bads);
+            let calls = f64::from(count) * what.calls(spares) as f64;
+            let (mut one, mut other) = (f64::MAX, f64::MAX);
+            for _ in 0..ROUNDS {
+                one = one.min(timed(&mut library, count) / calls);
+                other = other.min(timed(&mut baseline, count) / calls);
+            }
+            let lists = format!("{spares}+{bads}");
+            println!(
+                "{name:9} {lists:8} {one:7.1}  {other:8.1}  {:5.2}",
+                one / other
+            );
+        }
+    }
+}
+
+/// Nanoseconds for the work so many times.
+fn timed(work: &mut dyn Once, count: u32) -> f64 {
+    let began = Instant::now();
+    bench_work(work, count);
+    began.elapsed().as_secs_f64() * 1e9
+}

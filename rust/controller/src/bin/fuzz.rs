@@ -1,0 +1,277 @@
+//! The comparison through the C library: random lists of calls, valid and hostile,
+//! on the library, on the reference implementation and on the baseline; and calls
+//! on damaged records. Its last line says how many calls agreed.
+
+use std::env;
+use std::process::ExitCode;
+
+use controller::compare::beside::{self, Beside, Fate, MOST_LENT};
+use controller::compare::damage;
+use controller::raw;
+use reference::controller::{Awaited, Offer, Phase};
+use reference::coverage;
+use reference::drive::Call;
+use reference::images::draft::Draft;
+use reference::rng::Rng;
+use reference::script::{self, Line};
+use reference::{scripts, text};
+
+const USAGE: &str = "\
+usage: fuzz SEEDS CALLS [FIRST]   a list of about so many calls for each seed, with
+                                  short lists that leave it and damaged records
+";
+
+fn main() -> ExitCode {
+    let numbers: Option<Vec<u64>> = env::args().skip(1).map(|word| word.parse().ok()).collect();
+    let (seeds, calls, first) = match numbers.as_deref() {
+        Some(&[seeds, calls]) => (seeds, calls, 1),
+        Some(&[seeds, calls, first]) => (seeds, calls, first),
+        _ => {
+            eprint!("{USAGE}");
+            return ExitCode::from(2);
+        }
+    };
+    let mut tally = Tally::default();
+    let mut rng = Rng::new(first);
+    for record in damage::sweep() {
+        if let Err(difference) = tried(&record, &mut rng, &mut tally) {
+            println!("a record with one field changed: {difference}");
+            return ExitCode::FAILURE;
+        }
+    }
+    for seed in first..first + seeds {
+        if let Err(difference) = list(seed, calls as usize, &mut tally) {
+            println!("seed {seed}, after {} calls: {difference}", tally.calls());
+            return ExitCode::FAILURE;
+        }
+    }
+    let names = coverage::report();
+    println!("{}", names.lines().last().unwrap_or_default());
+    println!(
+        "{} calls of {seeds} lists, {} of {} short lists that leave them, \
+         {} with every length from 0 to {MOST_LENT}",
+        tally.listed, tally.short_calls, tally.short_lists, tally.lengths
+    );
+    println!(
+        "{} calls on {} damaged records: {} refused as no packing, {} with 1, {} with another code, \
+         {} taken alike, {} taken where document 01 is silent",
+        tally.damaged(),
+        tally.records,
+        tally.no_packing,
+        tally.refused,
+        tally.other_code,
+        tally.taken,
+        tally.unsettled
+    );
+    println!("{} calls agreed", tally.calls());
+    ExitCode::SUCCESS
+}
+
+/// How many calls were made.
+#[derive(Debug, Default)]
+struct Tally {
+    listed: u64,
+    short_lists: u64,
+    short_calls: u64,
+    lengths: u64,
+    records: u64,
+    no_packing: u64,
+    refused: u64,
+    other_code: u64,
+    taken: u64,
+    unsettled: u64,
+}
+
+impl Tally {
+    fn damaged(&self) -> u64 {
+        self.no_packing + self.refused + self.other_code + self.taken + self.unsettled
+    }
+
+    fn calls(&self) -> u64 {
+        self.listed + self.short_calls + self.lengths + self.damaged()
+    }
+}
+
+/// The list of a seed: the reference's random script, with short lists and damaged
+/// records at some of its calls.
+fn list(seed: u64, calls: usize, tally: &mut Tally) -> Result<(), String> {
+    let mut rng = Rng::new(seed ^ 0xB0A2_D000_0000_0000);
+    let text = scripts::random(seed, calls);
+    let mut beside = Beside::new();
+    for (number, said) in text::lines(text.as_bytes()) {
+        let place = |what: &str, said: String| format!("{what} at line {number}: {said}");
+        let line = script::parse(said).map_err(|fault| place("fault", fault.to_string()))?;
+        one(&mut beside, &line).map_err(|said| place("list", said))?;
+        tally.listed += 1;
+        if rng.one_in(10) {
+            short(beside.clone(), &mut rng, tally).map_err(|said| place("short list", said))?;
+        }
+        if rng.one_in(12) {
+            let record = match rng.below(3) {
+                0 => damage::of(beside.record(), &mut rng),
+                _ => damage::record(&mut rng),
+            };
+            tried(&record, &mut rng, tally).map_err(|said| place("damaged record", said))?;
+        }
+    }
+    lengths(&beside, &mut rng, tally)
+}
+
+/// A call of a list's end, with a buffer of every length.
+fn lengths(beside: &Beside, rng: &mut Rng, tally: &mut Tally) -> Result<(), String> {
+    for length in 0..=MOST_LENT {
+        for call in [any(rng), fitting(beside, rng), Call::Image] {
+            let lend = Some(length);
+            one(&mut beside.clone(), &Line { lend, call })?;
+            tally.lengths += 1;
+        }
+    }
+    Ok(())
+}
+
+fn one(beside: &mut Beside, line: &Line) -> Result<(), String> {
+    match beside.call(line.lend, &line.call) {
+        Ok(_) => Ok(()),
+        Err(difference) => Err(format!("{}\n{difference}", script::show(line))),
+    }
+}
+
+/// A list of a few calls from here on, of which half fit.
+fn short(mut beside: Beside, rng: &mut Rng, tally: &mut Tally) -> Result<(), String> {
+    tally.short_lists += 1;
+    for _ in 0..1 + rng.below(12) {
+        let call = match rng.below(2) {
+            0 => fitting(&beside, rng),
+            _ => any(rng),
+        };
+        let lend = rng.one_in(4).then(|| length(&call, rng));
+        one(&mut beside, &Line { lend, call })?;
+        tally.short_calls += 1;
+    }
+    Ok(())
+}
+
+/// A call that is in place.
+fn fitting(beside: &Beside, rng: &mut Rng) -> Call {
+    let phase = beside.phase();
+    match (phase.awaited(), phase) {
+        (Some(Awaited::Read), Phase::Starting { .. }) if rng.one_in(2) => {
+            Call::Surface(0, Draft::of_any_size(rng).bytes())
+        }
+        (Some(Awaited::Read), _) => match rng.below(8) {
+            0 => Call::Surface(3, vec![]),
+            1 => Call::Surface(2, vec![]),
+            // What the data part holds verifies.
+            2 | 3 => Call::Surface(0, beside.buffer()[4..].to_vec()),
+            n => Call::Surface((n % 2) as u8, sector(rng)),
+        },
+        (Some(Awaited::Write), _) => Call::Surface(rng.pick(&[0, 0, 0, 2, 3]), vec![]),
+        (None, Phase::Command) if rng.one_in(2) => command(rng),
+        (None, Phase::Data) if rng.one_in(2) => {
+            let count = rng.pick(&[0, 1, 100, 531, 532, 533, 600]);
+            Call::Feed(vec![rng.byte(); count])
+        }
+        (None, Phase::Offered(offer)) => match rng.below(20) {
+            0 if offer != Offer::Command => Call::Lower(rng.byte()),
+            _ => Call::Lower(0x55),
+        },
+        (None, _) => Call::Raise,
+    }
+}
+
+fn command(rng: &mut Rng) -> Call {
+    let number: u32 = rng.pick(&[0, 17, 4927, 4928, 9727, 9728, 0xFF_FFFE, 0xFF_FFFF]);
+    let [_, high, middle, low] = number.to_be_bytes();
+    let mut bytes = vec![rng.below(4) as u8, high, middle, low];
+    bytes.extend([
+        rng.pick(&[0, 1, 2, 255]),
+        rng.pick(&[0, 1, 2, 255]),
+        rng.byte(),
+    ]);
+    bytes.truncate(rng.pick(&[0, 1, 3, 4, 5, 6, 6, 6, 7]));
+    Call::Feed(bytes)
+}
+
+/// Any call with any arguments.
+fn any(rng: &mut Rng) -> Call {
+    match rng.below(9) {
+        0 => Call::Start,
+        1 | 2 => Call::Raise,
+        3 => Call::Lower(rng.pick(&[0x55, 0x55, 0x54, 0, 0xFF])),
+        4 => {
+            let count = rng.pick(&[0, 1, 5, 6, 7, 532, 533, 600]);
+            Call::Feed(vec![rng.byte(); count])
+        }
+        5 | 6 => {
+            let answer = rng.pick(&[0, 0, 1, 1, 2, 3, 4, 5, 255]);
+            let count = rng.pick(&[0, 0, 0, 1, 531, 532, 532, 533]);
+            Call::Surface(answer, vec![rng.byte(); count])
+        }
+        7 => Call::Reset,
+        _ => Call::Image,
+    }
+}
+
+fn sector(rng: &mut Rng) -> Vec<u8> {
+    reference::surface::plain_bytes(rng)
+}
+
+/// A length to lend, near what is asked for more often than not.
+fn length(call: &Call, rng: &mut Rng) -> usize {
+    let wanted = beside::length_of(call);
+    match rng.below(4) {
+        0 => rng.place(MOST_LENT + 1),
+        1 => wanted,
+        _ => wanted - 6 + rng.place(13),
+    }
+}
+
+/// The seven calls on a damaged record.
+fn tried(record: &raw::Drive, rng: &mut Rng, tally: &mut Tally) -> Result<(), String> {
+    tally.records += 1;
+    let fed = rng.pick(&[0, 3, 6, 533]);
+    let calls = [
+        Call::Start,
+        Call::Raise,
+        Call::Lower(rng.pick(&[0x55, 0x55, 0x55, 0xAA])),
+        Call::Feed(vec![rng.byte(); fed]),
+        match rng.below(6) {
+            0 => Call::Surface(rng.byte(), vec![]),
+            1 => Call::Surface(rng.below(4) as u8, vec![0; rng.pick(&[0, 531, 532, 533])]),
+            2 => Call::Surface(2, vec![]),
+            3 => Call::Surface(3, vec![]),
+            n => Call::Surface(
+                n as u8 - 4,
+                match rng.one_in(2) {
+                    true => sector(rng),
+                    false => vec![],
+                },
+            ),
+        },
+        Call::Reset,
+        Call::Image,
+    ];
+    let filled = rng.byte();
+    for call in calls {
+        let length = match rng.one_in(8) {
+            true => length(&call, rng),
+            false => beside::length_of(&call),
+        };
+        let lent = vec![filled; length];
+        let fate = beside::damaged(record, &lent, &call).map_err(|difference| {
+            let line = Line {
+                lend: Some(length),
+                call: call.clone(),
+            };
+            format!("{}\non {record:?}\n{difference}", script::show(&line))
+        })?;
+        *match fate {
+            Fate::NoPacking => &mut tally.no_packing,
+            Fate::Refused => &mut tally.refused,
+            Fate::OtherCode => &mut tally.other_code,
+            Fate::Taken => &mut tally.taken,
+            Fate::Unsettled => &mut tally.unsettled,
+        } += 1;
+    }
+    Ok(())
+}

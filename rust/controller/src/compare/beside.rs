@@ -1,0 +1,334 @@
+//! The same call on the library, on the reference and on the baseline.
+
+use std::format;
+use std::string::String;
+use std::vec::Vec;
+
+use reference::controller as other;
+use reference::drive::{Call, Drive as Other};
+use reference::image;
+
+use super::mapping::{alike, record_of, settled};
+use crate::baseline;
+use crate::{raw, Answer, Code, Drive, BUFFER, SECTOR_BYTES};
+
+/// The longest buffer that is lent.
+pub const MOST_LENT: usize = 600;
+
+/// Bytes in front of lent ones and behind them, which no call may touch.
+const MARGIN: usize = 16;
+const MARK: u8 = 0xA5;
+
+/// What an image call is lent.
+const LENT: u8 = 0xEE;
+
+/// Lent bytes between two margins.
+#[derive(Clone, Debug)]
+struct Lent {
+    arena: [u8; MARGIN + MOST_LENT + MARGIN],
+    length: usize,
+}
+
+impl Lent {
+    /// Lends these bytes, cut or filled up with zeros.
+    fn new(bytes: &[u8], length: usize) -> Lent {
+        let mut arena = [MARK; MARGIN + MOST_LENT + MARGIN];
+        let lent = &mut arena[MARGIN..MARGIN + length];
+        let same = length.min(bytes.len());
+        lent[..same].copy_from_slice(&bytes[..same]);
+        lent[same..].fill(0);
+        Lent { arena, length }
+    }
+
+    fn bytes(&self) -> &[u8] {
+        &self.arena[MARGIN..MARGIN + self.length]
+    }
+
+    fn bytes_mut(&mut self) -> &mut [u8] {
+        &mut self.arena[MARGIN..MARGIN + self.length]
+    }
+
+    fn margins_stay(&self) -> bool {
+        let (front, rest) = self.arena.split_at(MARGIN);
+        let all = |bytes: &[u8]| bytes.iter().all(|&byte| byte == MARK);
+        all(front) && all(&rest[self.length..])
+    }
+}
+
+/// The three implementations with the same history.
+#[derive(Clone, Debug)]
+pub struct Beside {
+    library: Drive,
+    buffer: Lent,
+    reference: Other,
+    baseline: baseline::Drive,
+    baseline_buffer: [u8; BUFFER],
+}
+
+impl Default for Beside {
+    fn default() -> Beside {
+        Beside::new()
+    }
+}
+
+impl Beside {
+    /// Drives that were never started.
+    pub fn new() -> Beside {
+        Beside {
+            library: Drive::new(),
+            buffer: Lent::new(&[0; BUFFER], BUFFER),
+            reference: Other::new(),
+            baseline: baseline::Drive::new(),
+            baseline_buffer: [0; BUFFER],
+        }
+    }
+
+    /// The library's record.
+    pub fn record(&self) -> &raw::Drive {
+        self.library.record()
+    }
+
+    /// The buffer as the last call left it.
+    pub fn buffer(&self) -> &[u8] {
+        self.buffer.bytes()
+    }
+
+    /// Whether the phase awaits an access, and the reference's phase.
+    pub fn phase(&self) -> other::Phase {
+        self.reference.record.phase
+    }
+
+    /// Makes a call on all of them and says what is not the same.
+    pub fn call(&mut self, lend: Option<usize>, call: &Call) -> Result<Answer, String> {
+        let before = self.library.clone();
+        let returned = self.reference.lend(lend, call);
+        let wanted = told(returned.answer);
+
+        let answer = if *call == Call::Image {
+            let image = returned.image.unwrap_or_default();
+            let length = lend.unwrap_or(SECTOR_BYTES);
+            let full = [LENT; SECTOR_BYTES];
+            let mut lent = Lent::new(&full, length);
+            let answer = self.library.image(lent.bytes_mut());
+            if !lent.margins_stay() {
+                return Err(String::from("bytes around the lent ones were changed"));
+            }
+            // Of another length than 532 they must be as they were.
+            let left = match length {
+                SECTOR_BYTES => Lent::new(&image, length),
+                _ => Lent::new(&full, length),
+            };
+            if lent.bytes() != left.bytes() {
+                return Err(String::from("the image is another"));
+            }
+            let mut second = Lent::new(&full, length);
+            let base = self.baseline.image(second.bytes_mut());
+            if base != wanted || second.bytes() != left.bytes() {
+                return Err(format!("the baseline answers {base:?}, not {wanted:?}"));
+            }
+            if self.library != before {
+                return Err(String::from("an image call changed the record"));
+            }
+            answer
+        } else {
+            self.lent_call(lend.unwrap_or(BUFFER), call, wanted)?
+        };
+
+        if answer != wanted {
+            return Err(format!(
+                "the library answers {answer:?}, the reference {wanted:?}"
+            ));
+        }
+        if matches!(answer, Answer::Refused(_)) && self.library != before {
+            return Err(String::from("a refused call changed the record"));
+        }
+        match record_of(self.library.record()) {
+            None => Err(String::from("the record left is no packing")),
+            Some(record) if !alike(&record, &self.reference.record) => Err(format!(
+                "the records differ: {record:?}\nand {:?}",
+                self.reference.record
+            )),
+            Some(_) => Ok(answer),
+        }
+    }
+
+    /// A call with a buffer of this length.
+    fn lent_call(&mut self, length: usize, call: &Call, wanted: Answer) -> Result<Answer, String> {
+        let mut lent = match length {
+            BUFFER => self.buffer.clone(),
+            _ => Lent::new(self.buffer.bytes(), length),
+        };
+        let before = match length {
+            BUFFER => None,
+            _ => Some(lent.bytes().to_vec()),
+        };
+        let mut second = Lent::new(&self.baseline_buffer, length);
+        let base = on_baseline(&mut self.baseline, second.bytes_mut(), call);
+        let answer = on_library(&mut self.library, lent.bytes_mut(), call);
+        if !lent.margins_stay() {
+            return Err(String::from("bytes around the buffer were changed"));
+        }
+        match before {
+            Some(before) => {
+                if lent.bytes() != before {
+                    return Err(String::from("a buffer of another length was changed"));
+                }
+            }
+            None => {
+                self.buffer = lent;
+                self.baseline_buffer.copy_from_slice(second.bytes());
+            }
+        }
+        if self.buffer.bytes() != self.reference.buffer {
+            return Err(String::from("the buffers differ"));
+        }
+        if base != wanted || self.baseline_buffer[..] != self.reference.buffer[..] {
+            return Err(format!("the baseline answers {base:?}, not {wanted:?}"));
+        }
+        Ok(answer)
+    }
+}
+
+fn on_library(drive: &mut Drive, buffer: &mut [u8], call: &Call) -> Answer {
+    match call {
+        Call::Start => drive.start(buffer),
+        Call::Raise => drive.raise(buffer),
+        Call::Lower(byte) => drive.lower(buffer, *byte),
+        Call::Feed(bytes) => drive.feed(buffer, bytes),
+        Call::Surface(answer, bytes) => drive.surface(buffer, *answer, bytes),
+        Call::Reset => drive.reset(buffer),
+        Call::Image => drive.image(buffer),
+    }
+}
+
+fn on_baseline(drive: &mut baseline::Drive, buffer: &mut [u8], call: &Call) -> Answer {
+    match call {
+        Call::Start => drive.start(buffer),
+        Call::Raise => drive.raise(buffer),
+        Call::Lower(byte) => drive.lower(buffer, *byte),
+        Call::Feed(bytes) => drive.feed(buffer, bytes),
+        Call::Surface(answer, bytes) => drive.surface(buffer, *answer, bytes),
+        Call::Reset => drive.reset(buffer),
+        Call::Image => drive.image(buffer),
+    }
+}
+
+fn on_reference(record: &mut other::Record, buffer: &mut [u8], call: &Call) -> other::Answer {
+    match call {
+        Call::Start => record.start(buffer),
+        Call::Raise => record.raise(buffer),
+        Call::Lower(byte) => record.lower(buffer, *byte),
+        Call::Feed(bytes) => record.feed(buffer, bytes),
+        Call::Surface(answer, bytes) => record.surface(buffer, *answer, bytes),
+        Call::Reset => record.reset(buffer),
+        Call::Image => record.image(buffer),
+    }
+}
+
+/// The reference's answer in this crate's words.
+fn told(answer: other::Answer) -> Answer {
+    let sector = |sector: reference::geometry::Sector| crate::Sector(sector.number());
+    match answer {
+        other::Answer::Wait => Answer::Wait,
+        other::Answer::Offer(offer) => Answer::Offer(match offer {
+            other::Offer::Command => crate::Offer::Command,
+            other::Offer::Read => crate::Offer::Read,
+            other::Offer::Write => crate::Offer::Write,
+            other::Offer::Verify => crate::Offer::Verify,
+            other::Offer::Act => crate::Offer::Act,
+        }),
+        other::Answer::Read(at) => Answer::Read(sector(at)),
+        other::Answer::Write(at) => Answer::Write(sector(at)),
+        other::Answer::Store => Answer::Store,
+        other::Answer::Finished => Answer::Finished,
+        other::Answer::Refused(code) => Answer::Refused(match code {
+            other::Code::Record => Code::Record,
+            other::Code::Buffer => Code::Buffer,
+            other::Code::Place => Code::Place,
+            other::Code::Answer => Code::Answer,
+            other::Code::Bytes => Code::Bytes,
+        }),
+    }
+}
+
+/// How a call on a damaged record went.
+#[derive(Clone, Copy, Debug, PartialEq, Eq)]
+pub enum Fate {
+    /// Refused with 1: the numbers are no packing.
+    NoPacking,
+    /// Refused with 1.
+    Refused,
+    /// Refused with another code.
+    OtherCode,
+    /// Taken, and what came of it is the same on both.
+    Taken,
+    /// Taken where document 01 does not say what comes of it.
+    Unsettled,
+}
+
+/// Makes one call on a record that no call returned, and says what is not as it
+/// must be.
+pub fn damaged(record: &raw::Drive, lent: &[u8], call: &Call) -> Result<Fate, String> {
+    let before = Drive::from(*record);
+    let mut drive = before.clone();
+    let mut buffer = Lent::new(lent, lent.len());
+    let answer = on_library(&mut drive, buffer.bytes_mut(), call);
+    if !buffer.margins_stay() {
+        return Err(String::from("bytes around the buffer were changed"));
+    }
+    let unchanged = drive == before && buffer.bytes() == lent;
+    let refused = matches!(answer, Answer::Refused(_));
+    if refused && !unchanged {
+        return Err(format!("refused with {answer:?}, and changed"));
+    }
+
+    let mut other_buffer: Vec<u8> = lent.to_vec();
+    let packed = record_of(record);
+    let (wanted, next) = match packed {
+        None if *call != Call::Start => (Answer::Refused(Code::Record), None),
+        packed => {
+            let mut other = packed.unwrap_or_default();
+            let answer = on_reference(&mut other, &mut other_buffer, call);
+            (told(answer), Some(other))
+        }
+    };
+    let Some(next) = next else {
+        return match answer == wanted {
+            true => Ok(Fate::NoPacking),
+            false => Err(format!("no packing, and answered {answer:?}")),
+        };
+    };
+    let wanted_refused = matches!(wanted, Answer::Refused(_));
+    let sure = settled(record) || *call == Call::Start || *call == Call::Image;
+    if refused || wanted_refused || sure {
+        if answer != wanted {
+            return Err(format!(
+                "the library answers {answer:?}, the reference {wanted:?}"
+            ));
+        }
+        if buffer.bytes() != other_buffer {
+            return Err(String::from("the buffers differ"));
+        }
+    }
+    if answer == Answer::Refused(Code::Record) {
+        return Ok(Fate::Refused);
+    }
+    if refused {
+        return Ok(Fate::OtherCode);
+    }
+    match record_of(drive.record()) {
+        None => Err(String::from("the record left is no packing")),
+        Some(left) if !left.valid() => Err(format!("a record is left that is refused: {left:?}")),
+        Some(_) if !sure => Ok(Fate::Unsettled),
+        Some(left) if alike(&left, &next) => Ok(Fate::Taken),
+        Some(left) => Err(format!("the records differ: {left:?}\nand {next:?}")),
+    }
+}
+
+/// The length that a call asks for.
+pub fn length_of(call: &Call) -> usize {
+    match call {
+        Call::Image => image::LENGTH,
+        _ => BUFFER,
+    }
+}

@@ -1,0 +1,304 @@
+//! Records that no call returned: each field on both sides of each bound.
+
+use std::vec::Vec;
+
+use reference::rng::Rng;
+
+use crate::raw::{self, kind};
+
+/// A record of any kind with every number in or near its bounds, and then up to
+/// three fields changed.
+pub fn record(rng: &mut Rng) -> raw::Drive {
+    let mut drive = sound(rng);
+    for _ in 0..rng.pick(&[0, 0, 1, 1, 1, 2, 3]) {
+        field(&mut drive, rng);
+    }
+    drive
+}
+
+/// Another record with up to three fields changed.
+pub fn of(drive: &raw::Drive, rng: &mut Rng) -> raw::Drive {
+    let mut drive = *drive;
+    for _ in 0..rng.pick(&[1, 1, 1, 2, 3]) {
+        field(&mut drive, rng);
+    }
+    drive
+}
+
+/// A record that code 1 lets pass, more often than not.
+fn sound(rng: &mut Rng) -> raw::Drive {
+    let mut drive = raw::Drive::NEW;
+    drive.nspares = rng.pick(&[0, 0, 1, 5, 10, 31, 32]);
+    drive.nbads = rng.pick(&[0, 0, 1, 5, 10, 99, 100]);
+    // No list is long enough to come back to its first block; with a step of 512
+    // that takes one more at each round of 19.
+    let (first, step) = (rng.below(9728), rng.pick(&[1, 7, 512, 4097]));
+    let block = |place: usize| {
+        let place = place as u32;
+        let round = if step == 512 { place / 19 } else { 0 };
+        ((first + place * step + round) % 9728) as u16
+    };
+    for (place, spare) in drive.spares.iter_mut().enumerate() {
+        *spare = block(place);
+        if rng.one_in(6) {
+            *spare = raw::DEAD;
+        }
+    }
+    for (place, bad) in drive.bads.iter_mut().enumerate() {
+        *bad = block(place + 3);
+    }
+    drive.count = rng.pick(&[0, 3, 4, 5, 6, 6]);
+    drive.fed = rng.pick(&[0, 0, 1, 531, 532, 533]);
+    let mark = |rng: &mut Rng| u8::from(rng.one_in(2));
+    drive.flags = raw::Flags {
+        known: u8::from(!rng.one_in(6)),
+        changed: mark(rng),
+        latch: u8::from(rng.one_in(4)),
+        fresh: mark(rng),
+    };
+    let [_, high, middle, low] = rng
+        .pick(&[17, 9727, 9728, 0xFF_FFFE, 0xFF_FFFF, u32::from(block(0))])
+        .to_be_bytes();
+    drive.command = [
+        rng.below(4) as u8,
+        high,
+        middle,
+        low,
+        rng.byte(),
+        rng.byte(),
+    ];
+    drive.stage = stage(&drive, rng);
+    drive
+}
+
+fn stage(drive: &raw::Drive, rng: &mut Rng) -> raw::Stage {
+    let mut stage = raw::Stage {
+        kind: rng.below(10) as u8,
+        ..raw::Stage::default()
+    };
+    let mark = |rng: &mut Rng| u8::from(rng.one_in(2));
+    match stage.kind {
+        kind::OFFER => stage.detail = rng.pick(&[1, 2, 3, 4, 6]),
+        kind::START => stage.detail = rng.pick(&[0, 1, 9, 10, 11]),
+        kind::WRITE => stage.sector = sector(drive, rng),
+        kind::READ => {
+            stage.first = mark(rng);
+            stage.left = rng.pick(&[0, 0, 1, 2, 100, 254, 255]);
+            stage.spent = rng.pick(&[0, 0, 1, 80, 81, 88, 89, 90]);
+            stage.threshold = rng.pick(&[0, 1, 3, 255]);
+            stage.good = mark(rng);
+        }
+        kind::ATTEMPT_WRITE | kind::ATTEMPT_READ => {
+            stage.detail = rng.pick(&[0, 1, 1, 2, 2, 3]);
+            stage.spare = mark(rng);
+        }
+        _ => {}
+    }
+    if matches!(
+        stage.kind,
+        kind::READ | kind::ATTEMPT_WRITE | kind::ATTEMPT_READ
+    ) {
+        stage.block = rng.pick(&[0, 17, 4927, 4928, 9727, 9728]);
+        stage.sector = sector(drive, rng);
+        stage.errors = rng.pick(&[0, 0, 1, 2, 155, 254, 255]);
+        stage.crc = mark(rng);
+        stage.timeout = mark(rng);
+    }
+    stage
+}
+
+/// A sector in or out of range, the next unused spare often.
+fn sector(drive: &raw::Drive, rng: &mut Rng) -> u32 {
+    let next = 4928 + drive.nspares.min(40) as u32;
+    rng.pick(&[
+        0,
+        17,
+        9791,
+        9792,
+        4928,
+        4959,
+        4960,
+        65_536,
+        next,
+        next,
+        next,
+        next,
+        next - 1,
+        next + 1,
+    ])
+}
+
+/// Changes one field to a value at some bound, or to any.
+fn field(drive: &mut raw::Drive, rng: &mut Rng) {
+    const COUNTS: [usize; 15] = [
+        0,
+        1,
+        5,
+        6,
+        7,
+        31,
+        32,
+        33,
+        99,
+        100,
+        101,
+        533,
+        534,
+        1 << 32,
+        usize::MAX,
+    ];
+    const ENTRIES: [u16; 8] = [0, 17, 9727, 9728, 65_533, raw::DEAD, 65_535, 512];
+    let byte = match rng.below(12) {
+        0 => rng.byte(),
+        _ => rng.pick(&[0, 1, 2, 3, 6, 9, 10, 11, 89, 90, 255]),
+    };
+    let stage = &mut drive.stage;
+    let flags = &mut drive.flags;
+    match rng.below(28) {
+        0 | 1 => drive.spares[rng.place(32)] = rng.pick(&ENTRIES),
+        2 => drive.spares[rng.place(32)] = drive.spares[rng.place(32)],
+        3 | 4 => drive.bads[rng.place(100)] = rng.pick(&ENTRIES),
+        5 => drive.bads[rng.place(100)] = drive.bads[rng.place(100)],
+        6 => drive.nspares = rng.pick(&COUNTS),
+        7 => drive.nbads = rng.pick(&COUNTS),
+        8 => drive.count = rng.pick(&COUNTS),
+        9 => drive.fed = rng.pick(&[0, 1, 531, 532, 533, 534, 535, 1 << 32, usize::MAX]),
+        10 => {
+            stage.sector = match rng.below(4) {
+                0 => rng.word() as u32,
+                _ => rng.pick(&[0, 1, 4927, 4928, 4959, 4960, 9791, 9792, 65_536, u32::MAX]),
+            }
+        }
+        11 => stage.block = rng.pick(&ENTRIES),
+        12 => stage.kind = rng.pick(&[0, 1, 2, 3, 4, 5, 6, 7, 8, 9, 10, 11, 255]),
+        13 => stage.detail = byte,
+        14 => stage.first = byte,
+        15 => stage.left = byte,
+        16 => stage.spent = byte,
+        17 => stage.threshold = byte,
+        18 => stage.good = byte,
+        19 => stage.spare = byte,
+        20 => stage.errors = byte,
+        21 => stage.crc = byte,
+        22 => stage.timeout = byte,
+        23 => flags.known = byte,
+        24 => flags.changed = byte,
+        25 => flags.latch = byte,
+        26 => flags.fresh = byte,
+        _ => drive.command[rng.place(6)] = byte,
+    }
+}
+
+/// The fields of one byte.
+const BYTES: [fn(&mut raw::Drive) -> &mut u8; 21] = [
+    |drive| &mut drive.stage.kind,
+    |drive| &mut drive.stage.detail,
+    |drive| &mut drive.stage.first,
+    |drive| &mut drive.stage.left,
+    |drive| &mut drive.stage.spent,
+    |drive| &mut drive.stage.threshold,
+    |drive| &mut drive.stage.good,
+    |drive| &mut drive.stage.spare,
+    |drive| &mut drive.stage.errors,
+    |drive| &mut drive.stage.crc,
+    |drive| &mut drive.stage.timeout,
+    |drive| &mut drive.flags.known,
+    |drive| &mut drive.flags.changed,
+    |drive| &mut drive.flags.latch,
+    |drive| &mut drive.flags.fresh,
+    |drive| &mut drive.command[0],
+    |drive| &mut drive.command[1],
+    |drive| &mut drive.command[2],
+    |drive| &mut drive.command[3],
+    |drive| &mut drive.command[4],
+    |drive| &mut drive.command[5],
+];
+
+/// The counts.
+const COUNTS: [fn(&mut raw::Drive) -> &mut usize; 4] = [
+    |drive| &mut drive.nspares,
+    |drive| &mut drive.nbads,
+    |drive| &mut drive.count,
+    |drive| &mut drive.fed,
+];
+
+/// A sound record of each kind with one field changed: a byte to each of its
+/// values, another number to each one near a bound.
+pub fn sweep() -> Vec<raw::Drive> {
+    let mut records = Vec::new();
+    for sound in (0..10).flat_map(specimens) {
+        let mut with = |change: &dyn Fn(&mut raw::Drive)| {
+            let mut drive = sound;
+            change(&mut drive);
+            records.push(drive);
+        };
+        for byte in BYTES {
+            for value in 0..=255 {
+                with(&|drive| *byte(drive) = value);
+            }
+        }
+        for count in COUNTS {
+            let wide = [1 << 8, 1 << 16, 1 << 32, usize::MAX - 1, usize::MAX];
+            for value in (0..=110).chain(525..=540).chain(wide) {
+                with(&|drive| *count(drive) = value);
+            }
+        }
+        for block in (0..20).chain(9720..=9735).chain(65_530..=65_535) {
+            with(&|drive| drive.stage.block = block);
+            for place in [0, 2, 31] {
+                with(&|drive| drive.spares[place] = block);
+            }
+            for place in [0, 4, 99] {
+                with(&|drive| drive.bads[place] = block);
+            }
+        }
+        let wide = [65_535, 65_536, 65_536 + 4931, u32::MAX];
+        for sector in (0..5).chain(4920..=4970).chain(9785..=9800).chain(wide) {
+            with(&|drive| drive.stage.sector = sector);
+        }
+    }
+    records
+}
+
+/// Two sound records of a kind: for kinds with attempts on the present sector and
+/// on a spare, for reads with the first read and a reread awaited.
+fn specimens(kind: u8) -> [raw::Drive; 2] {
+    let mut drive = raw::Drive {
+        nspares: 3,
+        nbads: 5,
+        count: 6,
+        fed: 0,
+        command: [0, 0, 0, 17, 2, 1],
+        ..raw::Drive::NEW
+    };
+    for place in 0..32 {
+        drive.spares[place as usize] = 100 + place;
+    }
+    for place in 0..100 {
+        drive.bads[place as usize] = 200 + place;
+    }
+    drive.flags.known = 1;
+    drive.stage.kind = kind;
+    let mut other = drive;
+    match kind {
+        kind::OFFER => (drive.stage.detail, other.stage.detail) = (2, 6),
+        kind::START => (drive.stage.detail, other.stage.detail) = (1, 10),
+        kind::READ => {
+            (drive.stage.first, drive.stage.left) = (1, 2);
+            (other.stage.left, other.stage.errors) = (1, 1);
+        }
+        kind::ATTEMPT_WRITE | kind::ATTEMPT_READ => {
+            (drive.stage.detail, other.stage.detail) = (1, 2);
+            (other.stage.spare, other.stage.sector) = (1, 4931);
+        }
+        _ => other.flags.changed = 1,
+    }
+    if kind == kind::OFFER {
+        other.command[0] = 1;
+    }
+    if matches!(kind, kind::READ | kind::ATTEMPT_WRITE | kind::ATTEMPT_READ) {
+        (drive.stage.block, other.stage.block) = (17, 17);
+        drive.stage.sector = 17;
+    }
+    [drive, other]
+}

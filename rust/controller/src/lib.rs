@@ -1,0 +1,230 @@
+//! The proved controller for a board: seven calls over a record, and a buffer that
+//! each call is lent.
+//!
+//! `raw` is the library as C sees it, and `Drive` the safe API over it. The caller
+//! turns what happens on the bus and at the heads into calls and does what each
+//! call answers; `docs/BOARD.md` has the loop. With the feature `compare` there is
+//! also what the programs `fuzz` and `bench` use.
+
+#![no_std]
+
+#[cfg(any(test, feature = "compare"))]
+extern crate std;
+
+#[cfg(feature = "compare")]
+pub mod baseline;
+#[cfg(feature = "compare")]
+pub mod compare;
+pub mod raw;
+#[cfg(test)]
+mod tests;
+
+/// Length of the lent buffer: status 0..3, data 4..535.
+pub const BUFFER: usize = STATUS + SECTOR_BYTES;
+
+/// Length of its status part.
+pub const STATUS: usize = 4;
+
+/// Length of a sector, of the data part and of a table image.
+pub const SECTOR_BYTES: usize = 532;
+
+/// The sector of the table, to which a store goes.
+pub const TABLE: Sector = Sector(4960);
+
+/// The byte with which a lower goes on.
+pub const GO_ON: u8 = 0x55;
+
+/// A sector number. The library gives 0..9791 alone.
+#[derive(Clone, Copy, Debug, PartialEq, Eq, Hash, PartialOrd, Ord)]
+pub struct Sector(u32);
+
+impl Sector {
+    /// Its number.
+    pub fn number(self) -> u32 {
+        self.0
+    }
+
+    /// Where it is: cylinder, head, place on the track.
+    pub fn place(self) -> (u32, u32, u32) {
+        (self.0 / 64, self.0 / 16 % 4, self.0 % 16)
+    }
+}
+
+/// What the controller offers to do next.
+#[derive(Clone, Copy, Debug, PartialEq, Eq)]
+pub enum Offer {
+    /// Take a command.
+    Command = 0x01,
+    /// Read a block.
+    Read = 0x02,
+    /// Take the data of a write.
+    Write = 0x03,
+    /// Take the data of a write/verify.
+    Verify = 0x04,
+    /// Do the write or the write/verify.
+    Act = 0x06,
+}
+
+impl Offer {
+    /// The response byte.
+    pub fn byte(self) -> u8 {
+        self as u8
+    }
+}
+
+/// Why a call is refused.
+#[derive(Clone, Copy, Debug, PartialEq, Eq, PartialOrd, Ord)]
+pub enum Code {
+    /// The record is none that a call returned.
+    Record = 1,
+    /// The lent buffer has another length.
+    Buffer = 2,
+    /// The call is out of place.
+    Place = 3,
+    /// There is no such surface answer, or not to a write.
+    Answer = 4,
+    /// The bytes do not go with the surface answer.
+    Bytes = 5,
+}
+
+impl Code {
+    /// Its number.
+    pub fn number(self) -> u8 {
+        self as u8
+    }
+}
+
+/// What a call answers.
+#[derive(Clone, Copy, Debug, PartialEq, Eq)]
+pub enum Answer {
+    /// Nothing is to be done until the next event.
+    Wait,
+    /// Put the response byte on the bus.
+    Offer(Offer),
+    /// Read this sector, then call `surface`.
+    Read(Sector),
+    /// Write the data part to this sector, then call `surface`.
+    Write(Sector),
+    /// Write the bytes of `image` to `TABLE`, then call `surface`.
+    Store,
+    /// A command is over: the status bytes stand in the buffer.
+    Finished,
+    /// Nothing was done, and nothing changed.
+    Refused(Code),
+}
+
+impl Answer {
+    /// That of a reply. The library's contracts name no other replies than these.
+    fn new(reply: raw::Reply) -> Answer {
+        match (reply.kind, reply.value) {
+            (0, _) => Answer::Wait,
+            (1, 0x01) => Answer::Offer(Offer::Command),
+            (1, 0x02) => Answer::Offer(Offer::Read),
+            (1, 0x03) => Answer::Offer(Offer::Write),
+            (1, 0x04) => Answer::Offer(Offer::Verify),
+            (1, 0x06) => Answer::Offer(Offer::Act),
+            (2, sector) => Answer::Read(Sector(sector)),
+            (3, sector) => Answer::Write(Sector(sector)),
+            (4, _) => Answer::Store,
+            (5, _) => Answer::Finished,
+            (6, 1) => Answer::Refused(Code::Record),
+            (6, 2) => Answer::Refused(Code::Buffer),
+            (6, 3) => Answer::Refused(Code::Place),
+            (6, 4) => Answer::Refused(Code::Answer),
+            (6, 5) => Answer::Refused(Code::Bytes),
+            (kind, value) => unreachable!("the library answered {kind} {value}"),
+        }
+    }
+}
+
+/// How an access went, as `surface` is told.
+pub mod surface {
+    /// A read brings 532 bytes; a write, or the store, is done.
+    pub const GOOD: u8 = 0;
+    /// Reads only: 532 bytes came, with a CRC error.
+    pub const CRC: u8 = 1;
+    /// The sector was not found; brings no bytes.
+    pub const TIMEOUT: u8 = 2;
+    /// The heads did not settle; brings no bytes.
+    pub const NO_SETTLE: u8 = 3;
+}
+
+/// A drive's record. It begins as one that was never started.
+#[derive(Clone, Debug, PartialEq, Eq)]
+pub struct Drive {
+    record: raw::Drive,
+}
+
+impl Default for Drive {
+    fn default() -> Drive {
+        Drive::new()
+    }
+}
+
+impl From<raw::Drive> for Drive {
+    /// Any numbers may stand in the record: the calls refuse what is none.
+    fn from(record: raw::Drive) -> Drive {
+        Drive { record }
+    }
+}
+
+// A slice is never null, and a `&mut` slice overlaps neither the record nor the
+// bytes, so that the calls get all that the header asks for.
+impl Drive {
+    /// A drive that was never started.
+    pub const fn new() -> Drive {
+        Drive {
+            record: raw::Drive::NEW,
+        }
+    }
+
+    /// The record's numbers.
+    pub fn record(&self) -> &raw::Drive {
+        &self.record
+    }
+
+    /// Makes the record anew, whatever it was, zeroes the buffer and asks for the
+    /// table.
+    pub fn start(&mut self, buffer: &mut [u8]) -> Answer {
+        let (buf, len) = (buffer.as_mut_ptr(), buffer.len());
+        Answer::new(unsafe { raw::bv_start(&mut self.record, buf, len) })
+    }
+
+    /// CMD goes high.
+    pub fn raise(&mut self, buffer: &mut [u8]) -> Answer {
+        let (buf, len) = (buffer.as_mut_ptr(), buffer.len());
+        Answer::new(unsafe { raw::bv_raise(&mut self.record, buf, len) })
+    }
+
+    /// CMD goes low with this byte on the bus.
+    pub fn lower(&mut self, buffer: &mut [u8], byte: u8) -> Answer {
+        let (buf, len) = (buffer.as_mut_ptr(), buffer.len());
+        Answer::new(unsafe { raw::bv_lower(&mut self.record, buf, len, byte) })
+    }
+
+    /// The host sends bytes.
+    pub fn feed(&mut self, buffer: &mut [u8], bytes: &[u8]) -> Answer {
+        let (buf, len) = (buffer.as_mut_ptr(), buffer.len());
+        let (from, n) = (bytes.as_ptr(), bytes.len());
+        Answer::new(unsafe { raw::bv_feed(&mut self.record, buf, len, from, n) })
+    }
+
+    /// The access that was asked for is over.
+    pub fn surface(&mut self, buffer: &mut [u8], answer: u8, bytes: &[u8]) -> Answer {
+        let (buf, len) = (buffer.as_mut_ptr(), buffer.len());
+        let (from, n) = (bytes.as_ptr(), bytes.len());
+        Answer::new(unsafe { raw::bv_surface(&mut self.record, buf, len, answer, from, n) })
+    }
+
+    /// The host resets the controller.
+    pub fn reset(&mut self, buffer: &mut [u8]) -> Answer {
+        let (buf, len) = (buffer.as_mut_ptr(), buffer.len());
+        Answer::new(unsafe { raw::bv_reset(&mut self.record, buf, len) })
+    }
+
+    /// Writes the table's image into 532 lent bytes, and leaves the record.
+    pub fn image(&mut self, lent: &mut [u8]) -> Answer {
+        let (buf, len) = (lent.as_mut_ptr(), lent.len());
+        Answer::new(unsafe { raw::bv_image(&mut self.record, buf, len) })
+    }
+}

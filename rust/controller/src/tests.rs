@@ -1,0 +1,154 @@
+//! The library through its safe API, by hand.
+
+use std::vec;
+use std::vec::Vec;
+
+use crate::raw::{self, kind};
+use crate::{surface, Answer, Code, Drive, Offer, Sector, BUFFER, GO_ON, SECTOR_BYTES, TABLE};
+
+/// The image of a table with these entries.
+fn image(spares: &[u32], bads: &[u32]) -> Vec<u8> {
+    let mut bytes = b"PROFILE      \x00\x00\x00\x03\x90\x00\x26\x00\x02\x14\x20".to_vec();
+    bytes.extend([spares.len() as u8, bads.len() as u8]);
+    for list in [spares, bads] {
+        for entry in list {
+            bytes.extend(&entry.to_be_bytes()[1..]);
+        }
+        bytes.extend([0xFF; 3]);
+    }
+    bytes.resize(SECTOR_BYTES, 0);
+    bytes
+}
+
+/// A drive that has started with an empty table.
+fn started() -> (Drive, Vec<u8>) {
+    let (mut drive, mut buffer) = (Drive::new(), vec![7; BUFFER]);
+    assert_eq!(drive.start(&mut buffer), Answer::Read(TABLE));
+    assert_eq!(buffer, vec![0; BUFFER]);
+    let read = drive.surface(&mut buffer, surface::GOOD, &image(&[], &[]));
+    assert_eq!(read, Answer::Wait);
+    (drive, buffer)
+}
+
+/// Feeds a command, and data if there are any, up to the last handshake.
+fn command(drive: &mut Drive, buffer: &mut [u8], bytes: &[u8], data: &[u8]) -> Answer {
+    assert_eq!(drive.raise(buffer), Answer::Offer(Offer::Command));
+    assert_eq!(drive.lower(buffer, GO_ON), Answer::Wait);
+    assert_eq!(drive.feed(buffer, bytes), Answer::Wait);
+    let offered = drive.raise(buffer);
+    if bytes[0] == 0 {
+        assert_eq!(offered, Answer::Offer(Offer::Read));
+    } else {
+        let write = [Offer::Write, Offer::Verify][usize::from(bytes[0]) - 1];
+        assert_eq!(offered, Answer::Offer(write));
+        assert_eq!(drive.lower(buffer, GO_ON), Answer::Wait);
+        assert_eq!(drive.feed(buffer, data), Answer::Wait);
+        assert_eq!(drive.raise(buffer), Answer::Offer(Offer::Act));
+    }
+    drive.lower(buffer, GO_ON)
+}
+
+#[test]
+fn a_write_and_a_read() {
+    let (mut drive, mut buffer) = started();
+    let data = [0x5A; SECTOR_BYTES];
+    // 4928 is 1340 hex; its home lies behind cylinder 77.
+    let asked = command(&mut drive, &mut buffer, &[1, 0, 0x13, 0x40], &data);
+    assert_eq!(asked, Answer::Write(Sector(4992)));
+    assert_eq!(buffer[4..], data);
+    let done = drive.surface(&mut buffer, surface::GOOD, &[]);
+    assert_eq!(done, Answer::Finished);
+    assert_eq!(buffer[..4], [0, 0, 0x80, 0]);
+
+    let asked = command(&mut drive, &mut buffer, &[0, 0, 0x13, 0x40, 10, 3], &[]);
+    assert_eq!(asked, Answer::Read(Sector(4992)));
+    let done = drive.surface(&mut buffer, surface::GOOD, &[0xA5; SECTOR_BYTES]);
+    assert_eq!(done, Answer::Finished);
+    assert_eq!(buffer[..4], [0; 4]);
+    assert_eq!(buffer[4..], [0xA5; SECTOR_BYTES]);
+}
+
+#[test]
+fn a_block_that_moves_and_the_store() {
+    let (mut drive, mut buffer) = started();
+    let data = [0x11; SECTOR_BYTES];
+    let mut answer = command(&mut drive, &mut buffer, &[2, 0, 0, 17], &data);
+    for _ in 0..2 {
+        assert_eq!(answer, Answer::Write(Sector(17)));
+        answer = drive.surface(&mut buffer, surface::TIMEOUT, &[]);
+    }
+    assert_eq!(answer, Answer::Write(Sector(4928)));
+    answer = drive.surface(&mut buffer, surface::GOOD, &[]);
+    assert_eq!(answer, Answer::Read(Sector(4928)));
+    answer = drive.surface(&mut buffer, surface::GOOD, &data);
+    assert_eq!(answer, Answer::Finished);
+    assert_eq!(buffer[..4], [0x04, 0x04, 0x80, 0]);
+
+    assert_eq!(drive.raise(&mut buffer), Answer::Store);
+    let mut lent = [0; SECTOR_BYTES];
+    assert_eq!(drive.image(&mut lent), Answer::Wait);
+    assert_eq!(lent[..], image(&[17], &[]));
+    answer = drive.surface(&mut buffer, surface::GOOD, &[]);
+    assert_eq!(answer, Answer::Offer(Offer::Command));
+    assert_eq!(drive.reset(&mut buffer), Answer::Wait);
+    assert_eq!(drive.raise(&mut buffer), Answer::Offer(Offer::Command));
+}
+
+#[test]
+fn codes_in_their_order() {
+    let (mut drive, mut buffer) = started();
+    let refused = Answer::Refused;
+    let mut short = [0; BUFFER - 1];
+    assert_eq!(drive.raise(&mut short), refused(Code::Buffer));
+    assert_eq!(drive.start(&mut short), refused(Code::Buffer));
+    assert_eq!(drive.image(&mut buffer), refused(Code::Buffer));
+    assert_eq!(drive.lower(&mut buffer, GO_ON), refused(Code::Place));
+    assert_eq!(drive.feed(&mut buffer, &[]), refused(Code::Place));
+    assert_eq!(drive.surface(&mut buffer, 9, &[]), refused(Code::Place));
+    let asked = command(&mut drive, &mut buffer, &[0, 0, 0, 17, 0, 1], &[]);
+    assert_eq!(asked, Answer::Read(Sector(17)));
+    assert_eq!(drive.surface(&mut buffer, 4, &[]), refused(Code::Answer));
+    assert_eq!(drive.surface(&mut buffer, 0, &[]), refused(Code::Bytes));
+    assert_eq!(drive.surface(&mut buffer, 2, &[0]), refused(Code::Bytes));
+    assert_eq!(drive.reset(&mut buffer), refused(Code::Place));
+    assert_eq!(drive.raise(&mut short), refused(Code::Buffer));
+}
+
+#[test]
+fn records_that_are_none() {
+    let changes: [fn(&mut raw::Drive); 8] = [
+        |record| record.stage.kind = 10,
+        |record| record.stage.timeout = 1,
+        |record| record.flags.latch = 2,
+        |record| (record.stage.kind, record.stage.detail) = (kind::OFFER, 5),
+        |record| record.nspares = 33,
+        |record| (record.nbads, record.bads[0]) = (1, 9728),
+        |record| record.count = 7,
+        |record| record.fed = usize::MAX,
+    ];
+    for change in changes {
+        let (drive, buffer) = started();
+        let mut record = *drive.record();
+        change(&mut record);
+        let wrong = Drive::from(record);
+        let code = Answer::Refused(Code::Record);
+        let (mut drive, mut lent) = (wrong.clone(), buffer.clone());
+        assert_eq!(drive.raise(&mut lent), code);
+        assert_eq!(drive.lower(&mut lent, GO_ON), code);
+        assert_eq!(drive.feed(&mut lent, b"fed"), code);
+        assert_eq!(drive.surface(&mut lent, 2, &[]), code);
+        assert_eq!(drive.reset(&mut lent), code);
+        assert_eq!(drive.image(&mut lent), code);
+        // Code 1 comes before code 2.
+        assert_eq!(drive.raise(&mut []), code);
+        assert_eq!((&drive, &lent), (&wrong, &buffer));
+        assert_eq!(drive.start(&mut lent), Answer::Read(TABLE));
+    }
+}
+
+#[test]
+fn places_of_sectors() {
+    assert_eq!(TABLE.place(), (77, 2, 0));
+    assert_eq!(Sector(9791).place(), (152, 3, 15));
+    assert_eq!(Sector(9791).number(), 9791);
+}
