@@ -299,7 +299,7 @@ pub fn damaged(record: &raw::Drive, lent: &[u8], call: &Call) -> Result<Fate, St
         };
     };
     let wanted_refused = matches!(wanted, Answer::Refused(_));
-    let sure = settled(record) || *call == Call::Start || *call == Call::Image;
+    let sure = settled(record, call);
     if refused || wanted_refused || sure {
         if answer != wanted {
             return Err(format!(

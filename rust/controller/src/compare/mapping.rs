@@ -4,9 +4,11 @@ use std::vec;
 use std::vec::Vec;
 
 use reference::controller::{Job, Moving, Offer, Phase, Place, Reading, Record, Stage, Step};
+use reference::drive::Call;
 use reference::image::DEAD;
 
 use crate::raw::{self, kind};
+use crate::GO_ON;
 
 /// The first spare's sector, and how many there are.
 const FIRST_SPARE: u32 = 4928;
@@ -188,25 +190,23 @@ pub fn alike(one: &Record, other: &Record) -> bool {
         && (!data || one.data_count == other.data_count)
 }
 
-/// Whether a valid record is one that the two implementations must go on from in
-/// the same way. Where document 01 is silent, as no call returns such a record,
-/// they may differ: command bytes that do not go with the offer, a read's marks
-/// that do not go with its stage.
-pub fn settled(drive: &raw::Drive) -> bool {
+/// Whether the two implementations must do the same at a call on a valid record.
+/// Where document 01 is silent, as no call returns such a record, they may differ:
+/// in going on with command bytes or counts that do not go with the offer, and at
+/// a read's answer with marks that do not go with its stage.
+pub fn settled(drive: &raw::Drive, call: &Call) -> bool {
     let (stage, opcode, count) = (&drive.stage, drive.command[0], drive.count);
-    match (stage.kind, stage.detail) {
-        (kind::OFFER, 0x02) => opcode == 0 && count == 6 && drive.fed == 0,
-        (kind::OFFER, 0x06) => matches!(opcode, 1 | 2) && count >= 4,
-        // Without a byte there is no opcode.
-        (kind::COMMAND, _) => count > 0,
-        // A lower drops what was there.
-        (kind::OFFER, 0x01) => count == 0,
-        (kind::OFFER, _) => drive.fed == 0,
-        (kind::READ, _) if stage.first == 1 => stage.good == 0 && stage.spent == 0,
-        (kind::READ, _) if stage.left > 0 => stage.spent == 0,
-        (kind::READ, _) => stage.good == 0,
-        // The start makes its record without a table.
-        (kind::START, _) => drive.flags.known == 0 && drive.nspares == 0 && drive.nbads == 0,
+    match (call, stage.kind, stage.detail) {
+        // Offer 01 drops the bytes, and offers 02, 03 and 04 begin the data count.
+        (Call::Lower(GO_ON), kind::OFFER, 0x01) => count == 0,
+        (Call::Lower(GO_ON), kind::OFFER, 0x02) => opcode == 0 && count == 6 && drive.fed == 0,
+        (Call::Lower(GO_ON), kind::OFFER, 0x06) => matches!(opcode, 1 | 2) && count >= 4,
+        (Call::Lower(GO_ON), kind::OFFER, _) => drive.fed == 0,
+        (Call::Surface(..), kind::READ, _) if stage.first == 1 => {
+            stage.good == 0 && stage.spent == 0
+        }
+        (Call::Surface(..), kind::READ, _) if stage.left > 0 => stage.spent == 0,
+        (Call::Surface(..), kind::READ, _) => stage.good == 0,
         _ => true,
     }
 }
