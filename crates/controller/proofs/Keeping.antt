@@ -1,6 +1,6 @@
--- Raise, lower, feed and reset leave the table; raise and reset leave the buffer; only a well-formed image is loaded.
+-- Raise, lower, feed and reset leave the table; only a well-formed image is loaded.
 use mathlib.Core.Path.{_≡_, refl}
-use mathlib.Core.Bool.{true, cond, not, _&&_, _||_}
+use mathlib.Core.Bool.{Bool, true, cond, not, _&&_, _||_}
 use mathlib.Core.List.{List, []}
 use Prim.Native.Nat.{ℕ, _+_}
 use lib.Dec.{eqb, ltb, leb}
@@ -21,45 +21,12 @@ use Rattle.drive.specs.declared.Outcome.the-variants as outcome
 use Rattle.drive.specs.declared.Phase.{Phase}
 use Rattle.drive.specs.declared.Phase.the-variants as phase
 use Rattle.drive.specs.Words.{numberOf, opcodeOf, dataOf}
-use Rattle.drive.specs.Results.{Result, changed}
+use Rattle.drive.specs.Results.{Result, changed, guarded}
 use Rattle.drive.specs.Handshake.{raisedIdle, raised, writes, noNumber, acted, goesOn, lowered, fedTo, rested}
 use Rattle.drive.specs.Retries.{met, afterRead}
 use Rattle.drive.specs.Sparing.{nextAttempt, missed, brokenOff, verified, tried, checked}
 use Rattle.drive.specs.Access.{toRead, toWrite, startAnswered, storeAnswered, keptData, lost, settled, reads, readAnswered, writeAnswered, answered}
-use Rattle.records.proofs.Choices.{Aside, either}
 use Rattle.controller.specs.Loading.{isLoad}
-
--- RAISE AND RESET
-raise-idle-aside : (l : Line) (u v : List ℕ) → Aside v (raisedIdle l u) (raisedIdle l v)
-unfolding raisedIdle
-raise-idle-aside l u v =
-    either (l .marks .known && l .marks .changed && not (l .marks .latch)) (record { turn = refl; bytes = refl }) (record { turn = refl; bytes = refl })
-
-pub raise-aside : (p : Phase) (l : Line) (u v : List ℕ) → Aside v (raised p l u) (raised p l v)
-unfolding raised
-raise-aside phase.Idle l u v = raise-idle-aside l u v
-raise-aside (phase.Offered o) l u v = record { turn = refl; bytes = refl }
-raise-aside phase.Command l u v = record { turn = refl; bytes = refl }
-raise-aside phase.Data l u v = record { turn = refl; bytes = refl }
-raise-aside (phase.Starting k) l u v = record { turn = refl; bytes = refl }
-raise-aside phase.Storing l u v = record { turn = refl; bytes = refl }
-raise-aside (phase.Reading r) l u v = record { turn = refl; bytes = refl }
-raise-aside (phase.Writing s) l u v = record { turn = refl; bytes = refl }
-raise-aside (phase.Trying r) l u v = record { turn = refl; bytes = refl }
-raise-aside (phase.Checking r) l u v = record { turn = refl; bytes = refl }
-
-pub reset-aside : (p : Phase) (l : Line) (u v : List ℕ) → Aside v (rested p l u) (rested p l v)
-unfolding rested
-reset-aside phase.Idle l u v = record { turn = refl; bytes = refl }
-reset-aside (phase.Offered o) l u v = record { turn = refl; bytes = refl }
-reset-aside phase.Command l u v = record { turn = refl; bytes = refl }
-reset-aside phase.Data l u v = record { turn = refl; bytes = refl }
-reset-aside (phase.Starting k) l u v = record { turn = refl; bytes = refl }
-reset-aside phase.Storing l u v = record { turn = refl; bytes = refl }
-reset-aside (phase.Reading r) l u v = record { turn = refl; bytes = refl }
-reset-aside (phase.Writing s) l u v = record { turn = refl; bytes = refl }
-reset-aside (phase.Trying r) l u v = record { turn = refl; bytes = refl }
-reset-aside (phase.Checking r) l u v = record { turn = refl; bytes = refl }
 
 -- THE TABLE STAYS
 abbrev Stays : Table → Result → Type 0
@@ -137,6 +104,9 @@ lower-stays (phase.Writing s) l t u b = refl
 lower-stays (phase.Trying r) l t u b = refl
 lower-stays (phase.Checking r) l t u b = refl
 
+pub guarded-stays : (ok : Bool) (n : ℕ) (l : Line) (t : Table) (u : List ℕ) (x : Result) → Stays t x → Stays t (guarded ok n l u x)
+guarded-stays ok n l t u x h = branch (Stays t) ok (λ e. branch (Stays t) (eqb (length u) n) (λ e. h) (λ e. refl)) (λ e. refl)
+
 -- ONLY A WELL-FORMED IMAGE IS LOADED
 module _ (bs : List ℕ) where
   abbrev Formed : Result → Type 0
@@ -207,3 +177,6 @@ module _ (bs : List ℕ) where
   answered-formed (phase.Writing s) l t u a = to-write l u a (writeAnswered l u a) (write-formed l u a)
   answered-formed (phase.Trying r) l t u a = to-write l u a (tried l t r u a) (tried-formed l t r u a)
   answered-formed (phase.Checking r) l t u a = to-read l u a (checked l t r u a bs) (checked-formed l t r u a)
+
+  pub guarded-formed : (ok : Bool) (n : ℕ) (l : Line) (u : List ℕ) (x : Result) → Formed x → Formed (guarded ok n l u x)
+  guarded-formed ok n l u x h = branch Formed ok (λ e. branch Formed (eqb (length u) n) (λ e. h) (λ e. refl)) (λ e. refl)

@@ -18,36 +18,20 @@ use Rattle.drive.specs.declared.Step.{Step}
 use Rattle.drive.specs.declared.Answer.the-variants as answer
 use Rattle.drive.specs.declared.Refusal.the-variants as refusal
 use Rattle.drive.specs.Records.{phaseOk, lineOk, recordOk}
-use Rattle.drive.specs.Results.{Out, Result, changed}
+use Rattle.drive.specs.Results.{Out, Result, changed, guarded}
 use Rattle.drive.specs.Calls.{called, imageOutOf}
 use Rattle.records.specs.declared.Turn.{Turn}
 use Rattle.records.specs.Turns.{turnOf}
-
--- code 1's test and its two sides
-pub unsound : (d : Drive) (b : Bool) → b ≡ recordOk d → not b ≡ true → recordOk d ≡ false
-unsound d b e f = sym e ∙ not-true b f
-
-pub sound-so : (d : Drive) (b : Bool) → b ≡ recordOk d → not b ≡ false → recordOk d ≡ true
-sound-so d b e f = sym e ∙ not-false b f
 
 -- what a call hands back and leaves
 abbrev pub Gives : Step → List ℕ → Out → Type 0
 Gives s v x = (s ≡ x .step) × (v ≡ x .bytes)
 
-module _ (d : Drive) (u bs : List ℕ) (x : Result) where
-  -- code 1
-  pub no-record : recordOk d ≡ false → Gives (record { drive = d; answer = answer.Refused refusal.Record }) u (called d u bs x)
-  no-record e = (rw e, rw e)
-
-  -- code 2
-  pub no-buffer : recordOk d ≡ true → eqb (length u) 536 ≡ false → Gives (record { drive = d; answer = answer.Refused refusal.Buffer }) u (called d u bs x)
-  no-buffer e f = (rw (e, f), rw (e, f))
-
-  -- else the call's own rule
-  pub steps :
-      recordOk d ≡ true → eqb (length u) 536 ≡ true → (w : Turn) → w ≡ turnOf x → (t : Table) → t ≡ changed (x .change) (d .table) bs → (v : List ℕ) → v ≡ x .bytes
-      → Gives (record { drive = record { table = t; line = w .line }; answer = w .answer }) v (called d u bs x)
-  steps e f w h t k v z = (rw (e, f, h, k), rw (e, f, z))
+-- a call's step, of what the line's turn says
+pub steps :
+    (d : Drive) (u bs : List ℕ) (x : Result) (w : Turn) → w ≡ turnOf (guarded (recordOk d) 536 (d .line) u x) → (t : Table) → t ≡ changed (guarded (recordOk d) 536 (d .line) u x .change) (d .table) bs
+    → (v : List ℕ) → v ≡ guarded (recordOk d) 536 (d .line) u x .bytes → Gives (record { drive = record { table = t; line = w .line }; answer = w .answer }) v (called d u bs x)
+steps d u bs x w h t k v z = (rw (h, k), z)
 
 module _ (d : Drive) (u : List ℕ) where
   pub image-no-record : recordOk d ≡ false → Gives (record { drive = d; answer = answer.Refused refusal.Record }) u (imageOutOf d u)
@@ -68,28 +52,6 @@ module _ (d : Drive) (u : List ℕ) where
       → Gives (record { drive = d; answer = answer.Wait }) v (imageOutOf d u)
   unfolding imageOutOf
   image-gives e f k v z = (rw (e, f, k), z ∙ rw (e, f, k))
-
--- what code 1 says of the counts
-pub record Sound (d : Drive) : Type 0 where
-  pub spares : d .table .nspares ≤ 32
-  pub bads : d .table .nbads ≤ 100
-  pub count : d .line .count ≤ 6
-  pub fed : d .line .fed ≤ 533
-  pub line : lineOk (d .table .nspares) (d .line) ≡ true
-
-pub sound-of : (d : Drive) → recordOk d ≡ true → Sound d
-unfolding recordOk lineOk
-sound-of d h =
-    let l = and-right (tableOk (d .table)) (lineOk (d .table .nspares) (d .line)) h in
-    let t = passes (d .table) (and-left (tableOk (d .table)) (lineOk (d .table .nspares) (d .line)) h) in
-    let k = and-left (leb (d .line .count) 6 && leb (d .line .fed) 533) (phaseOk (d .table .nspares) (d .line .marks .known) (d .line .phase)) l in
-    record {
-      spares = t .few-spares;
-      bads = t .few-bads;
-      count = leb-true (d .line .count) 6 (and-left (leb (d .line .count) 6) (leb (d .line .fed) 533) k);
-      fed = leb-true (d .line .fed) 533 (and-right (leb (d .line .count) 6) (leb (d .line .fed) 533) k);
-      line = l;
-    }
 
 -- a buffer filled from its start to its end
 pub filled : (n v : ℕ) (u : List ℕ) → length u ≡ n → over 0 (replicate n v) u ≡ replicate n v

@@ -2,11 +2,9 @@
 // back with the answer; the buffer is lent. What a call gives for any record, any buffer and any
 // argument is its definition in the crate drive, specs/Calls.
 ghost use mathlib.Core.Path.{_≡_};
-ghost use mathlib.Core.Bool.{true, not, _&&_, _||_};
+ghost use mathlib.Core.Bool.{true, not, _||_};
 ghost use lib.ListN.{length, take};
-ghost use Rattle.table.specs.Tables.{listsOk};
 ghost use Rattle.image.specs.Images.{wellFormed, tableOf, written};
-ghost use Rattle.drive.specs.Records.{lineOk};
 ghost use Rattle.drive.specs.Results.{changed};
 ghost use Rattle.drive.specs.Calls.{started, startOf, raiseOf, lowerOf, feedOf, surfaceOf, resetOf, imageOutOf};
 ghost use Rattle.records.specs.Turns.{lent};
@@ -21,13 +19,6 @@ use drive::Refusal;
 use drive::Step;
 use image::Found;
 use table::Table;
-
-// Code 1, over the record's parts.
-fn sound<'a>(spares: &'a [u16], n: usize, bads: &'a [u16], m: usize, l: Line) -> bool
-    ensures { λ r. ⌜ r ≡ (listsOk (now (spares .entry)) n (now (bads .entry)) m && lineOk n l) ⌝ }
-{
-    table::lists_ok(spares, n, bads, m) & records::line_ok(n, l)
-}
 
 // The table of an image.
 fn load(bytes: &[u8]) -> Table
@@ -120,19 +111,7 @@ impl Controller {
         let d = self.0;
         let t = d.table;
         let l = d.line;
-        if !sound(&t.spares, t.nspares, &t.bads, t.nbads, l) {
-            return Step {
-                drive: d,
-                answer: Answer::Refused(Refusal::Record),
-            };
-        }
-        if buf.len() != 536 {
-            return Step {
-                drive: d,
-                answer: Answer::Refused(Refusal::Buffer),
-            };
-        }
-        let turn = handshake::raise(l);
+        let turn = calls::raise(&t.spares, t.nspares, &t.bads, t.nbads, l, buf);
         let next = turn.line;
         let answer = turn.answer;
         Step {
@@ -150,19 +129,7 @@ impl Controller {
         let d = self.0;
         let t = d.table;
         let l = d.line;
-        if !sound(&t.spares, t.nspares, &t.bads, t.nbads, l) {
-            return Step {
-                drive: d,
-                answer: Answer::Refused(Refusal::Record),
-            };
-        }
-        if buf.len() != 536 {
-            return Step {
-                drive: d,
-                answer: Answer::Refused(Refusal::Buffer),
-            };
-        }
-        let turn = acting::lower(l, &t.spares, t.nspares, &t.bads, t.nbads, buf, b);
+        let turn = calls::lower(&t.spares, t.nspares, &t.bads, t.nbads, l, buf, b);
         let next = turn.line;
         let answer = turn.answer;
         Step {
@@ -180,19 +147,7 @@ impl Controller {
         let d = self.0;
         let t = d.table;
         let l = d.line;
-        if !sound(&t.spares, t.nspares, &t.bads, t.nbads, l) {
-            return Step {
-                drive: d,
-                answer: Answer::Refused(Refusal::Record),
-            };
-        }
-        if buf.len() != 536 {
-            return Step {
-                drive: d,
-                answer: Answer::Refused(Refusal::Buffer),
-            };
-        }
-        let turn = feeding::feed(l, buf, bytes);
+        let turn = calls::feed(&t.spares, t.nspares, &t.bads, t.nbads, l, buf, bytes);
         let next = turn.line;
         let answer = turn.answer;
         Step {
@@ -210,22 +165,10 @@ impl Controller {
         let d = self.0;
         let t = d.table;
         let l = d.line;
-        if !sound(&t.spares, t.nspares, &t.bads, t.nbads, l) {
-            return Step {
-                drive: d,
-                answer: Answer::Refused(Refusal::Record),
-            };
-        }
-        if buf.len() != 536 {
-            return Step {
-                drive: d,
-                answer: Answer::Refused(Refusal::Buffer),
-            };
-        }
-        let turn = accesses::surface(l, t.nspares, &t.bads, t.nbads, buf, a, bytes);
-        let change = turn.change;
+        let turn = calls::surface(&t.spares, t.nspares, &t.bads, t.nbads, l, buf, a, bytes);
         let next = turn.line;
         let answer = turn.answer;
+        let change = turn.change;
         Step {
             drive: Drive {
                 table: alter(t, change, bytes),
@@ -241,19 +184,7 @@ impl Controller {
         let d = self.0;
         let t = d.table;
         let l = d.line;
-        if !sound(&t.spares, t.nspares, &t.bads, t.nbads, l) {
-            return Step {
-                drive: d,
-                answer: Answer::Refused(Refusal::Record),
-            };
-        }
-        if buf.len() != 536 {
-            return Step {
-                drive: d,
-                answer: Answer::Refused(Refusal::Buffer),
-            };
-        }
-        let turn = handshake::reset(l);
+        let turn = calls::reset(&t.spares, t.nspares, &t.bads, t.nbads, l, buf);
         let next = turn.line;
         let answer = turn.answer;
         Step {
@@ -272,7 +203,7 @@ impl Controller {
         let d = self.0;
         let t = d.table;
         let l = d.line;
-        if !sound(&t.spares, t.nspares, &t.bads, t.nbads, l) {
+        if !calls::sound(&t.spares, t.nspares, &t.bads, t.nbads, l) {
             return Step {
                 drive: d,
                 answer: Answer::Refused(Refusal::Record),

@@ -104,12 +104,13 @@ pub fn raise(p: Packed, buf: &mut [u8]) -> PackedStep
             reply: said(6, 1),
         };
     }
-    let d = packed::unpack(p);
-    let step = Controller(d).raise(buf);
-    let drive = step.drive;
-    let answer = step.answer;
+    let command = p.command;
+    let l = packed::unpack_line(s, f, command, p.count, p.fed);
+    let turn = calls::raise(&p.spares, p.nspares, &p.bads, p.nbads, l, buf);
+    let next = turn.line;
+    let answer = turn.answer;
     PackedStep {
-        packed: packed::pack(drive),
+        packed: packed::with_line(p, next),
         reply: spell(answer),
     }
 }
@@ -125,12 +126,13 @@ pub fn lower(p: Packed, buf: &mut [u8], b: u8) -> PackedStep
             reply: said(6, 1),
         };
     }
-    let d = packed::unpack(p);
-    let step = Controller(d).lower(buf, b);
-    let drive = step.drive;
-    let answer = step.answer;
+    let command = p.command;
+    let l = packed::unpack_line(s, f, command, p.count, p.fed);
+    let turn = calls::lower(&p.spares, p.nspares, &p.bads, p.nbads, l, buf, b);
+    let next = turn.line;
+    let answer = turn.answer;
     PackedStep {
-        packed: packed::pack(drive),
+        packed: packed::with_line(p, next),
         reply: spell(answer),
     }
 }
@@ -146,12 +148,13 @@ pub fn feed(p: Packed, buf: &mut [u8], bytes: &[u8]) -> PackedStep
             reply: said(6, 1),
         };
     }
-    let d = packed::unpack(p);
-    let step = Controller(d).feed(buf, bytes);
-    let drive = step.drive;
-    let answer = step.answer;
+    let command = p.command;
+    let l = packed::unpack_line(s, f, command, p.count, p.fed);
+    let turn = calls::feed(&p.spares, p.nspares, &p.bads, p.nbads, l, buf, bytes);
+    let next = turn.line;
+    let answer = turn.answer;
     PackedStep {
-        packed: packed::pack(drive),
+        packed: packed::with_line(p, next),
         reply: spell(answer),
     }
 }
@@ -188,12 +191,13 @@ pub fn reset(p: Packed, buf: &mut [u8]) -> PackedStep
             reply: said(6, 1),
         };
     }
-    let d = packed::unpack(p);
-    let step = Controller(d).reset(buf);
-    let drive = step.drive;
-    let answer = step.answer;
+    let command = p.command;
+    let l = packed::unpack_line(s, f, command, p.count, p.fed);
+    let turn = calls::reset(&p.spares, p.nspares, &p.bads, p.nbads, l, buf);
+    let next = turn.line;
+    let answer = turn.answer;
     PackedStep {
-        packed: packed::pack(drive),
+        packed: packed::with_line(p, next),
         reply: spell(answer),
     }
 }

@@ -300,6 +300,37 @@ pub fn is_packing(s: Stage, f: Flags) -> bool
     same(pack_phase(unpack_phase(s)), s) & are_flags(f)
 }
 
+// The line of a packed record's parts.
+pub fn unpack_line(s: Stage, f: Flags, command: [u8; 6], count: usize, fed: usize) -> Line
+    ensures { λ r. ⌜ r ≡ record { phase = phaseOf s; marks = marksOf f; command = command; count = count; fed = fed } ⌝ }
+{
+    let phase = unpack_phase(s);
+    let marks = unpack_marks(f);
+    Line {
+        phase: phase,
+        marks: marks,
+        command: command,
+        count: count,
+        fed: fed,
+    }
+}
+
+// A packed record with another line.
+pub fn with_line(p: Packed, l: Line) -> Packed
+    ensures { λ r. ⌜ r ≡ packOf (record { table = unpackOf p .table; line = l }) ⌝ }
+{
+    let mut q = p;
+    let phase = l.phase;
+    let marks = l.marks;
+    let command = l.command;
+    q.stage = pack_phase(phase);
+    q.flags = pack_marks(marks);
+    q.command = command;
+    q.count = l.count;
+    q.fed = l.fed;
+    q
+}
+
 pub fn pack(d: Drive) -> Packed
     ensures { λ r. ⌜ r ≡ packOf d ⌝ }
 {
