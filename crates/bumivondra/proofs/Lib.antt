@@ -1,4 +1,5 @@
 pub mod Thin
-pub mod ThinByte
-pub mod ThinBytes
 pub mod ThinByteBytes
+pub mod ThinLine
+pub mod ThinLineByte
+pub mod ThinLineBytes

@@ -1,5 +1,5 @@
 // What C and Rust callers link: the seven calls over a packed record that is lent. include/bumivondra.h says
-// the same in C, with what a caller owes.
+// the same in C, with what a caller owes. A call that leaves the table writes the line alone.
 ghost use mathlib.Core.Path.{_≡_};
 ghost use Rattle.drive.specs.declared.Drive.{Drive};
 ghost use Rattle.drive.specs.Calls.{startOf, raiseOf, lowerOf, feedOf, surfaceOf, resetOf, imageOutOf};
@@ -24,7 +24,7 @@ pub extern "C" fn bv_raise(drive: &mut Packed, buf: &mut [u8]) -> Reply
 {
     let d = *drive;
     let step = crossing::raise(d, buf);
-    *drive = step.packed;
+    drive.line = step.line;
     step.reply
 }
 
@@ -34,7 +34,7 @@ pub extern "C" fn bv_lower(drive: &mut Packed, buf: &mut [u8], byte: u8) -> Repl
 {
     let d = *drive;
     let step = crossing::lower(d, buf, byte);
-    *drive = step.packed;
+    drive.line = step.line;
     step.reply
 }
 
@@ -44,7 +44,7 @@ pub extern "C" fn bv_feed(drive: &mut Packed, buf: &mut [u8], bytes: &[u8]) -> R
 {
     let d = *drive;
     let step = crossing::feed(d, buf, bytes);
-    *drive = step.packed;
+    drive.line = step.line;
     step.reply
 }
 
@@ -64,7 +64,7 @@ pub extern "C" fn bv_reset(drive: &mut Packed, buf: &mut [u8]) -> Reply
 {
     let d = *drive;
     let step = crossing::reset(d, buf);
-    *drive = step.packed;
+    drive.line = step.line;
     step.reply
 }
 

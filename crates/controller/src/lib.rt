@@ -3,11 +3,10 @@
 // argument is its definition in the crate drive, specs/Calls.
 ghost use mathlib.Core.Path.{_≡_};
 ghost use mathlib.Core.Bool.{true, not, _||_};
-ghost use lib.ListN.{length, take};
+ghost use lib.ListN.{take};
 ghost use Rattle.image.specs.Images.{wellFormed, tableOf, written};
 ghost use Rattle.drive.specs.Results.{changed};
 ghost use Rattle.drive.specs.Calls.{started, startOf, raiseOf, lowerOf, feedOf, surfaceOf, resetOf, imageOutOf};
-ghost use Rattle.records.specs.Turns.{lent};
 ghost use Rattle.controller.specs.Loading.{isLoad};
 use drive::Answer;
 use drive::Change;
@@ -41,7 +40,7 @@ fn load(bytes: &[u8]) -> Table
 }
 
 // What an access makes of the table, given the bytes that it brought.
-fn alter(t: Table, c: Change, bytes: &[u8]) -> Table
+pub fn alter(t: Table, c: Change, bytes: &[u8]) -> Table
     requires { ⌜ (not (isLoad c) || wellFormed (now bytes)) ≡ true ⌝ }
     ensures { λ r. ⌜ r ≡ changed c t (now (bytes .entry)) ⌝ }
 {

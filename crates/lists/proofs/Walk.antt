@@ -4,9 +4,9 @@ use mathlib.Core.Bool.{Bool, true, false, not, cond, _&&_, _||_}
 use mathlib.Core.List.{List, [], _∷_}
 use Prim.Native.Nat.{ℕ, zero, suc, _%_, _+_, _≤_, _-_, _<_}
 use native.Mathlib.Omega.{arith}
-use borrow.Author.Tests.{eq-eqb, ne-eqb, eqb-true, eqb-false}
+use borrow.Author.Tests.{eq-eqb, ne-eqb, eqb-true, eqb-false, lt-ltb}
 use lib.Dec.{eqb}
-use lib.ListN.{length, drop, getD, set, drop-of-length-le}
+use lib.ListN.{length, drop, getD, set, replicate, drop-of-length-le}
 use lib.Seq.{getD-set-same, getD-set-other}
 use Rattle.lists.specs.Lists.{indexOf, memberOf, entryOk, entriesOk}
 use Rattle.logic.proofs.Bools.{clash, and-false}
@@ -43,25 +43,37 @@ fails marks s zero h = h
 fails marks [] (suc i) h = h
 fails marks (x ∷ s) (suc i) h = and-false (entryOk marks x s) _ (fails marks s i h)
 
--- what the classes tell of a list: a number whose class was not seen is not in it
-abbrev pub Classes : List Bool → List ℕ → Type 0
-Classes seen l = (y : ℕ) → getD seen (y % 512) false ≡ false → memberOf y l ≡ false
+-- what the w classes tell of a list: a number whose class was not seen is not in it
+abbrev pub Classes : ℕ → List Bool → List ℕ → Type 0
+Classes w seen l = (y : ℕ) → getD seen (y % w) false ≡ false → memberOf y l ≡ false
 
 pub member-none : (y : ℕ) → memberOf y [] ≡ false
 unfolding memberOf
 member-none y = refl
 
-seen-by : (t : Bool) (seen : List Bool) (l : List ℕ) (x y : ℕ) → eqb (y % 512) (x % 512) ≡ t → length seen ≡ 512 → Classes seen l
-    → getD (set seen (x % 512) true) (y % 512) false ≡ false → memberOf y (x ∷ l) ≡ false
+seen-by : (t : Bool) (w : ℕ) (seen : List Bool) (l : List ℕ) (x y : ℕ) → eqb (y % w) (x % w) ≡ t → x % w < length seen → Classes w seen l
+    → getD (set seen (x % w) true) (y % w) false ≡ false → memberOf y (x ∷ l) ≡ false
 unfolding memberOf
-seen-by true seen l x y q n h e =
-    let w = eqb-true (y % 512) (x % 512) q in
-    let i : x % 512 < length seen = omega arith in
-    clash (getD-set-same seen (x % 512) true false i) (rw w at e)
-seen-by false seen l x y q n h e =
-    let d = eqb-false (y % 512) (x % 512) q in
-    let f = ne-eqb x y (λ (g : x ≡ y). d (ap (λ (a : ℕ). a % 512) (sym g))) in
-    rw f (h y (sym (getD-set-other seen (x % 512) (y % 512) true false d) ∙ e))
+seen-by true w seen l x y q n h e =
+    let z = eqb-true (y % w) (x % w) q in
+    clash (getD-set-same seen (x % w) true false n) (rw z at e)
+seen-by false w seen l x y q n h e =
+    let d = eqb-false (y % w) (x % w) q in
+    let f = ne-eqb x y (λ (g : x ≡ y). d (ap (λ (a : ℕ). a % w) (sym g))) in
+    rw f (h y (sym (getD-set-other seen (x % w) (y % w) true false d) ∙ e))
 
-pub classes-more : (seen : List Bool) (l : List ℕ) (x : ℕ) → length seen ≡ 512 → Classes seen l → Classes (set seen (x % 512) true) (x ∷ l)
-classes-more seen l x n h y e = seen-by (eqb (y % 512) (x % 512)) seen l x y refl n h e
+pub classes-more : (w : ℕ) (seen : List Bool) (l : List ℕ) (x : ℕ) → x % w < length seen → Classes w seen l → Classes w (set seen (x % w) true) (x ∷ l)
+classes-more w seen l x n h y e = seen-by (eqb (y % w) (x % w)) w seen l x y refl n h e
+
+-- an entry whose class was not seen, and which is a block, may stand before the rest
+pub entry-new : (marks : Bool) (x : ℕ) (l : List ℕ) → x < 9728 → memberOf x l ≡ false → entryOk marks x l ≡ true
+unfolding entryOk
+entry-new marks x l b h =
+    let n = ne-eqb x 65534 (λ (e : x ≡ 65534). omega (arith, b, e)) in
+    rw (n, lt-ltb _ _ b, h)
+
+-- no class is seen at first
+pub none-seen : (n y : ℕ) → getD {A = Bool} (replicate n false) y false ≡ false
+none-seen zero y = refl
+none-seen (suc n) zero = refl
+none-seen (suc n) (suc y) = none-seen n y

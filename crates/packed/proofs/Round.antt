@@ -18,7 +18,7 @@ use Rattle.drive.specs.Words.{response}
 use Rattle.packed.specs.declared.Stage.{Stage}
 use Rattle.packed.specs.declared.Flags.{Flags}
 use Rattle.packed.specs.declared.Packed.{Packed}
-use Rattle.packed.specs.Packing.{bit, flag, offerOf, readStage, tryStage, stageOf, retryOf, trialOf, phaseOf, flagsOf, marksOf, packOf, unpackOf, sameStage, areFlags, isPacking}
+use Rattle.packed.specs.Packing.{bit, flag, offerOf, readStage, tryStage, stageOf, retryOf, trialOf, phaseOf, flagsOf, marksOf, packOf, unpackOf, sameStage, areFlags, isStage, isPacking}
 
 -- A RECORD IS UNPACKED FROM ITS PACKING
 
@@ -87,7 +87,7 @@ bit-small : (b : Bool) → leb (bit b) 1 ≡ true
 bit-small true = refl
 bit-small false = refl
 
-pub packs : (d : Drive) → isPacking (packOf d .stage) (packOf d .flags) ≡ true
+pub packs : (d : Drive) → isPacking (packOf d .line) ≡ true
 packs d =
     let m = d .line .marks in
     let e : sameStage (stageOf (phaseOf (stageOf (d .line .phase)))) (stageOf (d .line .phase)) ≡ true = rw (phase-back (d .line .phase)) (same-self (stageOf (d .line .phase))) in
@@ -95,7 +95,7 @@ packs d =
 
 -- WHAT IS A PACKING IS PACKED AGAIN TO ITSELF
 
-same-so : (a b : Stage) → sameStage a b ≡ true → a ≡ b
+pub same-so : (a b : Stage) → sameStage a b ≡ true → a ≡ b
 same-so a b h =
     let e0 = eqb (a .sector) (b .sector) in
     let e1 = eqb (a .block) (b .block) in
@@ -170,9 +170,9 @@ flags-back f h =
     let m = bit-flag (f .fresh) (and-right (a && b && c) e h) in
     λ i. record { known = k i; changed = g i; latch = l i; fresh = m i }
 
-pub packed-back : (b : Packed) → isPacking (b .stage) (b .flags) ≡ true → packOf (unpackOf b) ≡ b
-packed-back b h =
-    let s = sameStage (stageOf (phaseOf (b .stage))) (b .stage) in
-    let p = same-so (stageOf (phaseOf (b .stage))) (b .stage) (and-left s (areFlags (b .flags)) h) in
-    let q = flags-back (b .flags) (and-right s (areFlags (b .flags)) h) in
-    λ i. record { spares = b .spares; bads = b .bads; nspares = b .nspares; nbads = b .nbads; count = b .count; fed = b .fed; stage = p i; flags = q i; command = b .command }
+pub packed-back : (p : Packed) → isPacking (p .line) ≡ true → packOf (unpackOf p) ≡ p
+packed-back p h =
+    let l = p .line in
+    let e = same-so (stageOf (phaseOf (l .stage))) (l .stage) (and-left (isStage (l .stage)) (areFlags (l .flags)) h) in
+    let q = flags-back (l .flags) (and-right (isStage (l .stage)) (areFlags (l .flags)) h) in
+    λ i. record { table = p .table; line = record { count = l .count; fed = l .fed; stage = e i; flags = q i; command = l .command } }

@@ -2,8 +2,8 @@
 use mathlib.Core.Bool.{Bool, true, false, cond, not, _&&_}
 use Prim.Native.Nat.{ℕ}
 use lib.Dec.{eqb, leb}
-use Rattle.table.specs.declared.Table.{Table}
 use Rattle.drive.specs.declared.Drive.{Drive}
+use Rattle.drive.specs.declared.Line.{Line}
 use Rattle.drive.specs.declared.Marks.{Marks}
 use Rattle.drive.specs.declared.Offer.{Offer}
 use Rattle.drive.specs.declared.Offer.the-variants as offer
@@ -14,6 +14,7 @@ use Rattle.drive.specs.declared.Trial.{Trial}
 use Rattle.drive.specs.Words.{response}
 use Rattle.packed.specs.declared.Stage.{Stage}
 use Rattle.packed.specs.declared.Flags.{Flags}
+use Rattle.packed.specs.declared.PackedLine.{PackedLine}
 use Rattle.packed.specs.declared.Packed.{Packed}
 
 abbrev pub bit : Bool → ℕ
@@ -55,19 +56,12 @@ stageOf (phase.Checking r) = tryStage 9 r
 abbrev pub flagsOf : Marks → Flags
 flagsOf m = record { known = bit (m .known); changed = bit (m .changed); latch = bit (m .latch); fresh = bit (m .fresh) }
 
+abbrev pub packLine : Line → PackedLine
+packLine l = record { count = l .count; fed = l .fed; stage = stageOf (l .phase); flags = flagsOf (l .marks); command = l .command }
+
+-- the table holds numbers alone, and is packed as it is
 abbrev pub packOf : Drive → Packed
-packOf d =
-    record {
-      spares = d .table .spares;
-      bads = d .table .bads;
-      nspares = d .table .nspares;
-      nbads = d .table .nbads;
-      count = d .line .count;
-      fed = d .line .fed;
-      stage = stageOf (d .line .phase);
-      flags = flagsOf (d .line .marks);
-      command = d .line .command;
-    }
+packOf d = record { table = d .table; line = packLine (d .line) }
 
 -- UNPACKING
 
@@ -94,26 +88,29 @@ trialOf s =
       seen = record { errors = s .errors; crc = flag (s .crc); timeout = flag (s .timeout) };
     }
 
+-- the phase of this kind
+abbrev pub phaseAt : ℕ → Stage → Phase
+phaseAt k s =
+    cond (eqb k 1) (phase.Offered (offerOf (s .detail)))
+    (cond (eqb k 2) phase.Command
+    (cond (eqb k 3) phase.Data
+    (cond (eqb k 4) (phase.Starting (s .detail))
+    (cond (eqb k 5) phase.Storing
+    (cond (eqb k 6) (phase.Reading (retryOf s))
+    (cond (eqb k 7) (phase.Writing (record { 0 = s .sector }))
+    (cond (eqb k 8) (phase.Trying (trialOf s)) (cond (eqb k 9) (phase.Checking (trialOf s)) phase.Idle))))))))
+
 abbrev pub phaseOf : Stage → Phase
-phaseOf s =
-    cond (eqb (s .kind) 1) (phase.Offered (offerOf (s .detail)))
-    (cond (eqb (s .kind) 2) phase.Command
-    (cond (eqb (s .kind) 3) phase.Data
-    (cond (eqb (s .kind) 4) (phase.Starting (s .detail))
-    (cond (eqb (s .kind) 5) phase.Storing
-    (cond (eqb (s .kind) 6) (phase.Reading (retryOf s))
-    (cond (eqb (s .kind) 7) (phase.Writing (record { 0 = s .sector }))
-    (cond (eqb (s .kind) 8) (phase.Trying (trialOf s)) (cond (eqb (s .kind) 9) (phase.Checking (trialOf s)) phase.Idle))))))))
+phaseOf s = phaseAt (s .kind) s
 
 abbrev pub marksOf : Flags → Marks
 marksOf f = record { known = flag (f .known); changed = flag (f .changed); latch = flag (f .latch); fresh = flag (f .fresh) }
 
+abbrev pub unpackLine : PackedLine → Line
+unpackLine p = record { phase = phaseOf (p .stage); marks = marksOf (p .flags); command = p .command; count = p .count; fed = p .fed }
+
 abbrev pub unpackOf : Packed → Drive
-unpackOf b =
-    record {
-      table = record { spares = b .spares; bads = b .bads; nspares = b .nspares; nbads = b .nbads };
-      line = record { phase = phaseOf (b .stage); marks = marksOf (b .flags); command = b .command; count = b .count; fed = b .fed };
-    }
+unpackOf p = record { table = p .table; line = unpackLine (p .line) }
 
 -- WHICH NUMBERS ARE A PACKING: packing what they unpack to gives them again
 
@@ -136,5 +133,8 @@ sameStage a b =
 abbrev pub areFlags : Flags → Bool
 areFlags f = leb (f .known) 1 && leb (f .changed) 1 && leb (f .latch) 1 && leb (f .fresh) 1
 
-abbrev pub isPacking : Stage → Flags → Bool
-isPacking s f = sameStage (stageOf (phaseOf s)) s && areFlags f
+abbrev pub isStage : Stage → Bool
+isStage s = sameStage (stageOf (phaseOf s)) s
+
+abbrev pub isPacking : PackedLine → Bool
+isPacking p = isStage (p .stage) && areFlags (p .flags)

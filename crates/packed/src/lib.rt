@@ -2,7 +2,7 @@
 // what is no packing of any record is told apart.
 ghost use mathlib.Core.Path.{_≡_};
 ghost use Rattle.drive.specs.Words.{response};
-ghost use Rattle.packed.specs.Packing.{bit, flag, offerOf, bare, readStage, tryStage, stageOf, retryOf, trialOf, phaseOf, sameStage, flagsOf, marksOf, areFlags, isPacking, packOf, unpackOf};
+ghost use Rattle.packed.specs.Packing.{bit, flag, offerOf, bare, readStage, tryStage, stageOf, retryOf, trialOf, phaseOf, sameStage, flagsOf, marksOf, isStage, areFlags, isPacking, packLine, unpackLine, packOf, unpackOf};
 use drive::Drive;
 use drive::Line;
 use drive::Marks;
@@ -44,16 +44,18 @@ pub struct Flags {
 }
 
 #[repr(C)]
-pub struct Packed {
-    pub spares: [u16; 32],
-    pub bads: [u16; 100],
-    pub nspares: usize,
-    pub nbads: usize,
+pub struct PackedLine {
     pub count: usize,
     pub fed: usize,
     pub stage: Stage,
     pub flags: Flags,
     pub command: [u8; 6],
+}
+
+#[repr(C)]
+pub struct Packed {
+    pub table: Table,
+    pub line: PackedLine,
 }
 
 fn as_bit(b: bool) -> u8
@@ -293,61 +295,54 @@ fn are_flags(f: Flags) -> bool
     (f.known <= 1) & (f.changed <= 1) & (f.latch <= 1) & (f.fresh <= 1)
 }
 
-// Whether these are the packing of a record's phase and marks: packing what they unpack to gives them again.
-pub fn is_packing(s: Stage, f: Flags) -> bool
-    ensures { λ r. ⌜ r ≡ isPacking s f ⌝ }
+// Whether this is the packing of a phase: packing what it unpacks to gives it again. Each phase is asked
+// for the fields that it has.
+fn is_stage(s: Stage) -> bool
+    ensures { λ r. ⌜ r ≡ isStage s ⌝ }
 {
-    same(pack_phase(unpack_phase(s)), s) & are_flags(f)
-}
-
-// The line of a packed record's parts.
-pub fn unpack_line(s: Stage, f: Flags, command: [u8; 6], count: usize, fed: usize) -> Line
-    ensures { λ r. ⌜ r ≡ record { phase = phaseOf s; marks = marksOf f; command = command; count = count; fed = fed } ⌝ }
-{
-    let phase = unpack_phase(s);
-    let marks = unpack_marks(f);
-    Line {
-        phase: phase,
-        marks: marks,
-        command: command,
-        count: count,
-        fed: fed,
+    let k = s.kind;
+    if k == 1 {
+        return same(plain(1, as_response(as_offer(s.detail)), 0), s);
     }
+    if k == 4 {
+        return same(plain(4, s.detail, 0), s);
+    }
+    if k == 6 {
+        return same(pack_retry(unpack_retry(s)), s);
+    }
+    if k == 7 {
+        return same(plain(7, 0, s.sector), s);
+    }
+    if k == 8 {
+        return same(pack_trial(8, unpack_trial(s)), s);
+    }
+    if k == 9 {
+        return same(pack_trial(9, unpack_trial(s)), s);
+    }
+    if (k == 0) | (k == 2) | (k == 3) | (k == 5) {
+        return same(plain(k, 0, 0), s);
+    }
+    false
 }
 
-// A packed record with another line.
-pub fn with_line(p: Packed, l: Line) -> Packed
-    ensures { λ r. ⌜ r ≡ packOf (record { table = unpackOf p .table; line = l }) ⌝ }
+// Whether these are the packing of a record's line.
+pub fn is_packing(p: PackedLine) -> bool
+    ensures { λ r. ⌜ r ≡ isPacking p ⌝ }
 {
-    let mut q = p;
+    let s = p.stage;
+    let f = p.flags;
+    is_stage(s) & are_flags(f)
+}
+
+pub fn pack_line(l: Line) -> PackedLine
+    ensures { λ r. ⌜ r ≡ packLine l ⌝ }
+{
     let phase = l.phase;
     let marks = l.marks;
     let command = l.command;
-    q.stage = pack_phase(phase);
-    q.flags = pack_marks(marks);
-    q.command = command;
-    q.count = l.count;
-    q.fed = l.fed;
-    q
-}
-
-pub fn pack(d: Drive) -> Packed
-    ensures { λ r. ⌜ r ≡ packOf d ⌝ }
-{
-    let t = d.table;
-    let l = d.line;
-    let spares = t.spares;
-    let bads = t.bads;
-    let command = l.command;
-    let phase = l.phase;
-    let marks = l.marks;
     let stage = pack_phase(phase);
     let flags = pack_marks(marks);
-    Packed {
-        spares: spares,
-        bads: bads,
-        nspares: t.nspares,
-        nbads: t.nbads,
+    PackedLine {
         count: l.count,
         fed: l.fed,
         stage: stage,
@@ -356,26 +351,39 @@ pub fn pack(d: Drive) -> Packed
     }
 }
 
-pub fn unpack(b: Packed) -> Drive
-    ensures { λ r. ⌜ r ≡ unpackOf b ⌝ }
+pub fn unpack_line(p: PackedLine) -> Line
+    ensures { λ r. ⌜ r ≡ unpackLine p ⌝ }
 {
-    let spares = b.spares;
-    let bads = b.bads;
-    let command = b.command;
-    let phase = unpack_phase(b.stage);
-    let marks = unpack_marks(b.flags);
-    let t = Table {
-        spares: spares,
-        bads: bads,
-        nspares: b.nspares,
-        nbads: b.nbads,
-    };
-    let l = Line {
+    let phase = unpack_phase(p.stage);
+    let marks = unpack_marks(p.flags);
+    let command = p.command;
+    Line {
         phase: phase,
         marks: marks,
         command: command,
-        count: b.count,
-        fed: b.fed,
-    };
-    Drive { table: t, line: l }
+        count: p.count,
+        fed: p.fed,
+    }
+}
+
+pub fn pack(d: Drive) -> Packed
+    ensures { λ r. ⌜ r ≡ packOf d ⌝ }
+{
+    let t = d.table;
+    let l = d.line;
+    Packed {
+        table: t,
+        line: pack_line(l),
+    }
+}
+
+pub fn unpack(p: Packed) -> Drive
+    ensures { λ r. ⌜ r ≡ unpackOf p ⌝ }
+{
+    let t = p.table;
+    let l = p.line;
+    Drive {
+        table: t,
+        line: unpack_line(l),
+    }
 }

@@ -9,6 +9,7 @@ use geometry::Sector;
 use lists::DEAD;
 
 // The first nspares places of spares hold the spare list, the first nbads places of bads the bad list.
+#[repr(C)]
 pub struct Table {
     pub spares: [u16; 32],
     pub bads: [u16; 100],
@@ -26,10 +27,7 @@ pub enum NextSpare {
 pub fn lists_ok<'a>(spares: &'a [u16], n: usize, bads: &'a [u16], m: usize) -> bool
     ensures { λ r. ⌜ r ≡ listsOk (now (spares .entry)) n (now (bads .entry)) m ⌝ }
 {
-    (n <= 32)
-        & (m <= 100)
-        & lists::entries_ok(true, lists::cut(spares, n))
-        & lists::entries_ok(false, lists::cut(bads, m))
+    (n <= 32) & (m <= 100) & lists::entries_ok(true, spares, n) & lists::entries_ok(false, bads, m)
 }
 
 // A block's sector by the spare list: its spare if it is listed, else its home.
@@ -150,13 +148,12 @@ impl Table {
     {
         let mut t = self;
         let m = t.nbads;
-        let bads = t.bads;
-        let list = lists::cut(&bads, m);
+        let list = lists::cut(&t.bads, m);
         let k = lists::find(list, b.0);
         if list.len() <= k {
             return t;
         }
-        let left = removed_at(bads, k);
+        let left = removed_at(t.bads, k);
         t.bads = left;
         t.nbads = m - 1;
         t

@@ -14,7 +14,7 @@ said-requires : tie.Need-said-requires
 said-requires c κs = search needs
 
 returns : tie.Need-returns
-returns c = stopped (λ (d : Drive). imageOutOf d (now (c .before .before .before .before .before .before .args .buf))) (c .before .before .before .before .before .before .args .p) (now (c .before .before .before .before .before .before .args .buf)) (c .before .before .is-packing .result) (c .before .before .is-packing .ensures) (c .before .if1 .taken) _ (c .said .ensures)
+returns c = stopped (λ (d : Drive). imageOutOf d (now (c .before .before .before .before .before .args .buf))) (c .before .before .before .before .before .args .p) (now (c .before .before .before .before .before .args .buf)) (c .before .before .is-packing .result) (c .before .before .is-packing .ensures) (c .before .if1 .taken) _ (c .said .ensures)
 
 unpack-requires : tie.Need-unpack-requires
 unpack-requires c κs = search needs
@@ -32,7 +32,7 @@ same-length : tie.Need-same-length
 same-length c = search needs
 
 returns-2 : tie.Need-returns-2
-returns-2 c = passes (λ (d : Drive). imageOutOf d (now (c .before .before .before .before .before .before .before .before .before .before .before .before .before .args .buf))) (c .before .before .before .before .before .before .before .before .before .before .before .before .before .args .p) (now (c .before .before .before .before .before .before .before .before .before .before .before .before .before .args .buf)) (c .before .before .before .before .before .before .before .before .before .is-packing .result) (c .before .before .before .before .before .before .before .before .before .is-packing .ensures) (c .before .before .before .before .before .before .before .before .if1 .left) (c .before .before .before .before .before .before .before .unpack .result) (c .before .before .before .before .before .before .before .unpack .ensures) (c .before .before .before .before .before .image .result) _ (c .before .before .before .before .before .image .ensures .0) (c .before .before .before .before .before .image .ensures .1) (c .before .pack .result) (c .before .pack .ensures) (c .spell .result) (c .spell .ensures)
+returns-2 c = passes (λ (d : Drive). imageOutOf d (now (c .before .before .before .before .before .before .before .before .before .before .before .before .args .buf))) (c .before .before .before .before .before .before .before .before .before .before .before .before .args .p) (now (c .before .before .before .before .before .before .before .before .before .before .before .before .args .buf)) (c .before .before .before .before .before .before .before .before .before .is-packing .result) (c .before .before .before .before .before .before .before .before .before .is-packing .ensures) (c .before .before .before .before .before .before .before .before .if1 .left) (c .before .before .before .before .before .before .before .unpack .result) (c .before .before .before .before .before .before .before .unpack .ensures) (c .before .before .before .before .before .image .result) _ (c .before .before .before .before .before .image .ensures .0) (c .before .before .before .before .before .image .ensures .1) (c .before .pack .result) (c .before .pack .ensures) (c .spell .result) (c .spell .ensures)
 
 pub image-spec : {M : Type 1} → statement M
 image-spec =

@@ -1,126 +1,21 @@
--- `lists::entries_ok` meets its contract: from place i on the entries pass, and a class not seen has none of them.
-use mathlib.Core.Path.{_≡_, refl, sym, _∙_}
-use mathlib.Core.Bool.{Bool, true, false, not, _&&_}
-use mathlib.Core.List.{[]}
-use Prim.Native.Nat.{ℕ, _+_, _≤_, _-_, _<_, _%_}
-use borrow.Author.Tests.{not-true, not-false}
-use lib.ListN.{length, drop, getD, length-set, drop-of-length-le}
-use Rattle.lists.specs.Lists.{entryOk, entriesOk}
-use Rattle.logic.proofs.Walks.{back, rest}
-use Rattle.lists.proofs.Walk.{fails, Classes, member-none, classes-more}
+-- `lists::entries_ok` meets its contract: the list is cut from its array, and an empty one passes.
+use Rattle.lists.specs.Lists.{entriesOk}
 use borrow.Author.Needs.{needs}
-use native.Mathlib.Omega.{arith}
 use Rattle.lists.proofs.entries_ok.Statement.{statement}
 use Rattle.lists.proofs.entries_ok.Tie as tie
 
-abbrev Inv-loop : tie.InvT-loop
-Inv-loop marks s seen₀ i₀ seen i = (i ≤ length s) × (length seen ≡ 512) × (entriesOk marks (drop i s) ≡ true) × Classes seen (drop i s)
-
-abbrev μ-loop : tie.MeasureT-loop
-μ-loop marks s seen₀ i₀ seen i = i
-
-returns : tie.Need-returns Inv-loop μ-loop
+returns : tie.Need-returns
 unfolding entriesOk
-returns c =
-    let s = c .before .before .args .s .now in
-    let none : s ≡ [] = drop-of-length-le s {i = 0} (omega arith) in
-    rw none
+returns c = rw (c .if1 .taken)
 
-loop-holds : tie.Need-loop-holds Inv-loop μ-loop
-unfolding entriesOk
-loop-holds c =
-    let s = c .before .before .args .s .now in
-    let d = drop-of-length-le s (let h : length s ≤ length s = omega arith in h) in
-    (omega arith, refl, rw d, λ (y : ℕ) e. rw d (member-none y))
+cut-requires : tie.Need-cut-requires
+cut-requires c κs = search needs
 
-sub-i : tie.Need-sub-i Inv-loop μ-loop
-sub-i c = search needs
+some-ok-requires : tie.Need-some-ok-requires
+some-ok-requires c κs = search needs
 
-mul-x : tie.Need-mul-x Inv-loop μ-loop
-mul-x c = search needs
-
-shared-slice-read-x : tie.Need-shared-slice-read-x Inv-loop μ-loop
-shared-slice-read-x c = search needs
-
-cast-c : tie.Need-cast-c Inv-loop μ-loop
-cast-c c = search needs
-
-mul-entry-ok : tie.Need-mul-entry-ok Inv-loop μ-loop
-mul-entry-ok c = search needs
-
-sub-entry-ok : tie.Need-sub-entry-ok Inv-loop μ-loop
-sub-entry-ok c = search needs
-
-part-entry-ok-start : tie.Need-part-entry-ok-start Inv-loop μ-loop
-part-entry-ok-start c = search needs
-
-part-entry-ok-end : tie.Need-part-entry-ok-end Inv-loop μ-loop
-part-entry-ok-end c = search needs
-
-array-read-entry-ok : tie.Need-array-read-entry-ok Inv-loop μ-loop
-array-read-entry-ok c = search needs
-
-entry-ok-requires : tie.Need-entry-ok-requires Inv-loop μ-loop
-entry-ok-requires c κs =
-    let b = c .before .before .before in
-    let s = b .before .before .before .args .s .now in
-    λ e. rw (rest s (b .loop .i)) (b .loop .inv .3 _ e)
-
-returns-2 : tie.Need-returns-2 Inv-loop μ-loop
-unfolding entriesOk
-returns-2 c =
-    let b = c .before .before .before .before .before in
-    let s = b .before .before .before .args .s .now in
-    let o = back s (b .loop .i) (omega arith) (b .loop .inv .0) in
-    let m = rw (rest s (b .loop .i)) at (sym (c .before .entry-ok .ensures) ∙ not-true _ (c .if2 .taken)) in
-    sym (fails _ s (b .loop .i - 1) (rw o (rw m)))
-
-array-write-seen : tie.Need-array-write-seen Inv-loop μ-loop
-array-write-seen c = search needs
-
-loop-less : tie.Need-loop-less Inv-loop μ-loop
-loop-less c = search needs
-
-loop-again : tie.Need-loop-again Inv-loop μ-loop
-unfolding entriesOk
-loop-again c =
-    let b = c .before .before .before .before .before in
-    let s = b .before .before .before .args .s .now in
-    let o = back s (b .loop .i) (omega arith) (b .loop .inv .0) in
-    let m = rw (rest s (b .loop .i)) at (sym (c .before .entry-ok .ensures) ∙ not-false _ (c .if2 .left)) in
-    let x = getD s (b .loop .i - 1) 0 in (
-      omega arith,
-      length-set {A = Bool} (b .loop .seen) (x % 512) true ∙ b .loop .inv .1,
-      rw (o, m) (b .loop .inv .2),
-      λ (y : ℕ) e. rw o (classes-more (b .loop .seen) (drop (b .loop .i) s) x (b .loop .inv .1) (b .loop .inv .3) y e),
-    )
-
-returns-3 : tie.Need-returns-3 Inv-loop μ-loop
-returns-3 c =
-    let b = c .before in
-    let z : b .loop .i ≡ 0 = omega arith in
-    sym (rw z at (b .loop .inv .2))
+returns-2 : tie.Need-returns-2
+returns-2 c = rw (c .some-ok .ensures, c .before .cut .ensures)
 
 pub entries-ok-spec : {M : Type 1} → statement M
-entries-ok-spec =
-    tie.close
-    (tie.spec
-    Inv-loop
-    μ-loop
-    returns
-    loop-holds
-    sub-i
-    mul-x
-    shared-slice-read-x
-    cast-c
-    mul-entry-ok
-    sub-entry-ok
-    part-entry-ok-start
-    part-entry-ok-end
-    array-read-entry-ok
-    entry-ok-requires
-    returns-2
-    array-write-seen
-    loop-less
-    loop-again
-    returns-3)
+entries-ok-spec = tie.close (tie.spec returns cut-requires some-ok-requires returns-2)

@@ -1,29 +1,27 @@
--- `lists::entry_ok` meets its contract, test by test.
-use mathlib.Core.Path.{sym, _∙_}
-use borrow.Author.Tests.{eq-eqb, ne-eqb, lt-ltb, le-ltb}
-use Rattle.lists.specs.Lists.{entryOk}
+-- `lists::entry_ok` meets its contract: a block that the rest cannot hold may stand before it.
+use mathlib.Core.Path.{_≡_, sym, _∙_}
+use mathlib.Core.Bool.{Bool, false, _||_}
+use borrow.Author.Tests.{leb-false}
+use lib.Dec.{leb}
+use Rattle.logic.proofs.Bools.{or-left, or-right}
+use Rattle.lists.proofs.Walk.{entry-new}
 use borrow.Author.Needs.{needs}
 use Rattle.lists.proofs.entry_ok.Statement.{statement}
 use Rattle.lists.proofs.entry_ok.Tie as tie
 
+searched-requires : tie.Need-searched-requires
+searched-requires c κs = search needs
+
 returns : tie.Need-returns
-unfolding entryOk
-returns c = rw (eq-eqb _ _ (c .if1 .taken))
+returns c = c .searched .ensures
 
 returns-2 : tie.Need-returns-2
-unfolding entryOk
-returns-2 c = rw (ne-eqb _ _ (c .before .if1 .left), le-ltb _ _ (c .if2 .taken))
-
-member-requires : tie.Need-member-requires
-member-requires c κs = search needs
-
-returns-3 : tie.Need-returns-3
-unfolding entryOk
-returns-3 c = rw (c .member .ensures, ne-eqb _ _ (c .before .before .before .if1 .left), lt-ltb _ _ (c .before .before .if2 .left))
-
-returns-4 : tie.Need-returns-4
-unfolding entryOk
-returns-4 c = rw (ne-eqb _ _ (c .before .before .if1 .left), lt-ltb _ _ (c .before .if2 .left), c .before .before .before .before .pre (c .if3 .left))
+returns-2 c =
+    let a = c .before .before .args in
+    let x = a .x in
+    let h = c .if1 .left in
+    let m = c .before .before .pre (or-left (a .may) (leb 9728 x) h) in
+    sym (entry-new (a .marks) x _ (leb-false 9728 x (or-right (a .may) (leb 9728 x) h)) m)
 
 pub entry-ok-spec : {M : Type 1} → statement M
-entry-ok-spec = tie.close (tie.spec returns returns-2 member-requires returns-3 returns-4)
+entry-ok-spec = tie.close (tie.spec searched-requires returns returns-2)

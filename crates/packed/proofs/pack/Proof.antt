@@ -3,14 +3,15 @@ use borrow.Author.Needs.{needs}
 use Rattle.packed.proofs.pack.Statement.{statement}
 use Rattle.packed.proofs.pack.Tie as tie
 
-pack-phase-requires : tie.Need-pack-phase-requires
-pack-phase-requires c κs = search needs
-
-pack-marks-requires : tie.Need-pack-marks-requires
-pack-marks-requires c κs = search needs
+pack-line-requires : tie.Need-pack-line-requires
+pack-line-requires c κs = search needs
 
 returns : tie.Need-returns
-returns c = rw (c .pack-marks .ensures, c .before .pack-phase .ensures)
+returns c = rw (c .pack-line .ensures)
 
 pub pack-spec : {M : Type 1} → statement M
-pack-spec = tie.close (tie.spec pack-phase-requires pack-marks-requires returns)
+pack-spec =
+    tie.close
+    (tie.spec
+    pack-line-requires
+    returns)

@@ -10,7 +10,12 @@ unpack-marks-requires : tie.Need-unpack-marks-requires
 unpack-marks-requires c κs = search needs
 
 returns : tie.Need-returns
-returns c = rw (c .unpack-marks .ensures, c .before .unpack-phase .ensures)
+returns c = rw (c .before .unpack-marks .ensures, c .before .before .unpack-phase .ensures)
 
 pub unpack-line-spec : {M : Type 1} → statement M
-unpack-line-spec = tie.close (tie.spec unpack-phase-requires unpack-marks-requires returns)
+unpack-line-spec =
+    tie.close
+    (tie.spec
+    unpack-phase-requires
+    unpack-marks-requires
+    returns)

@@ -11,9 +11,6 @@ use native.Mathlib.Omega.{arith}
 use Rattle.table.proofs.Table.without_bad.Statement.{statement}
 use Rattle.table.proofs.Table.without_bad.Tie as tie
 
-slice-aggregate-cut : tie.Need-slice-aggregate-cut
-slice-aggregate-cut c = search needs
-
 cut-requires : tie.Need-cut-requires
 cut-requires c κs = search needs
 
@@ -23,7 +20,7 @@ find-requires c κs = search needs
 returns : tie.Need-returns
 unfolding withoutBad
 returns c =
-    let a = c .before .before .before .before .before .args in
+    let a = c .before .before .before .before .before .before .args in
     let l = badList (a .self) in
     let e = rw (c .before .before .cut .ensures) at (c .before .find .ensures) in
     let h = rw (c .before .before .cut .ensures) at (c .if1 .taken) in
@@ -31,35 +28,34 @@ returns c =
 
 removed-at-requires : tie.Need-removed-at-requires
 removed-at-requires c κs =
-    let a = c .before .before .before .before .before .args in
+    let a = c .before .before .before .before .before .before .before .args in
     let l = badList (a .self) in
-    let e = rw (c .before .before .cut .ensures) at (c .before .find .ensures) in
-    let h = rw (c .before .before .cut .ensures) at (c .if1 .left) in
+    let e = rw (c .before .before .before .cut .ensures) at (c .before .before .find .ensures) in
+    let h = rw (c .before .before .before .cut .ensures) at (c .before .if1 .left) in
     let n : length (a .self .bads) ≡ 100 = search needs in
     omega (arith, h, n, length-take (a .self .nbads) (a .self .bads))
 
 sub-t : tie.Need-sub-t
 sub-t c =
-    let a = c .before .before .before .before .before .before .args in
+    let a = c .before .before .before .before .before .before .before .before .args in
     let l = badList (a .self) in
-    let e = rw (c .before .before .before .cut .ensures) at (c .before .before .find .ensures) in
-    let h = rw (c .before .before .before .cut .ensures) at (c .before .if1 .left) in
+    let e = rw (c .before .before .before .before .cut .ensures) at (c .before .before .before .find .ensures) in
+    let h = rw (c .before .before .before .before .cut .ensures) at (c .before .before .if1 .left) in
     omega (arith, h, length-take (a .self .nbads) (a .self .bads))
 
 returns-2 : tie.Need-returns-2
 unfolding withoutBad
 returns-2 c =
-    let a = c .before .before .before .before .before .before .args in
+    let a = c .before .before .before .before .before .before .before .before .args in
     let l = badList (a .self) in
-    let e = rw (c .before .before .before .cut .ensures) at (c .before .before .find .ensures) in
-    let h = rw (c .before .before .before .cut .ensures) at (c .before .if1 .left) in
+    let e = rw (c .before .before .before .before .cut .ensures) at (c .before .before .before .find .ensures) in
+    let h = rw (c .before .before .before .before .cut .ensures) at (c .before .before .if1 .left) in
     rw (c .removed-at .ensures, member-index (a .b .0) l, ← e, lt-ltb _ _ h)
 
 pub without-bad-spec : {M : Type 1} → statement M
 without-bad-spec =
     tie.close
     (tie.spec
-    slice-aggregate-cut
     cut-requires
     find-requires
     returns
