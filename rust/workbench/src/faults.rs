@@ -1,0 +1,263 @@
+//! What the surface is ordered to do: faults planned sector by sector, and random
+//! ones at a stated rate.
+
+use std::collections::{HashMap, VecDeque};
+
+use reference::geometry::{Sector, TABLE};
+use reference::rng::Rng;
+use reference::surface::Access;
+
+/// What one access is ordered to do.
+#[derive(Clone, Copy, Debug, PartialEq, Eq)]
+pub enum Effect {
+    Good,
+    /// A read brings its bytes damaged.
+    Crc,
+    Timeout,
+    NoSettle,
+    /// A write is done and leaves its sector unreadable.
+    Unreadable,
+}
+
+/// Which accesses of a sector are meant. A store is a write of sector 4960.
+#[derive(Clone, Copy, Debug, PartialEq, Eq, Hash)]
+pub enum Kind {
+    Reads,
+    Writes,
+}
+
+impl Kind {
+    /// The kind of an access.
+    pub fn of(access: Access) -> Kind {
+        match access {
+            Access::Read(_) => Kind::Reads,
+            Access::Write(_) => Kind::Writes,
+        }
+    }
+}
+
+/// A planned fault: what it orders for each access that it is asked about.
+#[derive(Clone, Debug, PartialEq, Eq)]
+pub enum Fault {
+    /// The effects in turn, each so many times; then nothing more.
+    InTurn(VecDeque<(u32, Effect)>),
+    /// All from now on.
+    All(Effect),
+    /// Every so many accesses; `seen` counts those it was asked about.
+    Every {
+        every: u32,
+        seen: u32,
+        effect: Effect,
+    },
+}
+
+impl Fault {
+    /// The next so many accesses.
+    pub fn next(times: u32, effect: Effect) -> Fault {
+        Fault::InTurn(VecDeque::from([(times, effect)]))
+    }
+
+    /// What it orders for the next access, nothing if it lets it pass.
+    fn order(&mut self) -> Option<Effect> {
+        match self {
+            Fault::InTurn(turns) => {
+                let (times, effect) = turns.front_mut()?;
+                let effect = *effect;
+                *times -= 1;
+                if *times == 0 {
+                    turns.pop_front();
+                }
+                Some(effect)
+            }
+            Fault::All(effect) => Some(*effect),
+            Fault::Every {
+                every,
+                seen,
+                effect,
+            } => {
+                *seen = (*seen + 1) % *every;
+                (*seen == 0).then_some(*effect)
+            }
+        }
+    }
+}
+
+/// Random faults: of every `of` accesses `faults` have one, on average.
+#[derive(Clone, Debug)]
+pub struct Random {
+    rng: Rng,
+    faults: u32,
+    of: u32,
+}
+
+impl Random {
+    /// Faults at this rate, `of` not 0.
+    pub fn new(seed: u64, faults: u32, of: u32) -> Random {
+        let rng = Rng::new(seed);
+        Random { rng, faults, of }
+    }
+
+    /// The table's sector is never made unreadable: without it there is no drive.
+    fn order(&mut self, access: Access) -> Option<Effect> {
+        if self.rng.below(self.of) >= self.faults {
+            return None;
+        }
+        Some(match (access, self.rng.below(100)) {
+            (_, 0) => Effect::NoSettle,
+            (Access::Read(_), 1..=80) => Effect::Crc,
+            (Access::Write(sector), 1..=40) if sector != TABLE => Effect::Unreadable,
+            _ => Effect::Timeout,
+        })
+    }
+}
+
+/// All that was ordered.
+#[derive(Clone, Debug, Default)]
+pub struct Faults {
+    planned: HashMap<(Sector, Kind), Vec<Fault>>,
+    random: Option<Random>,
+}
+
+impl Faults {
+    /// Plans one more fault, to be asked after those that this sector has.
+    pub fn add(&mut self, sector: Sector, kind: Kind, fault: Fault) {
+        self.planned.entry((sector, kind)).or_default().push(fault);
+    }
+
+    /// From now on random faults come too, these and no others.
+    pub fn set_random(&mut self, random: Random) {
+        self.random = Some(random);
+    }
+
+    /// Forgets all faults, random ones too.
+    pub fn clear(&mut self) {
+        *self = Faults::default();
+    }
+
+    /// Forgets what was planned for a sector.
+    pub fn clear_sector(&mut self, sector: Sector) {
+        self.planned.remove(&(sector, Kind::Reads));
+        self.planned.remove(&(sector, Kind::Writes));
+    }
+
+    /// What this access is ordered to do: what the first planned fault says that
+    /// does not let it pass, else a random fault, else good.
+    pub fn order(&mut self, access: Access) -> Effect {
+        let kind = Kind::of(access);
+        let planned = self.planned.get_mut(&(access.sector(), kind));
+        planned
+            .and_then(|faults| faults.iter_mut().find_map(Fault::order))
+            .or_else(|| self.random.as_mut()?.order(access))
+            .unwrap_or(Effect::Good)
+    }
+}
+
+#[cfg(test)]
+mod tests {
+    use super::*;
+
+    fn sector(number: u32) -> Sector {
+        Sector::new(number).expect("a sector")
+    }
+
+    /// What the next reads of sector 17 are ordered to do.
+    fn reads(faults: &mut Faults, count: usize) -> Vec<Effect> {
+        (0..count)
+            .map(|_| faults.order(Access::Read(sector(17))))
+            .collect()
+    }
+
+    fn with(planned: &[Fault]) -> Faults {
+        let mut faults = Faults::default();
+        for fault in planned {
+            faults.add(sector(17), Kind::Reads, fault.clone());
+        }
+        faults
+    }
+
+    use Effect::{Crc, Good, NoSettle, Timeout};
+
+    #[test]
+    fn the_next_so_many() {
+        let mut faults = with(&[Fault::next(2, Crc)]);
+        assert_eq!(reads(&mut faults, 4), [Crc, Crc, Good, Good]);
+    }
+
+    #[test]
+    fn all_from_now_on() {
+        let mut faults = with(&[Fault::All(Timeout)]);
+        assert_eq!(reads(&mut faults, 300), [Timeout; 300]);
+    }
+
+    #[test]
+    fn every_third() {
+        let mut faults = with(&[Fault::Every {
+            every: 3,
+            seen: 0,
+            effect: NoSettle,
+        }]);
+        assert_eq!(
+            reads(&mut faults, 7),
+            [Good, Good, NoSettle, Good, Good, NoSettle, Good]
+        );
+    }
+
+    #[test]
+    fn one_after_another() {
+        let turns = VecDeque::from([(1, Crc), (2, Good), (1, Timeout)]);
+        let mut faults = with(&[Fault::InTurn(turns), Fault::All(Crc)]);
+        // The first fault's `good` hides the access from the second.
+        assert_eq!(reads(&mut faults, 6), [Crc, Good, Good, Timeout, Crc, Crc]);
+    }
+
+    #[test]
+    fn an_access_that_was_answered_is_not_counted_again() {
+        let every = Fault::Every {
+            every: 2,
+            seen: 0,
+            effect: Timeout,
+        };
+        let mut faults = with(&[Fault::next(3, Crc), every]);
+        assert_eq!(
+            reads(&mut faults, 7),
+            [Crc, Crc, Crc, Good, Timeout, Good, Timeout]
+        );
+    }
+
+    #[test]
+    fn other_sectors_and_writes_are_left_alone() {
+        let mut faults = with(&[Fault::All(Crc)]);
+        assert_eq!(faults.order(Access::Read(sector(16))), Good);
+        assert_eq!(faults.order(Access::Write(sector(17))), Good);
+        assert_eq!(reads(&mut faults, 1), [Crc]);
+        faults.clear_sector(sector(17));
+        assert_eq!(reads(&mut faults, 1), [Good]);
+    }
+
+    #[test]
+    fn random_faults_leave_the_table_readable() {
+        let mut faults = Faults::default();
+        faults.set_random(Random::new(7, 1, 1));
+        let mut met = |access| (0..1000).any(|_| faults.order(access) == Effect::Unreadable);
+        assert!(!met(Access::Write(TABLE)));
+        assert!(met(Access::Write(sector(17))));
+    }
+
+    #[test]
+    fn random_faults_come_at_their_rate_and_again_from_the_same_seed() {
+        let ordered = || {
+            let mut faults = Faults::default();
+            faults.set_random(Random::new(7, 1, 50));
+            reads(&mut faults, 10_000)
+        };
+        let effects = ordered();
+        let count = effects.iter().filter(|&&effect| effect != Good).count();
+        assert!((150..250).contains(&count), "{count}");
+        assert!(!effects.contains(&Effect::Unreadable));
+        assert_eq!(effects, ordered());
+        let mut faults = Faults::default();
+        faults.set_random(Random::new(7, 1, 1));
+        faults.clear();
+        assert_eq!(reads(&mut faults, 10), [Good; 10]);
+    }
+}

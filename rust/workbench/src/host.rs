@@ -1,0 +1,302 @@
+//! The host: its commands as handshakes on the board, and what each came to.
+
+use controller::raw::{self, DEAD};
+use controller::{Answer, Code, Offer, GO_ON};
+use reference::drive::Call;
+use reference::geometry::{home, spare, Block, Sector};
+use reference::image::three_bytes;
+
+use crate::board::{Accessed, Board};
+use crate::status;
+
+/// A read's retry count and threshold.
+#[derive(Clone, Copy, Debug, PartialEq, Eq)]
+pub struct Retry {
+    pub retries: u8,
+    pub threshold: u8,
+}
+
+/// What a host sends if the plan says nothing else.
+pub const USUAL: Retry = Retry {
+    retries: 10,
+    threshold: 3,
+};
+
+/// How a host's line ended.
+#[derive(Clone, Copy, Debug, PartialEq, Eq)]
+pub enum End {
+    /// With these status bytes.
+    Finished([u8; 4]),
+    Offered(Offer),
+    /// The controller waits for the host.
+    Waits,
+    Refused(Code),
+}
+
+/// A change of the table.
+#[derive(Clone, Copy, Debug, PartialEq, Eq)]
+pub enum Change {
+    Moved {
+        block: Block,
+        from: Sector,
+        spare: usize,
+    },
+    Died {
+        spare: usize,
+    },
+    EnteredBad,
+    RemovedBad,
+}
+
+/// What a host's line came to.
+#[derive(Clone, Debug, PartialEq, Eq)]
+pub struct Report {
+    pub accesses: Vec<Accessed>,
+    pub end: End,
+    pub changes: Vec<Change>,
+}
+
+/// What was counted in a run.
+#[derive(Clone, Copy, Debug, Default, PartialEq, Eq)]
+pub struct Tally {
+    /// Commands that were acted on and finished.
+    pub commands: u64,
+    pub failed: u64,
+    /// All accesses, those of starts and stores too.
+    pub accesses: u64,
+    pub moves: u64,
+}
+
+/// The host and its board.
+#[derive(Debug)]
+pub struct Host {
+    pub board: Board,
+    pub tally: Tally,
+}
+
+impl Host {
+    pub fn new(board: Board) -> Host {
+        let tally = Tally::default();
+        Host { board, tally }
+    }
+
+    /// Power on.
+    pub fn start(&mut self) -> Report {
+        self.perform(&[Call::Start])
+    }
+
+    /// Raises CMD.
+    pub fn raise(&mut self) -> Report {
+        self.perform(&[Call::Raise])
+    }
+
+    /// Lowers CMD with a byte on the bus.
+    pub fn lower(&mut self, byte: u8) -> Report {
+        self.perform(&[Call::Lower(byte)])
+    }
+
+    /// The reset line.
+    pub fn reset(&mut self) -> Report {
+        self.perform(&[Call::Reset])
+    }
+
+    /// A read command.
+    pub fn read(&mut self, number: u32, retry: Retry) -> Report {
+        let mut command = command_bytes(0x00, number);
+        command.extend([retry.retries, retry.threshold]);
+        self.command(&[
+            Call::Raise,
+            Call::Lower(GO_ON),
+            Call::Feed(command),
+            Call::Raise,
+            Call::Lower(GO_ON),
+        ])
+    }
+
+    /// A write command, or a write/verify.
+    pub fn write(&mut self, number: u32, verify: bool, data: &[u8]) -> Report {
+        let opcode = if verify { 0x02 } else { 0x01 };
+        self.command(&[
+            Call::Raise,
+            Call::Lower(GO_ON),
+            Call::Feed(command_bytes(opcode, number)),
+            Call::Raise,
+            Call::Lower(GO_ON),
+            Call::Feed(data.to_vec()),
+            Call::Raise,
+            Call::Lower(GO_ON),
+        ])
+    }
+
+    /// Makes the calls of a command. CMD is not raised again if offer 01 stands.
+    fn command(&mut self, calls: &[Call]) -> Report {
+        let stands = self.board.last() == Answer::Offer(Offer::Command);
+        let report = self.perform(if stands { &calls[1..] } else { calls });
+        if let End::Finished(status) = report.end {
+            self.tally.commands += 1;
+            self.tally.failed += u64::from(!status::good(status));
+            self.tally.moves += u64::from(status::spared(status));
+        }
+        report
+    }
+
+    /// Makes calls until one finishes a command or is refused.
+    fn perform(&mut self, calls: &[Call]) -> Report {
+        let before = *self.board.record();
+        let mut accesses = vec![];
+        let mut end = End::Waits;
+        for call in calls {
+            end = match self.board.turn(call, &mut accesses) {
+                Answer::Finished => End::Finished(self.board.status()),
+                Answer::Refused(code) => End::Refused(code),
+                Answer::Offer(offer) => End::Offered(offer),
+                _ => End::Waits,
+            };
+            if matches!(end, End::Finished(_) | End::Refused(_)) {
+                break;
+            }
+        }
+        self.tally.accesses += accesses.len() as u64;
+        let changes = match calls {
+            [Call::Start] => vec![],
+            _ => changes(&before, self.board.record()),
+        };
+        Report {
+            accesses,
+            end,
+            changes,
+        }
+    }
+}
+
+/// Opcode and number of a command.
+fn command_bytes(opcode: u8, number: u32) -> Vec<u8> {
+    let mut bytes = vec![opcode];
+    bytes.extend(three_bytes(number));
+    bytes
+}
+
+/// What a command changed in the table. Its own block is the only one that a
+/// command enters or removes.
+fn changes(before: &raw::Drive, after: &raw::Drive) -> Vec<Change> {
+    let mut changes = spare_changes(before, after);
+    match before.nbads.cmp(&after.nbads) {
+        std::cmp::Ordering::Less => changes.push(Change::EnteredBad),
+        std::cmp::Ordering::Greater => changes.push(Change::RemovedBad),
+        std::cmp::Ordering::Equal => {}
+    }
+    changes
+}
+
+fn spare_changes(before: &raw::Drive, after: &raw::Drive) -> Vec<Change> {
+    let old = &before.spares[..before.nspares];
+    let new = &after.spares[..after.nspares];
+    let differing = (0..new.len()).filter(|&k| old.get(k) != Some(&new[k]));
+    differing
+        .map(|k| match new[k] {
+            DEAD => Change::Died { spare: k },
+            number => moved(old, number, k),
+        })
+        .collect()
+}
+
+/// A block stands newly at spare `k`.
+fn moved(old: &[u16], number: u16, k: usize) -> Change {
+    let block = Block::new(number.into()).expect("a live entry is a block");
+    let was = old
+        .iter()
+        .position(|&entry| entry == number)
+        .and_then(spare);
+    Change::Moved {
+        block,
+        from: was.unwrap_or(home(block)),
+        spare: k,
+    }
+}
+
+#[cfg(test)]
+mod tests {
+    use super::*;
+    use crate::faults::{Effect, Fault, Kind};
+    use crate::platter::Platter;
+
+    fn started() -> Host {
+        let mut host = Host::new(Board::new(Platter::blank()));
+        assert_eq!(host.start().end, End::Waits);
+        host
+    }
+
+    fn sector(number: u32) -> Sector {
+        Sector::new(number).expect("a sector")
+    }
+
+    #[test]
+    fn written_and_read_back() {
+        let mut host = started();
+        let written = host.write(4928, false, &[7; 532]);
+        assert_eq!(written.end, End::Finished([0, 0, 0x80, 0]));
+        assert_eq!(written.accesses[0].sector, sector(4992));
+        let read = host.read(4928, USUAL);
+        assert_eq!(read.end, End::Finished([0; 4]));
+        assert_eq!(host.board.data(), [7; 532]);
+        assert_eq!(host.tally.commands, 2);
+        assert_eq!(host.tally.accesses, 3);
+        assert!(host.board.history().allowed());
+    }
+
+    #[test]
+    fn a_move_and_a_move_on() {
+        let mut host = started();
+        for number in [17, 4928] {
+            let spoils = Fault::All(Effect::Unreadable);
+            host.board.faults.add(sector(number), Kind::Writes, spoils);
+        }
+        let report = host.write(17, true, &[7; 532]);
+        let block = Block::new(17).expect("a block");
+        let from = sector(17);
+        assert_eq!(
+            report.changes,
+            [
+                Change::Died { spare: 0 },
+                Change::Moved {
+                    block,
+                    from,
+                    spare: 1
+                }
+            ]
+        );
+        assert_eq!(report.end, End::Finished([0x08, 0x04, 0x80, 0]));
+        let spoils = Fault::All(Effect::Unreadable);
+        host.board.faults.add(sector(4929), Kind::Writes, spoils);
+        let report = host.write(17, true, &[8; 532]);
+        let from = sector(4929);
+        assert_eq!(
+            report.changes,
+            [
+                Change::Died { spare: 1 },
+                Change::Moved {
+                    block,
+                    from,
+                    spare: 2
+                }
+            ]
+        );
+        assert_eq!(host.tally.moves, 2);
+        assert!(host.board.history().allowed());
+    }
+
+    #[test]
+    fn a_raised_line_is_used_and_a_second_raise_refused() {
+        let mut host = started();
+        assert_eq!(host.raise().end, End::Offered(Offer::Command));
+        assert_eq!(host.read(5, USUAL).end, End::Finished([0, 0, 0x80, 0]));
+        host.raise();
+        assert_eq!(host.raise().end, End::Refused(Code::Place));
+        assert_eq!(host.lower(0).end, End::Finished([0x80, 0, 0, 0]));
+        host.raise();
+        host.lower(GO_ON);
+        // Command bytes are awaited: the raise of the command drops none.
+        assert_eq!(host.read(5, USUAL).end, End::Finished([0; 4]));
+        assert_eq!(host.tally.commands, 2);
+    }
+}

@@ -1,0 +1,25 @@
+//! The workbench: a simulated drive on which outcomes can be ordered up.
+//!
+//! `platter` holds the sectors, `faults` what the surface is ordered to do, and
+//! `surface` answers an access by the two. `board` puts them under the proved
+//! controller, with `history` beside it, and `host` makes the host's commands.
+//! `plan` reads a line of a plan and `run` does it; `show`, `status` and `summary`
+//! say what happened. `image_files` brings images on a platter and takes them off.
+
+pub mod board;
+pub mod data;
+pub mod faults;
+pub mod files;
+pub mod history;
+pub mod host;
+pub mod image_files;
+pub mod picture;
+pub mod plan;
+pub mod platter;
+pub mod progress;
+pub mod run;
+pub mod show;
+pub mod status;
+pub mod summary;
+pub mod surface;
+pub mod traffic;

@@ -1,0 +1,166 @@
+//! The workbench as a command.
+//!
+//! Exit status: 0 all as it should be; 1 the history is broken, an expectation is
+//! not met or a block could not be read; 2 a wrong argument, plan or file.
+
+use std::env;
+use std::fs::File;
+use std::io::{self, BufRead, BufReader, BufWriter, Write};
+use std::path::{Path, PathBuf};
+use std::process::ExitCode;
+
+use reference::geometry::SECTOR_BYTES;
+use reference::image;
+use workbench::picture::{self, Moment};
+use workbench::platter::Platter;
+use workbench::run::{Run, Settings, Stop};
+use workbench::{files, image_files, show};
+
+const HELP: &str = include_str!("help.txt");
+
+/// The plans of the repository.
+const PLANS: &str = concat!(env!("CARGO_MANIFEST_DIR"), "/../../plans");
+
+fn main() -> ExitCode {
+    let arguments: Vec<String> = env::args().skip(1).collect();
+    let words: Vec<&str> = arguments.iter().map(String::as_str).collect();
+    match command(&words) {
+        Ok(true) => ExitCode::SUCCESS,
+        Ok(false) => ExitCode::from(1),
+        Err(message) => {
+            eprintln!("workbench: {message}");
+            ExitCode::from(2)
+        }
+    }
+}
+
+/// Does what the arguments say. Says whether all was as it should be.
+fn command(words: &[&str]) -> Result<bool, String> {
+    match words {
+        ["--help" | "-h" | "help"] => {
+            print!("{HELP}");
+            Ok(true)
+        }
+        ["--version"] => {
+            println!("workbench {}", env!("CARGO_PKG_VERSION"));
+            Ok(true)
+        }
+        ["run", rest @ ..] => run(rest),
+        ["week", rest @ ..] => run(&[rest, &["week"]].concat()),
+        ["import", image, platter] => {
+            image_files::import(Path::new(image), Path::new(platter))?;
+            println!("{platter}: 9728 blocks of {image}, with an empty table");
+            Ok(true)
+        }
+        ["export", platter, image] => export(platter, image, false),
+        ["export", "--keep-going", platter, image] => export(platter, image, true),
+        ["picture", source, to] => picture_of(source, to),
+        ["timeline", plan, to] => timeline(plan, to),
+        [] => Err(String::from("what is to be done? see --help")),
+        words => Err(format!("\"{}\" is no command; see --help", words.join(" "))),
+    }
+}
+
+/// Runs a plan and shows what happens.
+fn run(words: &[&str]) -> Result<bool, String> {
+    let mut settings = Settings::default();
+    let mut plan = None;
+    let mut words = words.iter();
+    while let Some(&word) = words.next() {
+        match word {
+            "--trace" => settings.trace = true,
+            "--platter" => {
+                let file = words.next().ok_or("--platter needs a file")?;
+                settings.platter = Some(PathBuf::from(file));
+            }
+            option if option.starts_with("--") => {
+                return Err(format!("\"{option}\" is no option of run; see --help"));
+            }
+            name if plan.is_none() => plan = Some(name),
+            more => return Err(format!("one plan is run at a time, so not \"{more}\" too")),
+        }
+    }
+    play(plan, settings, io::stdout().lock()).map(|(good, _)| good)
+}
+
+/// Runs a plan of this name, or standard input.
+fn play(
+    plan: Option<&str>,
+    mut settings: Settings,
+    out: impl Write,
+) -> Result<(bool, Vec<Moment>), String> {
+    let (name, input): (String, Box<dyn BufRead>) = match plan {
+        None => (String::from("standard input"), Box::new(io::stdin().lock())),
+        Some(word) => {
+            let path = find_plan(word);
+            let file = File::open(&path).map_err(|e| format!("{word} cannot be read: {e}"))?;
+            settings.folder = path.parent().map(Path::to_path_buf).unwrap_or_default();
+            (word.to_string(), Box::new(BufReader::new(file)))
+        }
+    };
+    let mut run = Run::new(settings, BufWriter::new(out))?;
+    let played = run.plan(input);
+    let number = run.number();
+    match played.and_then(|()| run.finish()) {
+        Ok(ended) => Ok(ended),
+        Err(Stop::Line(message)) => Err(format!("{name}:{number}: {message}")),
+        Err(Stop::Output(error)) => Err(format!("the output cannot be written: {error}")),
+    }
+}
+
+/// The file of this name, or else the repository's plan of this name.
+fn find_plan(word: &str) -> PathBuf {
+    let path = PathBuf::from(word);
+    let known = Path::new(PLANS).join(format!("{word}.plan"));
+    match !path.exists() && known.exists() {
+        true => known,
+        false => path,
+    }
+}
+
+fn export(platter: &str, image: &str, keep_going: bool) -> Result<bool, String> {
+    let lost = image_files::export(Path::new(platter), Path::new(image), keep_going)?;
+    if lost.is_empty() {
+        println!("{image}: the 9728 blocks of {platter}");
+        return Ok(true);
+    }
+    let blocks = show::ranges(&lost);
+    let rest = match keep_going {
+        true => format!("{image} has zeros for them"),
+        false => format!("{image} was not written (with --keep-going it has zeros for them)"),
+    };
+    eprintln!("workbench: {platter}: blocks that cannot be read: {blocks}; {rest}");
+    Ok(false)
+}
+
+/// The picture of a platter file, or of a table's image.
+fn picture_of(source: &str, to: &str) -> Result<bool, String> {
+    let path = Path::new(source);
+    let bytes = files::read(path)?;
+    let (table, unreadable) = match bytes.len() {
+        SECTOR_BYTES => (image::read(&bytes), vec![]),
+        _ => {
+            let platter = Platter::load(path)?;
+            let unreadable = platter.unreadable();
+            let numbers = unreadable.iter().map(|sector| sector.number()).collect();
+            (platter.table(), numbers)
+        }
+    };
+    let title = path.file_name().unwrap_or_default().to_string_lossy();
+    let svg = picture::platter(&title, table.as_ref(), &unreadable);
+    files::write(Path::new(to), svg.as_bytes())?;
+    Ok(true)
+}
+
+/// The picture of a plan's run, on a platter in memory.
+fn timeline(plan: &str, to: &str) -> Result<bool, String> {
+    let settings = Settings {
+        moments: true,
+        ..Settings::default()
+    };
+    let (good, moments) = play(Some(plan), settings, io::sink())?;
+    let title = Path::new(plan).file_stem().unwrap_or_default();
+    let svg = picture::timeline(&title.to_string_lossy(), &moments);
+    files::write(Path::new(to), svg.as_bytes())?;
+    Ok(good)
+}

@@ -1,0 +1,213 @@
+//! A line of a plan. `docs/WORKBENCH.md` describes each with an example.
+
+mod orders;
+#[cfg(test)]
+mod tests;
+mod words;
+
+use crate::data::{Blocks, Data};
+use crate::host::{Retry, USUAL};
+pub use orders::Order;
+use words::Words;
+
+/// What a line asks for.
+#[derive(Clone, Debug, PartialEq, Eq)]
+pub enum Line {
+    /// Nothing: an empty line or a comment.
+    Nothing,
+    Say(String),
+    Start,
+    Reset,
+    Raise,
+    Lower(u8),
+    Table,
+    Read {
+        blocks: Blocks,
+        retry: Retry,
+        to: Option<String>,
+    },
+    Write {
+        blocks: Blocks,
+        verify: bool,
+        data: Data,
+    },
+    Compare {
+        blocks: Blocks,
+        retry: Retry,
+        data: Data,
+    },
+    Dump(u32),
+    Traffic(Traffic),
+    Fault(Order),
+    Expect(Vec<Expectation>),
+}
+
+/// Random commands of a host.
+#[derive(Clone, Copy, Debug, PartialEq, Eq)]
+pub struct Traffic {
+    pub commands: u32,
+    pub seed: u32,
+    pub blocks: Blocks,
+}
+
+/// What a plan expects of the host's last line.
+#[derive(Clone, Copy, Debug, PartialEq, Eq)]
+pub enum Expectation {
+    Good,
+    Failed,
+    Refused,
+    /// Moved to a spare, or not.
+    Spared,
+    InPlace,
+    /// A store was done.
+    Stored,
+    /// E.
+    Errors(u8),
+    /// The command's own, without a store.
+    Accesses(u32),
+    Status([u8; 4]),
+}
+
+/// Reads a line.
+pub fn parse(line: &str) -> Result<Line, String> {
+    let mut words = Words::new(line);
+    let Some(first) = words.next() else {
+        return Ok(Line::Nothing);
+    };
+    match first {
+        comment if comment.starts_with('#') => Ok(Line::Nothing),
+        "say" => Ok(Line::Say(words.rest().to_string())),
+        "start" => alone(Line::Start, words),
+        "reset" => alone(Line::Reset, words),
+        "raise" => alone(Line::Raise, words),
+        "table" => alone(Line::Table, words),
+        "lower" => lower(words),
+        "read" => read(words),
+        "write" => write(words, false),
+        "write-verify" => write(words, true),
+        "compare" => compare(words),
+        "dump" => dump(words),
+        "traffic" => traffic(words),
+        "fault" => orders::parse(words).map(Line::Fault),
+        "expect" => expect(words),
+        other => Err(format!("\"{other}\" begins no line of a plan; see --help")),
+    }
+}
+
+fn alone(line: Line, words: Words) -> Result<Line, String> {
+    words.end().map(|()| line)
+}
+
+fn lower(mut words: Words) -> Result<Line, String> {
+    let byte = hex_byte(words.need("the byte on the bus")?)?;
+    alone(Line::Lower(byte), words)
+}
+
+fn hex_byte(word: &str) -> Result<u8, String> {
+    match reference::text::parse_token(word.as_bytes()) {
+        Ok((byte, 1)) => Ok(byte),
+        _ => Err(format!("a byte is two hex digits, not \"{word}\"")),
+    }
+}
+
+fn read(mut words: Words) -> Result<Line, String> {
+    let blocks = words.blocks()?;
+    let retry = retry(&mut words, "to")?;
+    let to = match words.take("to") {
+        true => Some(words.need("a file")?.to_string()),
+        false => None,
+    };
+    alone(Line::Read { blocks, retry, to }, words)
+}
+
+/// R and T, up to this word.
+fn retry(words: &mut Words, until: &str) -> Result<Retry, String> {
+    let mut retry = USUAL;
+    if words.peek().is_some_and(|word| word != until) {
+        retry.retries = words.number("R", 255)? as u8;
+    }
+    if words.peek().is_some_and(|word| word != until) {
+        retry.threshold = words.number("T", 255)? as u8;
+    }
+    Ok(retry)
+}
+
+fn write(mut words: Words, verify: bool) -> Result<Line, String> {
+    let blocks = words.blocks()?;
+    let data = words.data()?;
+    Ok(Line::Write {
+        blocks,
+        verify,
+        data,
+    })
+}
+
+fn compare(mut words: Words) -> Result<Line, String> {
+    let blocks = words.blocks()?;
+    let retry = retry(&mut words, "with")?;
+    if !words.take("with") {
+        return Err(String::from("\"with\" and the data are missing"));
+    }
+    let data = words.data()?;
+    Ok(Line::Compare {
+        blocks,
+        retry,
+        data,
+    })
+}
+
+fn dump(mut words: Words) -> Result<Line, String> {
+    let number = words.number("a block", 0xFF_FFFF)?;
+    alone(Line::Dump(number), words)
+}
+
+fn traffic(mut words: Words) -> Result<Line, String> {
+    let mut traffic = Traffic {
+        commands: words.positive("the number of commands")?,
+        seed: 1,
+        blocks: Blocks {
+            first: 0,
+            last: 9727,
+        },
+    };
+    while let Some(word) = words.next() {
+        match word {
+            "seed" => traffic.seed = words.number("a seed", u32::MAX)?,
+            "blocks" => traffic.blocks = words.range()?,
+            other => return Err(format!("\"{other}\" is no part of traffic")),
+        }
+    }
+    Ok(Line::Traffic(traffic))
+}
+
+fn expect(mut words: Words) -> Result<Line, String> {
+    let mut expectations = vec![];
+    while let Some(word) = words.next() {
+        expectations.push(expectation(word, &mut words)?);
+    }
+    match expectations.is_empty() {
+        true => Err(String::from("what is expected is missing")),
+        false => Ok(Line::Expect(expectations)),
+    }
+}
+
+fn expectation(word: &str, words: &mut Words) -> Result<Expectation, String> {
+    match word {
+        "good" => Ok(Expectation::Good),
+        "failed" => Ok(Expectation::Failed),
+        "refused" => Ok(Expectation::Refused),
+        "spared" => Ok(Expectation::Spared),
+        "in-place" => Ok(Expectation::InPlace),
+        "stored" => Ok(Expectation::Stored),
+        "errors" => Ok(Expectation::Errors(words.number("E", 255)? as u8)),
+        "accesses" => Ok(Expectation::Accesses(words.number("a count", u32::MAX)?)),
+        "status" => {
+            let mut status = [0; 4];
+            for byte in &mut status {
+                *byte = hex_byte(words.need("a status byte")?)?;
+            }
+            Ok(Expectation::Status(status))
+        }
+        other => Err(format!("\"{other}\" cannot be expected")),
+    }
+}

@@ -1,0 +1,185 @@
+use super::*;
+use crate::faults::{Effect, Fault, Kind};
+use reference::geometry::Sector;
+use std::collections::VecDeque;
+
+fn fault_of(line: &str) -> (Vec<u32>, Kind, Fault) {
+    match parse(line) {
+        Ok(Line::Fault(Order::Planned {
+            sectors,
+            kind,
+            fault,
+        })) => (
+            sectors.into_iter().map(Sector::number).collect(),
+            kind,
+            fault,
+        ),
+        other => panic!("{line}: {other:?}"),
+    }
+}
+
+#[test]
+fn lines_that_do_nothing() {
+    for line in ["", "  ", "# start", "  # start", "#start", "\r\n"] {
+        assert_eq!(parse(line), Ok(Line::Nothing), "{line:?}");
+    }
+    assert_eq!(parse("say"), Ok(Line::Say(String::new())));
+    let said = Line::Say(String::from("it's  \"17\" # so"));
+    assert_eq!(parse("say it's  \"17\" # so\n"), Ok(said));
+}
+
+#[test]
+fn reads() {
+    let read = |first, last, retries, threshold, to: Option<&str>| Line::Read {
+        blocks: Blocks { first, last },
+        retry: Retry { retries, threshold },
+        to: to.map(String::from),
+    };
+    assert_eq!(parse("read 17"), Ok(read(17, 17, 10, 3, None)));
+    assert_eq!(parse("read 17 0"), Ok(read(17, 17, 0, 3, None)));
+    assert_eq!(
+        parse("\tread  17 255 0 \r\n"),
+        Ok(read(17, 17, 255, 0, None))
+    );
+    let all = read(0, 9727, 2, 1, Some("a.dat"));
+    assert_eq!(parse("read 0..9727 2 1 to a.dat"), Ok(all));
+    let table = read(0xFF_FFFF, 0xFF_FFFF, 10, 3, None);
+    assert_eq!(parse("read $FFFFFF"), Ok(table.clone()));
+    assert_eq!(parse("read 0xffffff"), Ok(table));
+}
+
+#[test]
+fn data() {
+    let data = |line| match parse(line) {
+        Ok(Line::Write { data, .. } | Line::Compare { data, .. }) => data,
+        other => panic!("{line}: {other:?}"),
+    };
+    assert_eq!(data("write 1 4d 00*3"), Data::Bytes(vec![0x4D, 0, 0, 0]));
+    assert_eq!(data("write 1 \"a b\""), Data::Text(String::from("a b")));
+    let path = String::from("front.dat");
+    let file = Data::File { path, offset: 532 };
+    assert_eq!(data("write-verify 0..39 from front.dat at 532"), file);
+    assert_eq!(data("compare 0..39 2 1 with from front.dat at $214"), file);
+    assert_eq!(data("compare 7 with 00*532"), Data::Bytes(vec![0; 532]));
+}
+
+#[test]
+fn faults() {
+    use Effect::{Crc, Good, NoSettle, Timeout, Unreadable};
+    assert_eq!(
+        fault_of("fault sector 17 reads next 2 crc"),
+        (vec![17], Kind::Reads, Fault::next(2, Crc))
+    );
+    assert_eq!(
+        fault_of("fault sector 4959..4961 writes all unreadable"),
+        (vec![4959, 4960, 4961], Kind::Writes, Fault::All(Unreadable))
+    );
+    let every = Fault::Every {
+        every: 3,
+        seen: 0,
+        effect: NoSettle,
+    };
+    assert_eq!(
+        fault_of("fault sector 0 writes every 3 no-settle"),
+        (vec![0], Kind::Writes, every)
+    );
+    let turns = VecDeque::from([(1, Crc), (3, Good), (1, Timeout)]);
+    assert_eq!(
+        fault_of("fault sector 9791 reads in-turn crc good*3 timeout"),
+        (vec![9791], Kind::Reads, Fault::InTurn(turns))
+    );
+    let random = Order::Random {
+        seed: 7,
+        faults: 1,
+        of: 50,
+    };
+    assert_eq!(
+        parse("fault random seed 7 rate 1/50"),
+        Ok(Line::Fault(random))
+    );
+    assert_eq!(parse("fault clear"), Ok(Line::Fault(Order::ClearAll)));
+    let sector = Sector::new(17).expect("a sector");
+    let clear = Order::Clear(vec![sector]);
+    assert_eq!(parse("fault sector 17 clear"), Ok(Line::Fault(clear)));
+}
+
+#[test]
+fn expectations_and_traffic() {
+    assert_eq!(
+        parse("expect good spared errors 4 status 0c 04 00 04"),
+        Ok(Line::Expect(vec![
+            Expectation::Good,
+            Expectation::Spared,
+            Expectation::Errors(4),
+            Expectation::Status([0x0C, 4, 0, 4]),
+        ]))
+    );
+    let traffic = Traffic {
+        commands: 1000,
+        seed: 3,
+        blocks: Blocks { first: 0, last: 9 },
+    };
+    assert_eq!(
+        parse("traffic 1000 blocks 0..9 seed 3"),
+        Ok(Line::Traffic(traffic))
+    );
+}
+
+/// Lines with a fault in them, and a part of what is said of each.
+const WRONG: [(&str, &str); 38] = [
+    ("red 17", "\"red\" begins no line of a plan"),
+    ("Start", "\"Start\" begins no line"),
+    ("start now", "\"now\" is too much"),
+    ("read", "a block is missing"),
+    ("read x", "a block is a number, and \"x\" is none"),
+    ("read +1", "a block is a number, and \"+1\" is none"),
+    ("read -1", "a block is a number"),
+    ("read $", "a block is a number"),
+    ("read 16777216", "a block is 16777215 at most"),
+    ("read 99999999999999999999", "a block is a number"),
+    ("read 0..9728", "a block is 9727 at most, not 9728"),
+    ("read 5..4", "5..4 is no range: 5 is above 4"),
+    ("read 1..", "a block is a number, and \"\" is none"),
+    ("read 17 256", "R is 255 at most, not 256"),
+    ("read 17 1 256", "T is 255 at most, not 256"),
+    ("read 17 1 2 3", "\"3\" is too much"),
+    ("read 17 to", "a file is missing"),
+    ("write 17", "the data is missing"),
+    ("write 17 5", "\"5\" is no data: a byte is two hex digits"),
+    ("write 17 00*0", "\"00*0\" is no data: a count is 1 to 4096"),
+    ("write 17 00*4096 00", "4097 bytes are more than 4096"),
+    ("write 17 \"a", "is no text between two quotation marks"),
+    ("write 17 \"\"", "the text is empty"),
+    (
+        "write 17 \"a\" b\"",
+        "is no text between two quotation marks",
+    ),
+    ("write 17 from", "a file is missing"),
+    ("write 17 from a at", "an offset is missing"),
+    ("compare 17 \"a\"", "R is a number"),
+    ("compare 17 10 3", "\"with\" and the data are missing"),
+    ("lower 5", "a byte is two hex digits, not \"5\""),
+    ("traffic 0", "the number of commands is 1 at least"),
+    ("traffic 5 blocks $FFFFFF", "a block is 9727 at most"),
+    ("fault 17", "after fault comes sector, random or clear"),
+    (
+        "fault sector 9792 reads all crc",
+        "a sector is 9791 at most",
+    ),
+    ("fault sector 17 writes all crc", "a write has no CRC error"),
+    (
+        "fault sector 17 reads all unreadable",
+        "a read leaves its sector as it is",
+    ),
+    ("fault sector 17 reads next 0 crc", "is 1 at least"),
+    ("fault random seed 7 rate 3/2", "first number is 2 at most"),
+    ("expect joy", "\"joy\" cannot be expected"),
+];
+
+#[test]
+fn wrong_lines() {
+    for (line, part) in WRONG {
+        let message = parse(line).expect_err(line);
+        assert!(message.contains(part), "{line}: {message}");
+    }
+}

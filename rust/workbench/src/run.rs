@@ -1,0 +1,283 @@
+//! Runs a plan, line by line.
+
+mod blocks;
+mod expect;
+#[cfg(test)]
+mod tests;
+mod traffic;
+
+use std::io::{self, BufRead, Write};
+use std::path::PathBuf;
+
+use crate::board::Board;
+use crate::host::{End, Host, Report, USUAL};
+use crate::picture::{Moment, Outcome};
+use crate::plan::{self, Line};
+use crate::platter::Platter;
+use crate::progress::Progress;
+use crate::{show, summary};
+
+/// How a plan is run.
+#[derive(Clone, Debug, Default)]
+pub struct Settings {
+    /// The platter's file; without one it lives in memory.
+    pub platter: Option<PathBuf>,
+    /// Where the files are sought that a plan names.
+    pub folder: PathBuf,
+    /// Each access is shown.
+    pub trace: bool,
+    /// What happens is kept, for a picture.
+    pub moments: bool,
+}
+
+/// Why a run stops.
+#[derive(Debug)]
+pub enum Stop {
+    /// A line cannot be done.
+    Line(String),
+    /// The output cannot be written.
+    Output(io::Error),
+}
+
+impl From<String> for Stop {
+    fn from(message: String) -> Stop {
+        Stop::Line(message)
+    }
+}
+
+impl From<io::Error> for Stop {
+    fn from(error: io::Error) -> Stop {
+        Stop::Output(error)
+    }
+}
+
+/// A plan that is being run.
+pub struct Run<W: Write> {
+    host: Host,
+    out: W,
+    settings: Settings,
+    progress: Progress,
+    /// The number of the line.
+    number: usize,
+    /// What the host's last line came to, command by command.
+    last: Vec<Report>,
+    expectations: u32,
+    unmet: u32,
+    moments: Vec<Moment>,
+}
+
+impl<W: Write> Run<W> {
+    /// Opens the platter.
+    pub fn new(settings: Settings, out: W) -> Result<Run<W>, String> {
+        let platter = match &settings.platter {
+            Some(path) => Platter::open(path)?,
+            None => Platter::blank(),
+        };
+        Ok(Run {
+            host: Host::new(Board::new(platter)),
+            out,
+            settings,
+            progress: Progress::new(),
+            number: 0,
+            last: vec![],
+            expectations: 0,
+            unmet: 0,
+            moments: vec![],
+        })
+    }
+
+    /// The number of the line that was read last.
+    pub fn number(&self) -> usize {
+        self.number
+    }
+
+    /// Runs all lines. The platter is saved after each line that changed it, so a
+    /// line that stops the run leaves it as it was before.
+    pub fn plan(&mut self, mut input: impl BufRead) -> Result<(), Stop> {
+        let mut bytes = vec![];
+        loop {
+            bytes.clear();
+            self.number += 1;
+            let read = input.read_until(b'\n', &mut bytes);
+            if read.map_err(|error| error.to_string())? == 0 {
+                return self.save();
+            }
+            let line = std::str::from_utf8(&bytes).map_err(|_| String::from("no UTF-8 text"))?;
+            self.line(plan::parse(line)?)?;
+            self.save()?;
+            self.out.flush()?;
+        }
+    }
+
+    fn save(&mut self) -> Result<(), Stop> {
+        if let Some(path) = &self.settings.platter {
+            let platter = self.host.board.platter_mut();
+            if platter.changed() {
+                platter.save(path)?;
+            }
+        }
+        Ok(())
+    }
+
+    /// The summary. Says whether all was as it should be, and hands back what
+    /// happened.
+    pub fn finish(mut self) -> Result<(bool, Vec<Moment>), Stop> {
+        writeln!(self.out)?;
+        writeln!(self.out, "Summary")?;
+        for line in summary::lines(&mut self.host) {
+            writeln!(self.out, "  {line}")?;
+        }
+        if self.expectations > 0 {
+            let met = self.expectations - self.unmet;
+            let all = self.expectations;
+            writeln!(self.out, "  {met} of {all} expectations met")?;
+        }
+        writeln!(self.out, "{}", summary::last_line(&self.host))?;
+        self.out.flush()?;
+        let allowed = self.host.board.history().allowed();
+        Ok((allowed && self.unmet == 0, self.moments))
+    }
+
+    /// Does a line.
+    fn line(&mut self, line: Line) -> Result<(), Stop> {
+        if needs_start(&line) && self.host.board.history().starts() == 0 {
+            let message = "the drive is not started yet: a line \"start\" comes first";
+            return Err(Stop::Line(String::from(message)));
+        }
+        match line {
+            Line::Nothing => Ok(()),
+            Line::Say(text) => self.say(text),
+            Line::Fault(order) => {
+                order.give(&mut self.host.board.faults);
+                Ok(())
+            }
+            Line::Start => self.start(),
+            Line::Reset => {
+                let report = self.host.reset();
+                self.single("reset", report)
+            }
+            Line::Raise => {
+                let report = self.host.raise();
+                self.single("raise", report)
+            }
+            Line::Lower(byte) => {
+                let report = self.host.lower(byte);
+                self.single(&format!("lower {byte:02x}"), report)
+            }
+            Line::Table => self.table(),
+            Line::Dump(number) => self.dump(number),
+            Line::Read { blocks, retry, to } => self.read(blocks, retry, to.as_deref()),
+            Line::Write {
+                blocks,
+                verify,
+                data,
+            } => self.write(blocks, verify, &data),
+            Line::Compare {
+                blocks,
+                retry,
+                data,
+            } => self.compare(blocks, retry, &data),
+            Line::Traffic(traffic) => self.traffic(traffic),
+            Line::Expect(expectations) => self.expect(&expectations),
+        }
+    }
+
+    fn say(&mut self, text: String) -> Result<(), Stop> {
+        writeln!(self.out, "{text}")?;
+        if self.settings.moments && !text.is_empty() {
+            self.moments.push(Moment {
+                heading: Some(text),
+                command: String::new(),
+                accesses: vec![],
+                outcome: Outcome::None,
+            });
+        }
+        Ok(())
+    }
+
+    fn start(&mut self) -> Result<(), Stop> {
+        let report = self.host.start();
+        let found = match self.host.board.table() {
+            Some(table) => format!("table found: {}", summary::table_counts(&table, true)),
+            None => String::from("no table found"),
+        };
+        let accesses = show::folded(&report.accesses).join(", ");
+        writeln!(self.out, "start: {accesses}, {found}")?;
+        self.record("start", report)
+    }
+
+    /// A line of the host that is no command.
+    fn single(&mut self, name: &str, report: Report) -> Result<(), Stop> {
+        let mut words = show::folded(&report.accesses);
+        words.push(show::ending(report.end));
+        writeln!(self.out, "{name}: {}", words.join(", "))?;
+        self.record(name, report)
+    }
+
+    /// Traces a report that was shown, and keeps it as the host's last line.
+    fn record(&mut self, name: &str, report: Report) -> Result<(), Stop> {
+        self.trace(&report)?;
+        self.remember(name, &report);
+        self.last = vec![report];
+        Ok(())
+    }
+
+    fn trace(&mut self, report: &Report) -> Result<(), Stop> {
+        if !self.settings.trace {
+            return Ok(());
+        }
+        for accessed in &report.accesses {
+            writeln!(self.out, "    {}", show::access(accessed))?;
+        }
+        if let End::Finished(status) = report.end {
+            writeln!(self.out, "    {}", show::status_line(status))?;
+        }
+        Ok(())
+    }
+
+    /// Keeps a report for the picture.
+    fn remember(&mut self, name: &str, report: &Report) {
+        if !self.settings.moments {
+            return;
+        }
+        self.moments.push(Moment {
+            heading: None,
+            command: name.to_string(),
+            accesses: report.accesses.iter().map(show::mark).collect(),
+            outcome: show::outcome(report),
+        });
+    }
+
+    fn table(&mut self) -> Result<(), Stop> {
+        let Some(table) = self.host.board.table() else {
+            writeln!(self.out, "table: no table")?;
+            return Ok(());
+        };
+        let counts = summary::table_counts(&table, summary::stored(&self.host));
+        writeln!(self.out, "table: {counts}")?;
+        for line in summary::table_lines(&table) {
+            writeln!(self.out, "  {line}")?;
+        }
+        Ok(())
+    }
+
+    /// Reads a block and shows its bytes, equal lines once.
+    fn dump(&mut self, number: u32) -> Result<(), Stop> {
+        let report = self.host.read(number, USUAL);
+        let name = format!("dump {number}");
+        writeln!(self.out, "{name}: {}", show::command(&report))?;
+        self.record(&name, report)?;
+        for line in blocks::dump_lines(self.host.board.data()) {
+            writeln!(self.out, "  {line}")?;
+        }
+        Ok(())
+    }
+}
+
+/// Whether a line speaks to the drive.
+fn needs_start(line: &Line) -> bool {
+    !matches!(
+        line,
+        Line::Nothing | Line::Say(_) | Line::Start | Line::Fault(_)
+    )
+}

@@ -1,0 +1,175 @@
+//! Lines about blocks: a command for each, and equal ones shown as one line.
+
+use std::io::Write;
+
+use super::{Run, Stop};
+use crate::data::{Blocks, Data};
+use crate::files;
+use crate::host::{End, Host, Report, Retry};
+use crate::show::{self, count, ranges};
+use crate::status;
+
+impl<W: Write> Run<W> {
+    /// Writes blocks.
+    pub fn write(&mut self, blocks: Blocks, verify: bool, data: &Data) -> Result<(), Stop> {
+        let name = if verify { "write-verify" } else { "write" };
+        let data = data.load(blocks, &self.settings.folder)?;
+        let mut data = data.iter();
+        self.each(name, blocks, |host, number| {
+            let bytes = data.next().expect("data for every block");
+            host.write(number, verify, bytes)
+        })
+    }
+
+    /// Reads blocks, into a file if one is named.
+    pub fn read(&mut self, blocks: Blocks, retry: Retry, to: Option<&str>) -> Result<(), Stop> {
+        let mut bytes = vec![];
+        self.each("read", blocks, |host, number| {
+            let report = host.read(number, retry);
+            bytes.extend_from_slice(host.board.data());
+            report
+        })?;
+        match to {
+            Some(path) => self.keep(blocks, path, &bytes),
+            None => Ok(()),
+        }
+    }
+
+    /// Writes what was read to a file, if all of it is good.
+    fn keep(&mut self, blocks: Blocks, path: &str, bytes: &[u8]) -> Result<(), Stop> {
+        let lost = self.not_good(blocks);
+        self.expectations += 1;
+        if lost.is_empty() {
+            files::write(&self.settings.folder.join(path), bytes)?;
+            writeln!(self.out, "  {} bytes written to {path}", bytes.len())?;
+        } else {
+            self.unmet += 1;
+            let lost = ranges(&lost);
+            writeln!(self.out, "  NOT written to {path}: not read were {lost}")?;
+        }
+        Ok(())
+    }
+
+    /// Reads blocks and compares them with data.
+    pub fn compare(&mut self, blocks: Blocks, retry: Retry, data: &Data) -> Result<(), Stop> {
+        let wanted = data.load(blocks, &self.settings.folder)?;
+        let mut wanted = wanted.iter();
+        let mut others = vec![];
+        self.each("read", blocks, |host, number| {
+            let report = host.read(number, retry);
+            let same = wanted
+                .next()
+                .is_some_and(|w| host.board.data().starts_with(w));
+            if !(same && good(&report)) {
+                others.push(number);
+            }
+            report
+        })?;
+        self.expectations += 1;
+        let name = data.name();
+        if others.is_empty() {
+            let blocks = match blocks.count() {
+                1 => String::from("the bytes are"),
+                count => format!("all {count} blocks are"),
+            };
+            writeln!(self.out, "  {blocks} {name}")?;
+        } else {
+            self.unmet += 1;
+            writeln!(self.out, "  NOT {name}: {}", ranges(&others))?;
+        }
+        Ok(())
+    }
+
+    /// Makes a command for each block and shows what they came to.
+    fn each(
+        &mut self,
+        name: &str,
+        blocks: Blocks,
+        mut command: impl FnMut(&mut Host, u32) -> Report,
+    ) -> Result<(), Stop> {
+        let mut reports = vec![];
+        for number in blocks.numbers() {
+            reports.push(command(&mut self.host, number));
+            self.progress.tick(name, reports.len(), blocks.count());
+        }
+        self.progress.end(blocks.count());
+        let mut first = blocks.first;
+        for group in groups(&reports, self.settings.trace) {
+            let last = first + group.len() as u32 - 1;
+            self.group(name, Blocks { first, last }, group)?;
+            first = last + 1;
+        }
+        self.last = reports;
+        Ok(())
+    }
+
+    /// One line for commands that came to the same.
+    fn group(&mut self, name: &str, blocks: Blocks, reports: &[Report]) -> Result<(), Stop> {
+        let Some(report) = reports.first() else {
+            return Ok(());
+        };
+        let each = match reports.len() {
+            1 => String::new(),
+            number => format!("{}, each ", count(number as u64, "block", "blocks")),
+        };
+        let text = show::command(report);
+        writeln!(self.out, "{name} {}: {each}{text}", blocks.name())?;
+        for line in show::spare_changes(&report.changes) {
+            writeln!(self.out, "  {line}")?;
+        }
+        self.trace(report)?;
+        for (number, report) in blocks.numbers().zip(reports) {
+            self.remember(&format!("{name} {number}"), report);
+        }
+        Ok(())
+    }
+
+    /// The blocks of the host's last line whose commands were not good.
+    fn not_good(&self, blocks: Blocks) -> Vec<u32> {
+        let reports = blocks.numbers().zip(&self.last);
+        reports
+            .filter(|(_, report)| !good(report))
+            .map(|(number, _)| number)
+            .collect()
+    }
+}
+
+/// Whether a command finished well.
+pub fn good(report: &Report) -> bool {
+    matches!(report.end, End::Finished(bytes) if status::good(bytes))
+}
+
+/// Neighbours that are shown as one line; each is shown alone in a trace.
+fn groups(reports: &[Report], alone: bool) -> impl Iterator<Item = &[Report]> {
+    reports.chunk_by(move |one, next| {
+        let spares =
+            show::spare_changes(&one.changes).len() + show::spare_changes(&next.changes).len();
+        !alone && spares == 0 && show::command(one) == show::command(next)
+    })
+}
+
+/// The bytes of a block in lines of 16; a line like the one before it is left out,
+/// and `*` stands for all that are.
+pub fn dump_lines(bytes: &[u8]) -> Vec<String> {
+    let mut lines: Vec<String> = vec![];
+    let mut before: Option<&[u8]> = None;
+    for (place, row) in bytes.chunks(16).enumerate() {
+        if before != Some(row) {
+            lines.push(dump_line(16 * place, row));
+        } else if lines.last().is_some_and(|line| line != "*") {
+            lines.push(String::from("*"));
+        }
+        before = Some(row);
+    }
+    lines
+}
+
+fn dump_line(place: usize, row: &[u8]) -> String {
+    let hex: Vec<String> = row.iter().map(|byte| format!("{byte:02x}")).collect();
+    let printable = |&byte: &u8| match byte {
+        b' '..=b'~' => byte as char,
+        _ => '.',
+    };
+    let text: String = row.iter().map(printable).collect();
+    format!("{place:03x}  {:<47}  |{text}|", hex.join(" "))
+}

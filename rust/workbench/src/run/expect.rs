@@ -1,0 +1,76 @@
+//! What a plan expects of the host's last line.
+
+use std::io::Write;
+
+use super::blocks::good;
+use super::{Run, Stop};
+use crate::board::Accessed;
+use crate::host::{End, Report};
+use crate::plan::Expectation;
+use crate::show::is_store;
+use crate::{status, surface};
+
+impl<W: Write> Run<W> {
+    /// Holds the host's last line against what is expected of it.
+    pub fn expect(&mut self, expectations: &[Expectation]) -> Result<(), Stop> {
+        if self.last.is_empty() {
+            let message = "there is no line of the host before this one";
+            return Err(Stop::Line(String::from(message)));
+        }
+        let broken = |e: &&Expectation| !self.last.iter().all(|report| holds(**e, report));
+        let broken: Vec<String> = expectations.iter().filter(broken).map(named).collect();
+        self.expectations += 1;
+        if !broken.is_empty() {
+            self.unmet += 1;
+            let wanted = broken.join(" and ");
+            writeln!(self.out, "  NOT as line {} expects: {wanted}", self.number)?;
+        }
+        Ok(())
+    }
+}
+
+/// Whether a report is as expected.
+fn holds(expectation: Expectation, report: &Report) -> bool {
+    let finished = match report.end {
+        End::Finished(bytes) => Some(bytes),
+        _ => None,
+    };
+    match expectation {
+        Expectation::Good => good(report),
+        Expectation::Failed => finished.is_some() && !good(report),
+        Expectation::Refused => matches!(report.end, End::Refused(_)),
+        Expectation::Spared => finished.is_some_and(status::spared),
+        Expectation::InPlace => finished.is_some_and(|bytes| !status::spared(bytes)),
+        Expectation::Errors(errors) => finished.is_some_and(|bytes| bytes[3] == errors),
+        Expectation::Accesses(count) => own_accesses(report) == count as usize,
+        Expectation::Stored => report.accesses.iter().any(stored),
+        Expectation::Status(wanted) => finished == Some(wanted),
+    }
+}
+
+/// The accesses of a command; a store before it is none of them.
+fn own_accesses(report: &Report) -> usize {
+    report.accesses.iter().filter(|a| !is_store(a)).count()
+}
+
+/// Whether an access is a store that was done.
+fn stored(accessed: &Accessed) -> bool {
+    is_store(accessed) && accessed.answer == surface::GOOD
+}
+
+/// An expectation as a plan has it.
+fn named(expectation: &Expectation) -> String {
+    match expectation {
+        Expectation::Good => String::from("good"),
+        Expectation::Failed => String::from("failed"),
+        Expectation::Refused => String::from("refused"),
+        Expectation::Spared => String::from("spared"),
+        Expectation::InPlace => String::from("in-place"),
+        Expectation::Stored => String::from("stored"),
+        Expectation::Errors(errors) => format!("errors {errors}"),
+        Expectation::Accesses(count) => format!("accesses {count}"),
+        Expectation::Status([one, two, three, four]) => {
+            format!("status {one:02x} {two:02x} {three:02x} {four:02x}")
+        }
+    }
+}

@@ -1,0 +1,299 @@
+//! What happened, in lines that a person likes to read.
+
+use controller::{Code, Offer};
+use reference::geometry::{spare, SPARES};
+
+use crate::board::{Accessed, Purpose};
+use crate::host::{Change, End, Report};
+use crate::picture::{Mark, Outcome};
+use crate::{status, surface};
+
+/// So many of a thing.
+pub fn count(number: u64, one: &str, more: &str) -> String {
+    let word = if number == 1 { one } else { more };
+    format!("{number} {word}")
+}
+
+/// A store in words, then so many accesses and faults of each kind.
+pub fn folded(accesses: &[Accessed]) -> Vec<String> {
+    let own: Vec<&Accessed> = accesses.iter().filter(|a| !is_store(a)).collect();
+    let purpose = |wanted| own.iter().filter(|a| a.purpose == wanted).count() as u64;
+    let answer = |wanted| own.iter().filter(|a| a.answer == wanted).count() as u64;
+    let counts = [
+        (purpose(Purpose::Read), "read", "reads"),
+        (purpose(Purpose::Write), "write", "writes"),
+        (answer(surface::CRC), "CRC error", "CRC errors"),
+        (answer(surface::TIMEOUT), "timeout", "timeouts"),
+        (answer(surface::NO_SETTLE), "no settle", "no settles"),
+    ];
+    let met = counts.into_iter().filter(|(number, _, _)| *number > 0);
+    let counted = met.map(|(number, one, more)| count(number, one, more));
+    let stores = accesses.iter().filter(|a| is_store(a));
+    stores.map(store).chain(counted).collect()
+}
+
+/// Whether an access is a store, which belongs to no command.
+pub fn is_store(accessed: &Accessed) -> bool {
+    accessed.purpose == Purpose::Store
+}
+
+fn store(accessed: &Accessed) -> String {
+    String::from(match accessed.answer {
+        surface::GOOD => "table stored",
+        surface::TIMEOUT => "table not stored (timeout)",
+        _ => "table not stored (no settle)",
+    })
+}
+
+/// A command's accesses, its verdict, E if it had errors, and the other bits.
+pub fn command(report: &Report) -> String {
+    let mut words = folded(&report.accesses);
+    if first_access(&report.accesses).is_none() {
+        words.push(String::from("no access"));
+    }
+    match report.end {
+        End::Finished(bytes) => words.extend(verdict(bytes, &report.accesses)),
+        end => words.push(ending(end)),
+    }
+    let bad = report.changes.iter().filter_map(bad_change);
+    words.extend(bad.map(String::from));
+    words.extend(at_spare(report));
+    words.join(", ")
+}
+
+/// Where the block lives, if that is a spare and it did not move.
+fn at_spare(report: &Report) -> Option<String> {
+    let moved = |change: &Change| matches!(change, Change::Moved { .. });
+    if report.changes.iter().any(moved) {
+        return None;
+    }
+    let first = first_access(&report.accesses)?;
+    let k = (0..SPARES).find(|&k| spare(k) == Some(first.sector))?;
+    Some(format!("in {}", spare_name(k)))
+}
+
+/// The first access that is the command's own.
+fn first_access(accesses: &[Accessed]) -> Option<&Accessed> {
+    accesses.iter().find(|a| !is_store(a))
+}
+
+fn verdict(bytes: [u8; 4], accesses: &[Accessed]) -> Vec<String> {
+    let verdict = if status::good(bytes) {
+        "good"
+    } else {
+        "failed"
+    };
+    let mut words = vec![String::from(verdict)];
+    if rereads(accesses) {
+        words.push(format!("E {}", bytes[3]));
+    }
+    words.extend(status::words(bytes).into_iter().map(String::from));
+    words
+}
+
+/// Whether these are the accesses of a read command that had something to reread.
+fn rereads(accesses: &[Accessed]) -> bool {
+    first_access(accesses).is_some_and(|a| a.purpose == Purpose::Read && a.answer != surface::GOOD)
+}
+
+/// How a line of the host ended that is no command.
+pub fn ending(end: End) -> String {
+    match end {
+        End::Finished(bytes) => status::all_words(bytes),
+        End::Offered(offer) => format!("offer {:02x}, {}", offer.byte(), offered(offer)),
+        End::Waits => String::from("the controller waits"),
+        End::Refused(code) => format!("refused, code {}: {}", code.number(), refused(code)),
+    }
+}
+
+fn offered(offer: Offer) -> &'static str {
+    match offer {
+        Offer::Command => "a command may come",
+        Offer::Read => "the block will be read",
+        Offer::Write | Offer::Verify => "data may come",
+        Offer::Act => "the block will be written",
+    }
+}
+
+fn refused(code: Code) -> &'static str {
+    match code {
+        Code::Record => "the record is none that a call returned",
+        Code::Buffer => "the buffer has another length",
+        Code::Place => "the call is out of place",
+        Code::Answer => "the surface has no such answer",
+        Code::Bytes => "the bytes do not go with the answer",
+    }
+}
+
+fn bad_change(change: &Change) -> Option<&'static str> {
+    match change {
+        Change::EnteredBad => Some("entered in the bad list"),
+        Change::RemovedBad => Some("removed from the bad list"),
+        Change::Moved { .. } | Change::Died { .. } => None,
+    }
+}
+
+/// Moves and dead spares, a line for each.
+pub fn spare_changes(changes: &[Change]) -> Vec<String> {
+    changes
+        .iter()
+        .filter_map(|change| match change {
+            Change::Moved { block, from, spare } => Some(format!(
+                "block {} moved from sector {} to {}",
+                block.number(),
+                from.number(),
+                spare_name(*spare)
+            )),
+            Change::Died { spare } => Some(format!("{} is dead", spare_name(*spare))),
+            Change::EnteredBad | Change::RemovedBad => None,
+        })
+        .collect()
+}
+
+/// A spare and its sector.
+pub fn spare_name(k: usize) -> String {
+    let sector = spare(k).expect("a table has 32 spares at most");
+    format!("spare {k} (sector {})", sector.number())
+}
+
+/// One access, for a trace.
+pub fn access(accessed: &Accessed) -> String {
+    let purpose = match accessed.purpose {
+        Purpose::Read => "read",
+        Purpose::Write => "write",
+        Purpose::Store => "store",
+    };
+    let how = match (accessed.answer, accessed.purpose) {
+        (surface::GOOD, Purpose::Read) => "good",
+        (surface::GOOD, _) if accessed.spoiled => "done, and the sector is unreadable",
+        (surface::GOOD, _) => "done",
+        (surface::CRC, _) => "CRC error",
+        (surface::TIMEOUT, _) => "timeout",
+        _ => "no settle",
+    };
+    format!("{purpose} sector {}: {how}", accessed.sector.number())
+}
+
+/// The status bytes, for a trace.
+pub fn status_line(bytes: [u8; 4]) -> String {
+    let [one, two, three, four] = bytes;
+    let words = status::all_words(bytes);
+    format!("status {one:02x} {two:02x} {three:02x} {four:02x}: {words}")
+}
+
+/// An access as a picture marks it.
+pub fn mark(accessed: &Accessed) -> Mark {
+    match (accessed.answer, accessed.purpose) {
+        (surface::CRC, _) => Mark::CrcError,
+        (surface::TIMEOUT, _) => Mark::Timeout,
+        (surface::NO_SETTLE, _) => Mark::NoSettle,
+        (_, Purpose::Read) => Mark::Read,
+        (_, Purpose::Write) => Mark::Write,
+        (_, Purpose::Store) => Mark::Store,
+    }
+}
+
+/// A command's end as a picture shows it.
+pub fn outcome(report: &Report) -> Outcome {
+    let moved = report.changes.iter().find_map(|change| match change {
+        Change::Moved { block, spare, .. } => Some((block.number(), *spare)),
+        _ => None,
+    });
+    match (report.end, moved) {
+        (End::Refused(_), _) => Outcome::Refused,
+        (End::Finished(bytes), _) if bytes[0] & status::NOT_55 != 0 => Outcome::None,
+        (End::Finished(bytes), _) if !status::good(bytes) => Outcome::Failed,
+        (End::Finished(_), Some((block, k))) => {
+            let sector = spare(k).expect("a table has 32 spares at most").number();
+            Outcome::Spared { block, sector }
+        }
+        (End::Finished(_), None) => Outcome::Good,
+        (End::Offered(_) | End::Waits, _) => Outcome::None,
+    }
+}
+
+/// Numbers in their order, runs of them as `first..last`.
+pub fn ranges(numbers: &[u32]) -> String {
+    let runs = numbers.chunk_by(|one, next| one + 1 == *next);
+    let words: Vec<String> = runs
+        .map(|run| match run {
+            [one] => one.to_string(),
+            [first, .., last] => format!("{first}..{last}"),
+            [] => String::new(),
+        })
+        .collect();
+    words.join(", ")
+}
+
+#[cfg(test)]
+mod tests {
+    use super::*;
+    use reference::geometry::Sector;
+
+    fn done(purpose: Purpose, answer: u8) -> Accessed {
+        Accessed {
+            purpose,
+            sector: Sector::new(17).expect("a sector"),
+            answer,
+            spoiled: false,
+        }
+    }
+
+    fn report(accesses: Vec<Accessed>, status: [u8; 4]) -> Report {
+        Report {
+            accesses,
+            end: End::Finished(status),
+            changes: vec![],
+        }
+    }
+
+    #[test]
+    fn a_read_with_rereads() {
+        let read = |answer| done(Purpose::Read, answer);
+        let report = report(vec![read(1), read(1), read(0)], [0x08, 0, 0, 1]);
+        assert_eq!(command(&report), "3 reads, 2 CRC errors, good, E 1");
+        assert_eq!(outcome(&report), Outcome::Good);
+    }
+
+    #[test]
+    fn a_clean_write_and_a_command_without_access() {
+        let written = report(vec![done(Purpose::Write, 0)], [0, 0, 0x80, 0]);
+        assert_eq!(
+            command(&written),
+            "1 write, good, first since start or reset"
+        );
+        let none = report(vec![], [0x41, 0x08, 0, 0]);
+        assert_eq!(command(&none), "no access, failed, write aborted, no table");
+    }
+
+    #[test]
+    fn a_store_is_told_apart() {
+        let accesses = vec![done(Purpose::Store, 0), done(Purpose::Read, 0)];
+        assert_eq!(
+            command(&report(accesses, [0; 4])),
+            "table stored, 1 read, good"
+        );
+        let accesses = vec![done(Purpose::Store, 2)];
+        assert_eq!(folded(&accesses), ["table not stored (timeout)"]);
+    }
+
+    #[test]
+    fn refusals_and_offers() {
+        assert_eq!(
+            ending(End::Refused(Code::Place)),
+            "refused, code 3: the call is out of place"
+        );
+        assert_eq!(
+            ending(End::Offered(Offer::Command)),
+            "offer 01, a command may come"
+        );
+    }
+
+    #[test]
+    fn runs_of_numbers() {
+        assert_eq!(ranges(&[]), "");
+        assert_eq!(ranges(&[3]), "3");
+        assert_eq!(ranges(&[3, 4, 5, 7, 9, 10]), "3..5, 7, 9..10");
+        assert_eq!(ranges(&[5, 4, 3]), "5, 4, 3");
+    }
+}

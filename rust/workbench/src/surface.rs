@@ -1,0 +1,77 @@
+//! The surface: how an access goes, by what the platter holds and what is ordered.
+
+use reference::surface::{Access, Left, Outcome};
+
+use crate::faults::Effect;
+use crate::platter::Platter;
+
+/// Answers of the surface, as document 01 numbers them.
+pub const GOOD: u8 = controller::surface::GOOD;
+pub const CRC: u8 = controller::surface::CRC;
+pub const TIMEOUT: u8 = controller::surface::TIMEOUT;
+pub const NO_SETTLE: u8 = controller::surface::NO_SETTLE;
+
+/// How an access goes that is ordered to do this; a write is sent these bytes.
+pub fn outcome(platter: &Platter, access: Access, sent: &[u8], effect: Effect) -> Outcome {
+    match (access, effect) {
+        (_, Effect::Timeout) => Outcome::new(TIMEOUT, vec![]),
+        (_, Effect::NoSettle) => Outcome::new(NO_SETTLE, vec![]),
+        (Access::Write(_), Effect::Unreadable) => Outcome::done(Left::Spoiled),
+        (Access::Write(_), _) => Outcome::done(Left::Held(sent.to_vec())),
+        (Access::Read(sector), Effect::Good) => match platter.held(sector) {
+            Some(held) => Outcome::new(GOOD, held.to_vec()),
+            None => Outcome::new(CRC, damaged(&platter.bytes(sector))),
+        },
+        (Access::Read(sector), _) => Outcome::new(CRC, damaged(&platter.bytes(sector))),
+    }
+}
+
+/// What a CRC error brings: the bytes with a bit turned over in every 128th.
+fn damaged(bytes: &[u8]) -> Vec<u8> {
+    let mut bytes = bytes.to_vec();
+    for byte in bytes.iter_mut().skip(5).step_by(128) {
+        *byte ^= 0x40;
+    }
+    bytes
+}
+
+#[cfg(test)]
+mod tests {
+    use super::*;
+    use reference::geometry::Sector;
+    use reference::surface::obeys;
+
+    const EFFECTS: [Effect; 5] = [
+        Effect::Good,
+        Effect::Crc,
+        Effect::Timeout,
+        Effect::NoSettle,
+        Effect::Unreadable,
+    ];
+
+    #[test]
+    fn every_outcome_keeps_the_rules() {
+        let sector = Sector::new(17).expect("a sector");
+        let sent = [7; 532];
+        let mut platter = Platter::blank();
+        for unreadable in [false, true] {
+            for access in [Access::Read(sector), Access::Write(sector)] {
+                for effect in EFFECTS {
+                    let outcome = outcome(&platter, access, &sent, effect);
+                    let kept = obeys(platter.sectors(), access, &sent, &outcome);
+                    assert!(kept, "{access:?} {effect:?} {unreadable}");
+                }
+            }
+            platter.leave(Access::Write(sector), &sent, &Left::Spoiled);
+        }
+    }
+
+    #[test]
+    fn a_crc_error_damages_the_bytes() {
+        let sector = Sector::new(17).expect("a sector");
+        let platter = Platter::blank();
+        let outcome = outcome(&platter, Access::Read(sector), &[], Effect::Crc);
+        let changed = outcome.bytes.iter().filter(|&&byte| byte != 0).count();
+        assert_eq!((outcome.answer, changed), (CRC, 5));
+    }
+}

@@ -1,0 +1,138 @@
+//! The command itself: its exit status, its messages and the files it leaves.
+
+use std::fs;
+use std::io::Write;
+use std::path::{Path, PathBuf};
+use std::process::{Command, Stdio};
+
+/// An empty folder for one test.
+fn folder(name: &str) -> PathBuf {
+    let folder = std::env::temp_dir().join(format!("workbench-{}-{name}", std::process::id()));
+    let _ = fs::remove_dir_all(&folder);
+    fs::create_dir_all(&folder).expect("a folder");
+    folder
+}
+
+/// Runs the command in a folder. Says its exit status, its output and its messages.
+fn workbench(folder: &Path, arguments: &[&str], input: &str) -> (i32, String, String) {
+    let mut child = Command::new(env!("CARGO_BIN_EXE_workbench"))
+        .args(arguments)
+        .current_dir(folder)
+        .stdin(Stdio::piped())
+        .stdout(Stdio::piped())
+        .stderr(Stdio::piped())
+        .spawn()
+        .expect("the command");
+    let mut pipe = child.stdin.take().expect("a pipe");
+    pipe.write_all(input.as_bytes()).expect("written");
+    drop(pipe);
+    let output = child.wait_with_output().expect("its end");
+    let text = |bytes| String::from_utf8(bytes).expect("text");
+    let status = output.status.code().expect("a status");
+    (status, text(output.stdout), text(output.stderr))
+}
+
+#[test]
+fn help_and_wrong_arguments() {
+    let here = folder("arguments");
+    let (status, out, _) = workbench(&here, &["--help"], "");
+    assert_eq!(status, 0);
+    for word in ["week", "run", "import", "export", "picture", "timeline"] {
+        assert!(out.contains(&format!("\n  workbench {word} ")), "{word}");
+    }
+    for arguments in [
+        &[][..],
+        &["ran"],
+        &["run", "none.plan"],
+        &["run", "--platter"],
+        &["run", "--fast"],
+        &["run", "week", "latch"],
+        &["import", "none"],
+    ] {
+        let (status, out, message) = workbench(&here, arguments, "");
+        assert_eq!((status, out.as_str()), (2, ""), "{arguments:?}");
+        assert!(message.starts_with("workbench: "), "{message}");
+    }
+    fs::remove_dir_all(here).expect("removed");
+}
+
+#[test]
+fn a_bad_plan_is_named_with_its_line() {
+    let here = folder("bad-plan");
+    fs::write(here.join("my.plan"), "start\n\nread 17\nwrite 17 xx\n").expect("written");
+    let (status, out, message) = workbench(&here, &["run", "my.plan"], "");
+    assert_eq!(status, 2);
+    assert!(out.contains("read 17: 1 read, good"), "{out}");
+    assert!(
+        message.starts_with("workbench: my.plan:4: \"xx\" is no data"),
+        "{message}"
+    );
+    let (_, _, message) = workbench(&here, &["run"], "start\nfault\n");
+    assert!(
+        message.starts_with("workbench: standard input:2: "),
+        "{message}"
+    );
+    fs::remove_dir_all(here).expect("removed");
+}
+
+#[test]
+fn a_platter_is_kept_from_run_to_run() {
+    let here = folder("kept");
+    let on_platter = ["run", "--platter", "shop.platter"];
+    let moved = "fault sector 17 writes all unreadable\nstart\nwrite-verify 17 \"one\"\nraise\n";
+    let (status, _, _) = workbench(&here, &on_platter, moved);
+    assert_eq!(status, 0);
+    let length = fs::metadata(here.join("shop.platter"))
+        .expect("a platter")
+        .len();
+    assert_eq!(length, 5_209_344);
+    let list = fs::read_to_string(here.join("shop.platter.unreadable"));
+    assert_eq!(list.expect("a list"), "17\n");
+    let again = "start\ncompare 17 with \"one\"\n";
+    let (status, out, _) = workbench(&here, &on_platter, again);
+    assert_eq!(status, 0);
+    assert!(
+        out.contains("block 17 lives in spare 0 (sector 4928)"),
+        "{out}"
+    );
+    let (status, _, _) = workbench(&here, &on_platter, "start\ncompare 17 with \"two\"\n");
+    assert_eq!(status, 1);
+
+    fs::write(here.join("small"), "PROFILE").expect("written");
+    let (status, _, message) = workbench(&here, &["run", "--platter", "small"], "start\n");
+    assert_eq!(status, 2);
+    assert!(
+        message.contains("has 7 bytes and is no platter"),
+        "{message}"
+    );
+    assert_eq!(fs::read(here.join("small")).expect("a file"), b"PROFILE");
+    fs::remove_dir_all(here).expect("removed");
+}
+
+#[test]
+fn images_and_pictures() {
+    let here = folder("images");
+    let image: Vec<u8> = (0..9728 * 532).map(|n: u32| (n / 532) as u8).collect();
+    fs::write(here.join("a.image"), &image).expect("written");
+    let (status, _, message) = workbench(&here, &["import", "a.image", "p"], "");
+    assert_eq!((status, message.as_str()), (0, ""));
+    let (status, _, _) = workbench(&here, &["export", "p", "b.image"], "");
+    assert_eq!(status, 0);
+    assert!(fs::read(here.join("b.image")).expect("an image") == image);
+    fs::write(here.join("p.unreadable"), "5\n6\n").expect("written");
+    let (status, _, message) = workbench(&here, &["export", "p", "c.image"], "");
+    assert_eq!(status, 1);
+    assert!(
+        message.contains("blocks that cannot be read: 5..6;"),
+        "{message}"
+    );
+    assert!(!here.join("c.image").exists());
+
+    for arguments in [["picture", "p", "p.svg"], ["timeline", "week", "w.svg"]] {
+        let (status, _, message) = workbench(&here, &arguments, "");
+        assert_eq!((status, message.as_str()), (0, ""));
+        let svg = fs::read_to_string(here.join(arguments[2])).expect("a picture");
+        assert!(svg.contains("<svg") && svg.trim_end().ends_with("</svg>"));
+    }
+    fs::remove_dir_all(here).expect("removed");
+}
