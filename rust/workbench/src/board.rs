@@ -40,7 +40,7 @@ pub struct Board {
     platter: Platter,
     history: History,
     pub faults: Faults,
-    /// The last answer that was not an access.
+    /// The last answer that was neither an access nor a refusal.
     last: Answer,
 }
 
@@ -74,7 +74,8 @@ impl Board {
         self.drive.record()
     }
 
-    /// The last answer that was not an access.
+    /// The last answer that was neither an access nor a refusal: where the handshake
+    /// stands.
     pub fn last(&self) -> Answer {
         self.last
     }
@@ -105,7 +106,9 @@ impl Board {
         while let Some((purpose, sector)) = asked(answer) {
             answer = self.access(purpose, sector, done);
         }
-        self.last = answer;
+        if !matches!(answer, Answer::Refused(_)) {
+            self.last = answer;
+        }
         answer
     }
 

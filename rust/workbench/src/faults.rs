@@ -39,7 +39,7 @@ impl Kind {
 /// A planned fault: what it orders for each access that it is asked about.
 #[derive(Clone, Debug, PartialEq, Eq)]
 pub enum Fault {
-    /// The effects in turn, each so many times; then nothing more.
+    /// The effects in turn, each so many times, once at least; then nothing more.
     InTurn(VecDeque<(u32, Effect)>),
     /// All from now on.
     All(Effect),
@@ -52,7 +52,7 @@ pub enum Fault {
 }
 
 impl Fault {
-    /// The next so many accesses.
+    /// The next so many accesses, one at least.
     pub fn next(times: u32, effect: Effect) -> Fault {
         Fault::InTurn(VecDeque::from([(times, effect)]))
     }

@@ -292,11 +292,13 @@ mod tests {
         assert_eq!(host.read(5, USUAL).end, End::Finished([0, 0, 0x80, 0]));
         host.raise();
         assert_eq!(host.raise().end, End::Refused(Code::Place));
+        assert_eq!(host.read(5, USUAL).end, End::Finished([0; 4]));
+        host.raise();
         assert_eq!(host.lower(0).end, End::Finished([0x80, 0, 0, 0]));
         host.raise();
         host.lower(GO_ON);
-        // Command bytes are awaited: the raise of the command drops none.
+        // Command bytes are awaited, none came, and the command's raise gives offer 01.
         assert_eq!(host.read(5, USUAL).end, End::Finished([0; 4]));
-        assert_eq!(host.tally.commands, 2);
+        assert_eq!(host.tally.commands, 3);
     }
 }

@@ -5,7 +5,7 @@
 
 use std::env;
 use std::fs::File;
-use std::io::{self, BufRead, BufReader, BufWriter, Write};
+use std::io::{self, BufRead, BufReader, BufWriter, IsTerminal, Write};
 use std::path::{Path, PathBuf};
 use std::process::ExitCode;
 
@@ -20,6 +20,9 @@ const HELP: &str = include_str!("help.txt");
 
 /// The plans of the repository.
 const PLANS: &str = concat!(env!("CARGO_MANIFEST_DIR"), "/../../plans");
+
+/// The mission's week.
+const WEEK: &str = concat!(env!("CARGO_MANIFEST_DIR"), "/../../plans/week.plan");
 
 fn main() -> ExitCode {
     let arguments: Vec<String> = env::args().skip(1).collect();
@@ -37,20 +40,15 @@ fn main() -> ExitCode {
 /// Does what the arguments say. Says whether all was as it should be.
 fn command(words: &[&str]) -> Result<bool, String> {
     match words {
-        ["--help" | "-h" | "help"] => {
-            print!("{HELP}");
-            Ok(true)
-        }
-        ["--version"] => {
-            println!("workbench {}", env!("CARGO_PKG_VERSION"));
-            Ok(true)
-        }
+        ["--help" | "-h" | "help"] => say(HELP),
+        ["--version"] => say(concat!("workbench ", env!("CARGO_PKG_VERSION"), "\n")),
         ["run", rest @ ..] => run(rest),
-        ["week", rest @ ..] => run(&[rest, &["week"]].concat()),
+        ["week", rest @ ..] => run(&[rest, &[WEEK]].concat()),
         ["import", image, platter] => {
             image_files::import(Path::new(image), Path::new(platter))?;
-            println!("{platter}: 9728 blocks of {image}, with an empty table");
-            Ok(true)
+            say(&format!(
+                "{platter}: the 9728 blocks of {image}, with an empty table\n"
+            ))
         }
         ["export", platter, image] => export(platter, image, false),
         ["export", "--keep-going", platter, image] => export(platter, image, true),
@@ -59,6 +57,16 @@ fn command(words: &[&str]) -> Result<bool, String> {
         [] => Err(String::from("what is to be done? see --help")),
         words => Err(format!("\"{}\" is no command; see --help", words.join(" "))),
     }
+}
+
+/// Writes to standard output.
+fn say(text: &str) -> Result<bool, String> {
+    let written = io::stdout().write_all(text.as_bytes());
+    written.map_err(output_fault).map(|()| true)
+}
+
+fn output_fault(error: io::Error) -> String {
+    format!("the output cannot be written: {error}")
 }
 
 /// Runs a plan and shows what happens.
@@ -89,30 +97,44 @@ fn play(
     mut settings: Settings,
     out: impl Write,
 ) -> Result<(bool, Vec<Moment>), String> {
-    let (name, input): (String, Box<dyn BufRead>) = match plan {
-        None => (String::from("standard input"), Box::new(io::stdin().lock())),
+    let input = match plan {
         Some(word) => {
             let path = find_plan(word);
-            let file = File::open(&path).map_err(|e| format!("{word} cannot be read: {e}"))?;
             settings.folder = path.parent().map(Path::to_path_buf).unwrap_or_default();
-            (word.to_string(), Box::new(BufReader::new(file)))
+            open(&path)?
         }
+        None => standard_input(),
     };
+    let name = plan.unwrap_or("standard input");
     let mut run = Run::new(settings, BufWriter::new(out))?;
     let played = run.plan(input);
     let number = run.number();
     match played.and_then(|()| run.finish()) {
         Ok(ended) => Ok(ended),
         Err(Stop::Line(message)) => Err(format!("{name}:{number}: {message}")),
-        Err(Stop::Output(error)) => Err(format!("the output cannot be written: {error}")),
+        Err(Stop::Output(error)) => Err(output_fault(error)),
     }
+}
+
+fn open(path: &Path) -> Result<Box<dyn BufRead>, String> {
+    match File::open(path) {
+        Ok(file) => Ok(Box::new(BufReader::new(file))),
+        Err(error) => Err(format!("{} cannot be read: {error}", path.display())),
+    }
+}
+
+fn standard_input() -> Box<dyn BufRead> {
+    if io::stdin().is_terminal() {
+        eprintln!("workbench: lines of a plan, please; --help shows them, and Ctrl-D ends");
+    }
+    Box::new(io::stdin().lock())
 }
 
 /// The file of this name, or else the repository's plan of this name.
 fn find_plan(word: &str) -> PathBuf {
     let path = PathBuf::from(word);
     let known = Path::new(PLANS).join(format!("{word}.plan"));
-    match !path.exists() && known.exists() {
+    match !path.is_file() && known.is_file() {
         true => known,
         false => path,
     }
@@ -121,8 +143,7 @@ fn find_plan(word: &str) -> PathBuf {
 fn export(platter: &str, image: &str, keep_going: bool) -> Result<bool, String> {
     let lost = image_files::export(Path::new(platter), Path::new(image), keep_going)?;
     if lost.is_empty() {
-        println!("{image}: the 9728 blocks of {platter}");
-        return Ok(true);
+        return say(&format!("{image}: the 9728 blocks of {platter}\n"));
     }
     let blocks = show::ranges(&lost);
     let rest = match keep_going {

@@ -10,6 +10,7 @@ use std::io::{self, BufRead, Write};
 use std::path::PathBuf;
 
 use crate::board::Board;
+use crate::data::Blocks;
 use crate::host::{End, Host, Report, USUAL};
 use crate::picture::{Moment, Outcome};
 use crate::plan::{self, Line};
@@ -103,7 +104,7 @@ impl<W: Write> Run<W> {
                 return self.save();
             }
             let line = std::str::from_utf8(&bytes).map_err(|_| String::from("no UTF-8 text"))?;
-            self.line(plan::parse(line)?)?;
+            self.line(plan::parse(line)?, line.trim())?;
             self.save()?;
             self.out.flush()?;
         }
@@ -138,8 +139,8 @@ impl<W: Write> Run<W> {
         Ok((allowed && self.unmet == 0, self.moments))
     }
 
-    /// Does a line.
-    fn line(&mut self, line: Line) -> Result<(), Stop> {
+    /// Does a line that was read from this text.
+    fn line(&mut self, line: Line, text: &str) -> Result<(), Stop> {
         if needs_start(&line) && self.host.board.history().starts() == 0 {
             let message = "the drive is not started yet: a line \"start\" comes first";
             return Err(Stop::Line(String::from(message)));
@@ -149,21 +150,12 @@ impl<W: Write> Run<W> {
             Line::Say(text) => self.say(text),
             Line::Fault(order) => {
                 order.give(&mut self.host.board.faults);
-                Ok(())
+                Ok(writeln!(self.out, "{text}")?)
             }
             Line::Start => self.start(),
-            Line::Reset => {
-                let report = self.host.reset();
-                self.single("reset", report)
-            }
-            Line::Raise => {
-                let report = self.host.raise();
-                self.single("raise", report)
-            }
-            Line::Lower(byte) => {
-                let report = self.host.lower(byte);
-                self.single(&format!("lower {byte:02x}"), report)
-            }
+            Line::Reset => self.single("reset", Host::reset),
+            Line::Raise => self.single("raise", Host::raise),
+            Line::Lower(byte) => self.single(&format!("lower {byte:02x}"), |h| h.lower(byte)),
             Line::Table => self.table(),
             Line::Dump(number) => self.dump(number),
             Line::Read { blocks, retry, to } => self.read(blocks, retry, to.as_deref()),
@@ -207,7 +199,8 @@ impl<W: Write> Run<W> {
     }
 
     /// A line of the host that is no command.
-    fn single(&mut self, name: &str, report: Report) -> Result<(), Stop> {
+    fn single(&mut self, name: &str, act: impl FnOnce(&mut Host) -> Report) -> Result<(), Stop> {
+        let report = act(&mut self.host);
         let mut words = show::folded(&report.accesses);
         words.push(show::ending(report.end));
         writeln!(self.out, "{name}: {}", words.join(", "))?;
@@ -264,7 +257,7 @@ impl<W: Write> Run<W> {
     /// Reads a block and shows its bytes, equal lines once.
     fn dump(&mut self, number: u32) -> Result<(), Stop> {
         let report = self.host.read(number, USUAL);
-        let name = format!("dump {number}");
+        let name = format!("dump {}", Blocks::one(number).name());
         writeln!(self.out, "{name}: {}", show::command(&report))?;
         self.record(&name, report)?;
         for line in blocks::dump_lines(self.host.board.data()) {

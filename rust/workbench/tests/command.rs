@@ -24,7 +24,8 @@ fn workbench(folder: &Path, arguments: &[&str], input: &str) -> (i32, String, St
         .spawn()
         .expect("the command");
     let mut pipe = child.stdin.take().expect("a pipe");
-    pipe.write_all(input.as_bytes()).expect("written");
+    // A command that refuses its arguments is gone before it reads.
+    let _ = pipe.write_all(input.as_bytes());
     drop(pipe);
     let output = child.wait_with_output().expect("its end");
     let text = |bytes| String::from_utf8(bytes).expect("text");

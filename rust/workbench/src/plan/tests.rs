@@ -183,3 +183,16 @@ fn wrong_lines() {
         assert!(message.contains(part), "{line}: {message}");
     }
 }
+
+#[test]
+fn no_line_breaks_the_parser() {
+    let mut rng = reference::rng::Rng::new(9);
+    let words: Vec<&str> = WRONG.iter().flat_map(|(line, _)| line.split(' ')).collect();
+    let mut lines = 0;
+    for _ in 0..20_000 {
+        let count = 1 + rng.place(7);
+        let line: Vec<&str> = (0..count).map(|_| rng.pick(&words)).collect();
+        lines += usize::from(parse(&line.join(" ")).is_ok());
+    }
+    assert!(lines > 100, "{lines}");
+}

@@ -112,7 +112,7 @@ fn equal_commands_are_one_line_and_a_trace_has_all() {
     let plan =
         "start\nreset\nwrite 3..6 \"one\"\nfault sector 5 reads next 1 timeout\nread 3..6 1 1\n";
     let (_, _, out) = played(plan, Settings::default());
-    let lines: Vec<&str> = out.lines().take(7).collect();
+    let lines: Vec<&str> = out.lines().take(8).collect();
     assert_eq!(
         lines,
         [
@@ -120,6 +120,7 @@ fn equal_commands_are_one_line_and_a_trace_has_all() {
             "reset: the controller waits",
             "write 3: 1 write, good, first since start or reset",
             "write 4..6: 3 blocks, each 1 write, good",
+            "fault sector 5 reads next 1 timeout",
             "read 3..4: 2 blocks, each 1 read, good",
             "read 5: 2 reads, 1 timeout, good, E 0",
             "read 6: 1 read, good",
