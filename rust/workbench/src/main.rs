@@ -5,6 +5,7 @@
 
 use std::env;
 use std::fs::File;
+use std::io::ErrorKind::BrokenPipe;
 use std::io::{self, BufRead, BufReader, BufWriter, IsTerminal, Write};
 use std::path::{Path, PathBuf};
 use std::process::ExitCode;
@@ -112,6 +113,8 @@ fn play(
     match played.and_then(|()| run.finish()) {
         Ok(ended) => Ok(ended),
         Err(Stop::Line(message)) => Err(format!("{name}:{number}: {message}")),
+        // Whoever read the output has seen enough.
+        Err(Stop::Output(error)) if error.kind() == BrokenPipe => Ok((false, vec![])),
         Err(Stop::Output(error)) => Err(output_fault(error)),
     }
 }

@@ -8,7 +8,6 @@ pub fn platter(title: &str, _table: Option<&Table>, _unreadable: &[u32]) -> Stri
 }
 
 /// One host command of a plan's run, or a heading.
-#[derive(Clone, Debug, PartialEq, Eq)]
 pub struct Moment {
     /// What a `say` line says: a new day begins.
     pub heading: Option<String>,
@@ -20,7 +19,6 @@ pub struct Moment {
 }
 
 /// How an access went.
-#[derive(Clone, Copy, Debug, PartialEq, Eq)]
 pub enum Mark {
     Read,
     Write,
@@ -31,7 +29,6 @@ pub enum Mark {
 }
 
 /// How a command ended.
-#[derive(Clone, Copy, Debug, PartialEq, Eq)]
 pub enum Outcome {
     Good,
     Spared { block: u32, sector: u32 },

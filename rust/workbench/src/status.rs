@@ -53,18 +53,27 @@ pub fn spared(status: [u8; 4]) -> bool {
 
 /// The words of the bits that neither the accesses nor the verdict tell.
 pub fn words(status: [u8; 4]) -> Vec<&'static str> {
-    set(&OTHERS, status).collect()
+    reason(status)
+        .into_iter()
+        .chain(set(&OTHERS, status))
+        .collect()
 }
 
 /// The words of all bits, and E.
 pub fn all_words(status: [u8; 4]) -> String {
-    let words = set(&SHOWN_ELSEWHERE, status).chain(set(&OTHERS, status));
+    let words = set(&SHOWN_ELSEWHERE, status).chain(words(status));
     let mut words: Vec<String> = words.map(String::from).collect();
     if words.is_empty() {
         words.push(String::from("nothing to report"));
     }
     words.push(format!("E {}", status[3]));
     words.join(", ")
+}
+
+/// Why a write was aborted, unless it was for want of a table.
+fn reason(status: [u8; 4]) -> Option<&'static str> {
+    let aborted = status[0] & ABORTED != 0 && status[1] & NO_TABLE == 0;
+    aborted.then_some("more than 532 bytes")
 }
 
 /// The words of those bits that are set.
@@ -80,7 +89,7 @@ mod tests {
     /// Document 01's bits: status byte, bit, word.
     const BITS: [(usize, u32, &str); 12] = [
         (1, 7, "broken off by the host"),
-        (1, 6, "write aborted"),
+        (1, 6, "more than 532 bytes, write aborted"),
         (1, 4, "latched"),
         (1, 3, "CRC error met"),
         (1, 2, "timeout met"),

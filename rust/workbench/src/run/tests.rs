@@ -150,14 +150,19 @@ fn moments_are_kept_for_a_picture() {
     assert_eq!(moments.len(), 5);
     assert_eq!(moments[0].heading.as_deref(), Some("Monday"));
     assert_eq!(moments[2].command, "write-verify 9");
-    let spared = Outcome::Spared {
-        block: 9,
-        sector: 4928,
-    };
-    assert_eq!(moments[2].outcome, spared);
-    assert_eq!(moments[2].accesses[..2], [Mark::Write, Mark::CrcError]);
-    assert_eq!(moments[3].accesses, [Mark::Store]);
-    assert_eq!(moments[4].outcome, Outcome::Failed);
+    assert!(matches!(
+        moments[2].outcome,
+        Outcome::Spared {
+            block: 9,
+            sector: 4928
+        }
+    ));
+    assert!(matches!(
+        moments[2].accesses[..],
+        [Mark::Write, Mark::CrcError, ..]
+    ));
+    assert!(matches!(moments[3].accesses[..], [Mark::Store]));
+    assert!(matches!(moments[4].outcome, Outcome::Failed));
 }
 
 #[test]
