@@ -56,6 +56,13 @@ pub struct Report {
     pub changes: Vec<Change>,
 }
 
+impl Report {
+    /// Whether a command finished well.
+    pub fn good(&self) -> bool {
+        matches!(self.end, End::Finished(bytes) if status::good(bytes))
+    }
+}
+
 /// What was counted in a run.
 #[derive(Clone, Copy, Debug, Default, PartialEq, Eq)]
 pub struct Tally {
@@ -219,6 +226,7 @@ mod tests {
     use super::*;
     use crate::faults::{Effect, Fault, Kind};
     use crate::platter::Platter;
+    use reference::surface::{Access, Left};
 
     fn started() -> Host {
         let mut host = Host::new(Board::new(Platter::blank()));
@@ -283,6 +291,24 @@ mod tests {
         );
         assert_eq!(host.tally.moves, 2);
         assert!(host.board.history().allowed());
+    }
+
+    #[test]
+    fn bytes_that_change_under_the_controller_break_the_history() {
+        let mut host = started();
+        host.write(5, true, &[7; 532]);
+        assert!(host.board.history().allowed());
+        let other = vec![8; 532];
+        let access = Access::Write(sector(5));
+        let platter = host.board.platter_mut();
+        platter.leave(access, &other, &Left::Held(other.clone()));
+        assert!(host.read(5, USUAL).good());
+        host.start();
+        assert!(!host.board.history().allowed());
+        assert_eq!(
+            host.board.history().verdict(),
+            "broken, after start 1: a good read of block 5 gave other bytes"
+        );
     }
 
     #[test]

@@ -9,10 +9,9 @@ use reference::geometry::BLOCKS;
 
 use crate::board::Board;
 use crate::files;
-use crate::host::{End, Host, Report, Retry};
+use crate::host::{Host, Retry};
 use crate::platter::Platter;
 use crate::progress::Progress;
-use crate::status;
 
 /// Length of an image file.
 pub const LENGTH: usize = BLOCKS as usize * SECTOR_BYTES;
@@ -39,7 +38,7 @@ pub fn import(image: &Path, platter: &Path) -> Result<(), String> {
     let progress = Progress::new();
     for (number, block) in (0..BLOCKS).zip(bytes.chunks_exact(SECTOR_BYTES)) {
         let report = host.write(number, false, block);
-        assert!(good(&report), "a write without faults is good");
+        assert!(report.good(), "a write without faults is good");
         progress.tick("import", number as usize, BLOCKS as usize);
     }
     progress.end(BLOCKS as usize);
@@ -63,7 +62,7 @@ pub fn export(platter: &Path, image: &Path, keep_going: bool) -> Result<Vec<u32>
     let mut bytes = Vec::with_capacity(LENGTH);
     let mut lost = vec![];
     for number in 0..BLOCKS {
-        if good(&host.read(number, PATIENT)) {
+        if host.read(number, PATIENT).good() {
             bytes.extend_from_slice(host.board.data());
         } else {
             bytes.extend_from_slice(&[0; SECTOR_BYTES]);
@@ -76,10 +75,6 @@ pub fn export(platter: &Path, image: &Path, keep_going: bool) -> Result<Vec<u32>
         files::write(image, &bytes)?;
     }
     Ok(lost)
-}
-
-fn good(report: &Report) -> bool {
-    matches!(report.end, End::Finished(bytes) if status::good(bytes))
 }
 
 /// Neither command writes over a file.

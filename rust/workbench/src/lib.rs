@@ -3,8 +3,10 @@
 //! `platter` holds the sectors, `faults` what the surface is ordered to do, and
 //! `surface` answers an access by the two. `board` puts them under the proved
 //! controller, with `history` beside it, and `host` makes the host's commands.
-//! `plan` reads a line of a plan and `run` does it; `show`, `status` and `summary`
-//! say what happened. `image_files` brings images on a platter and takes them off.
+//! `plan` reads a line of a plan, with its `data`, and `run` does it; `traffic` makes
+//! random commands. `show`, `status` and `summary` say what happened, `progress` how
+//! far a long line is, and `picture` draws it. `image_files` brings images on a
+//! platter and takes them off; `files` reads and writes all files.
 
 pub mod board;
 pub mod data;

@@ -26,9 +26,11 @@ const PLANS: &str = concat!(env!("CARGO_MANIFEST_DIR"), "/../../plans");
 const WEEK: &str = concat!(env!("CARGO_MANIFEST_DIR"), "/../../plans/week.plan");
 
 fn main() -> ExitCode {
-    let arguments: Vec<String> = env::args().skip(1).collect();
-    let words: Vec<&str> = arguments.iter().map(String::as_str).collect();
-    match command(&words) {
+    let done = arguments().and_then(|arguments| {
+        let words: Vec<&str> = arguments.iter().map(String::as_str).collect();
+        command(&words)
+    });
+    match done {
         Ok(true) => ExitCode::SUCCESS,
         Ok(false) => ExitCode::from(1),
         Err(message) => {
@@ -36,6 +38,14 @@ fn main() -> ExitCode {
             ExitCode::from(2)
         }
     }
+}
+
+/// The arguments as text.
+fn arguments() -> Result<Vec<String>, String> {
+    let words = env::args_os().skip(1).map(|word| word.into_string());
+    words
+        .collect::<Result<_, _>>()
+        .map_err(|word| format!("{} is no UTF-8 text", word.display()))
 }
 
 /// Does what the arguments say. Says whether all was as it should be.

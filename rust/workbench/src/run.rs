@@ -10,8 +10,7 @@ use std::io::{self, BufRead, Write};
 use std::path::PathBuf;
 
 use crate::board::Board;
-use crate::data::Blocks;
-use crate::host::{End, Host, Report, USUAL};
+use crate::host::{End, Host, Report};
 use crate::picture::{Moment, Outcome};
 use crate::plan::{self, Line};
 use crate::platter::Platter;
@@ -249,18 +248,6 @@ impl<W: Write> Run<W> {
         let counts = summary::table_counts(&table, summary::stored(&self.host));
         writeln!(self.out, "table: {counts}")?;
         for line in summary::table_lines(&table) {
-            writeln!(self.out, "  {line}")?;
-        }
-        Ok(())
-    }
-
-    /// Reads a block and shows its bytes, equal lines once.
-    fn dump(&mut self, number: u32) -> Result<(), Stop> {
-        let report = self.host.read(number, USUAL);
-        let name = format!("dump {}", Blocks::one(number).name());
-        writeln!(self.out, "{name}: {}", show::command(&report))?;
-        self.record(&name, report)?;
-        for line in blocks::dump_lines(self.host.board.data()) {
             writeln!(self.out, "  {line}")?;
         }
         Ok(())

@@ -5,9 +5,8 @@ use std::io::Write;
 use super::{Run, Stop};
 use crate::data::{Blocks, Data};
 use crate::files;
-use crate::host::{End, Host, Report, Retry};
-use crate::show::{self, count, ranges};
-use crate::status;
+use crate::host::{Host, Report, Retry, USUAL};
+use crate::show::{self, ranges};
 
 impl<W: Write> Run<W> {
     /// Writes blocks.
@@ -60,7 +59,7 @@ impl<W: Write> Run<W> {
             let same = wanted
                 .next()
                 .is_some_and(|w| host.board.data().starts_with(w));
-            if !(same && good(&report)) {
+            if !(same && report.good()) {
                 others.push(number);
             }
             report
@@ -80,6 +79,16 @@ impl<W: Write> Run<W> {
         Ok(())
     }
 
+    /// Reads a block and shows its bytes.
+    pub fn dump(&mut self, number: u32) -> Result<(), Stop> {
+        let block = Blocks::one(number);
+        self.each("dump", block, |host, number| host.read(number, USUAL))?;
+        for line in dump_lines(self.host.board.data()) {
+            writeln!(self.out, "  {line}")?;
+        }
+        Ok(())
+    }
+
     /// Makes a command for each block and shows what they came to.
     fn each(
         &mut self,
@@ -89,54 +98,51 @@ impl<W: Write> Run<W> {
     ) -> Result<(), Stop> {
         let mut reports = vec![];
         for number in blocks.numbers() {
-            reports.push(command(&mut self.host, number));
+            let report = command(&mut self.host, number);
+            self.remember(&format!("{name} {number}"), &report);
+            reports.push(report);
             self.progress.tick(name, reports.len(), blocks.count());
         }
         self.progress.end(blocks.count());
-        let mut first = blocks.first;
-        for group in groups(&reports, self.settings.trace) {
-            let last = first + group.len() as u32 - 1;
-            self.group(name, Blocks { first, last }, group)?;
-            first = last + 1;
-        }
+        self.show_groups(name, blocks.first, &reports)?;
         self.last = reports;
         Ok(())
     }
 
-    /// One line for commands that came to the same.
-    fn group(&mut self, name: &str, blocks: Blocks, reports: &[Report]) -> Result<(), Stop> {
-        let Some(report) = reports.first() else {
-            return Ok(());
-        };
-        let each = match reports.len() {
-            1 => String::new(),
-            number => format!("{}, each ", count(number as u64, "block", "blocks")),
-        };
-        let text = show::command(report);
-        writeln!(self.out, "{name} {}: {each}{text}", blocks.name())?;
+    /// A line for each group of commands that came to the same.
+    fn show_groups(&mut self, name: &str, first: u32, reports: &[Report]) -> Result<(), Stop> {
+        let mut first = first;
+        for group in groups(reports, self.settings.trace) {
+            let last = first + group.len() as u32 - 1;
+            let blocks = Blocks { first, last }.name();
+            let name = match group.len() {
+                1 => format!("{name} {blocks}:"),
+                count => format!("{name} {blocks}: {count} blocks, each"),
+            };
+            self.show(&name, &group[0])?;
+            first = last + 1;
+        }
+        Ok(())
+    }
+
+    /// A command that has this name: its line, a line for each change of a spare,
+    /// and its accesses in a trace.
+    pub fn show(&mut self, name: &str, report: &Report) -> Result<(), Stop> {
+        writeln!(self.out, "{name} {}", show::command(report))?;
         for line in show::spare_changes(&report.changes) {
             writeln!(self.out, "  {line}")?;
         }
-        self.trace(report)?;
-        for (number, report) in blocks.numbers().zip(reports) {
-            self.remember(&format!("{name} {number}"), report);
-        }
-        Ok(())
+        self.trace(report)
     }
 
     /// The blocks of the host's last line whose commands were not good.
     fn not_good(&self, blocks: Blocks) -> Vec<u32> {
         let reports = blocks.numbers().zip(&self.last);
         reports
-            .filter(|(_, report)| !good(report))
+            .filter(|(_, report)| !report.good())
             .map(|(number, _)| number)
             .collect()
     }
-}
-
-/// Whether a command finished well.
-pub fn good(report: &Report) -> bool {
-    matches!(report.end, End::Finished(bytes) if status::good(bytes))
 }
 
 /// Neighbours that are shown as one line; each is shown alone in a trace.
@@ -150,7 +156,7 @@ fn groups(reports: &[Report], alone: bool) -> impl Iterator<Item = &[Report]> {
 
 /// The bytes of a block in lines of 16; a line like the one before it is left out,
 /// and `*` stands for all that are.
-pub fn dump_lines(bytes: &[u8]) -> Vec<String> {
+fn dump_lines(bytes: &[u8]) -> Vec<String> {
     let mut lines: Vec<String> = vec![];
     let mut before: Option<&[u8]> = None;
     for (place, row) in bytes.chunks(16).enumerate() {

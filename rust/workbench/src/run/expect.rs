@@ -2,7 +2,6 @@
 
 use std::io::Write;
 
-use super::blocks::good;
 use super::{Run, Stop};
 use crate::board::Accessed;
 use crate::host::{End, Report};
@@ -17,12 +16,12 @@ impl<W: Write> Run<W> {
             let message = "there is no line of the host before this one";
             return Err(Stop::Line(String::from(message)));
         }
-        let broken = |e: &&Expectation| !self.last.iter().all(|report| holds(**e, report));
-        let broken: Vec<String> = expectations.iter().filter(broken).map(named).collect();
+        let fails = |e: &&Expectation| !self.last.iter().all(|report| holds(**e, report));
+        let failing: Vec<String> = expectations.iter().filter(fails).map(named).collect();
         self.expectations += 1;
-        if !broken.is_empty() {
+        if !failing.is_empty() {
             self.unmet += 1;
-            let wanted = broken.join(" and ");
+            let wanted = failing.join(" and ");
             writeln!(self.out, "  NOT as line {} expects: {wanted}", self.number)?;
         }
         Ok(())
@@ -36,8 +35,8 @@ fn holds(expectation: Expectation, report: &Report) -> bool {
         _ => None,
     };
     match expectation {
-        Expectation::Good => good(report),
-        Expectation::Failed => finished.is_some() && !good(report),
+        Expectation::Good => report.good(),
+        Expectation::Failed => finished.is_some() && !report.good(),
         Expectation::Refused => matches!(report.end, End::Refused(_)),
         Expectation::Spared => finished.is_some_and(status::spared),
         Expectation::InPlace => finished.is_some_and(|bytes| !status::spared(bytes)),

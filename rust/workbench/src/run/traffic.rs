@@ -6,7 +6,7 @@ use std::io::Write;
 use super::{Run, Stop};
 use crate::host::{End, Report, Tally};
 use crate::plan::Traffic;
-use crate::show::{self, count};
+use crate::show::count;
 use crate::status;
 use crate::traffic::Source;
 
@@ -31,8 +31,7 @@ impl<W: Write> Run<W> {
     /// One of the commands. They are shown in a trace only.
     fn passed(&mut self, name: &str, report: Report) -> Result<(), Stop> {
         if self.settings.trace {
-            writeln!(self.out, "{name}: {}", show::command(&report))?;
-            self.trace(&report)?;
+            self.show(&format!("{name}:"), &report)?;
         }
         self.remember(name, &report);
         if lame(&report) {
