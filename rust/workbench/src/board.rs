@@ -29,7 +29,7 @@ pub struct Accessed {
     /// The surface's answer.
     pub answer: u8,
     /// The sector is unreadable since then.
-    pub spoiled: bool,
+    pub unreadable: bool,
 }
 
 /// The board.
@@ -149,7 +149,7 @@ impl Board {
             purpose,
             sector,
             answer: outcome.answer,
-            spoiled: outcome.left == Left::Spoiled,
+            unreadable: outcome.left == Left::Spoiled,
         });
         self.call(&Call::Surface(outcome.answer, outcome.bytes))
     }

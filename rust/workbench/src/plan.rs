@@ -114,7 +114,7 @@ fn read(mut words: Words) -> Result<Line, String> {
     let blocks = words.blocks()?;
     let retry = retry(&mut words, "to")?;
     let to = match words.take("to") {
-        true => Some(words.need("a file")?.to_string()),
+        true => Some(words.need("a file's name")?.to_string()),
         false => None,
     };
     alone(Line::Read { blocks, retry, to }, words)

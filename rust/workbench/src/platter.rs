@@ -80,7 +80,7 @@ impl Platter {
         }
         let mut platter = Platter::holding(&bytes);
         for sector in load_unreadable(&unreadable_file(path))? {
-            platter.spoil(sector, &platter.bytes(sector));
+            platter.make_unreadable(sector, &platter.bytes(sector));
         }
         platter.changed = false;
         Ok(platter)
@@ -137,7 +137,7 @@ impl Platter {
         let sector = access.sector();
         match left {
             Left::Alone => return,
-            Left::Spoiled => self.spoil(sector, sent),
+            Left::Spoiled => self.make_unreadable(sector, sent),
             Left::Held(_) => {
                 self.sectors.leave(access, left);
                 self.remains.remove(&sector);
@@ -146,7 +146,8 @@ impl Platter {
         self.changed = true;
     }
 
-    fn spoil(&mut self, sector: Sector, bytes: &[u8]) {
+    /// Document 01 calls it spoiled.
+    fn make_unreadable(&mut self, sector: Sector, bytes: &[u8]) {
         self.sectors.spoil(sector);
         self.remains.insert(sector, Rc::from(bytes));
     }

@@ -165,7 +165,7 @@ pub fn access(accessed: &Accessed) -> String {
     };
     let how = match (accessed.answer, accessed.purpose) {
         (surface::GOOD, Purpose::Read) => "good",
-        (surface::GOOD, _) if accessed.spoiled => "done, and the sector is unreadable",
+        (surface::GOOD, _) if accessed.unreadable => "done, and the sector is unreadable",
         (surface::GOOD, _) => "done",
         (surface::CRC, _) => "CRC error",
         (surface::TIMEOUT, _) => "timeout",
@@ -235,7 +235,7 @@ mod tests {
             purpose,
             sector: Sector::new(17).expect("a sector"),
             answer,
-            spoiled: false,
+            unreadable: false,
         }
     }
 

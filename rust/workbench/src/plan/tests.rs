@@ -58,8 +58,8 @@ fn data() {
     assert_eq!(data("write 1 \"a b\""), Data::Text(String::from("a b")));
     let path = String::from("front.dat");
     let file = Data::File { path, offset: 532 };
-    assert_eq!(data("write-verify 0..39 from front.dat at 532"), file);
-    assert_eq!(data("compare 0..39 2 1 with from front.dat at $214"), file);
+    assert_eq!(data("write-verify 0..39 file front.dat at 532"), file);
+    assert_eq!(data("compare 0..39 2 1 with file front.dat at $214"), file);
     assert_eq!(data("compare 7 with 00*532"), Data::Bytes(vec![0; 532]));
 }
 
@@ -143,7 +143,7 @@ const WRONG: [(&str, &str); 38] = [
     ("read 17 256", "R is 255 at most, not 256"),
     ("read 17 1 256", "T is 255 at most, not 256"),
     ("read 17 1 2 3", "\"3\" is too much"),
-    ("read 17 to", "a file is missing"),
+    ("read 17 to", "a file's name is missing"),
     ("write 17", "the data is missing"),
     ("write 17 5", "\"5\" is no data: a byte is two hex digits"),
     ("write 17 00*0", "\"00*0\" is no data: a count is 1 to 4096"),
@@ -154,8 +154,8 @@ const WRONG: [(&str, &str); 38] = [
         "write 17 \"a\" b\"",
         "is no text between two quotation marks",
     ),
-    ("write 17 from", "a file is missing"),
-    ("write 17 from a at", "an offset is missing"),
+    ("write 17 file", "a file's name is missing"),
+    ("write 17 file a at", "an offset is missing"),
     ("compare 17 \"a\"", "R is a number"),
     ("compare 17 10 3", "\"with\" and the data are missing"),
     ("lower 5", "a byte is two hex digits, not \"5\""),

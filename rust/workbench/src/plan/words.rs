@@ -113,8 +113,8 @@ impl<'a> Words<'a> {
         if self.rest.starts_with('"') {
             return quoted(self.rest).map(|text| Data::Text(text.to_string()));
         }
-        if self.take("from") {
-            let path = self.need("a file")?.to_string();
+        if self.take("file") {
+            let path = self.need("a file's name")?.to_string();
             let mut offset = 0;
             if self.take("at") {
                 offset = self.number("an offset", u32::MAX)? as usize;

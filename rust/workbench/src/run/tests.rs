@@ -73,8 +73,8 @@ fn a_file_of_40_blocks_there_and_back() {
     let folder = test_folder("file");
     let bytes: Vec<u8> = (0..40 * 532 - 100).map(|n| (n % 251) as u8).collect();
     fs::write(folder.join("front.dat"), &bytes).expect("written");
-    let plan = "start\nwrite 20..59 from front.dat\nread 20..59 to back.dat\n\
-                compare 20..59 with from front.dat\ncompare 21 with from front.dat at 532\n";
+    let plan = "start\nwrite 20..59 file front.dat\nread 20..59 to back.dat\n\
+                compare 20..59 with file front.dat\ncompare 21 with file front.dat at 532\n";
     let (ended, _, out) = played(plan, on(&folder.join("p")));
     assert_eq!(ended, Ok(true), "{out}");
     assert!(out.contains("  21280 bytes written to back.dat\n"), "{out}");
@@ -86,7 +86,7 @@ fn a_file_of_40_blocks_there_and_back() {
     filled.resize(21280, 0);
     assert!(fs::read(folder.join("back.dat")).expect("a file") == filled);
 
-    let (ended, number, _) = played("start\nwrite 0..40 from front.dat\n", on(&folder.join("p")));
+    let (ended, number, _) = played("start\nwrite 0..40 file front.dat\n", on(&folder.join("p")));
     assert!(ended.is_err_and(|message| message.contains("40 of 41 blocks")));
     assert_eq!(number, 2);
     fs::remove_dir_all(folder).expect("removed");

@@ -20,7 +20,7 @@ impl<W: Write> Run<W> {
         for done in 1..=all {
             let command = source.command();
             let report = command.make(&mut self.host);
-            starts += u64::from(lame(&report));
+            starts += u64::from(stuck(&report));
             self.passed(&command.name(), report)?;
             self.progress.tick("traffic", done, all);
         }
@@ -34,7 +34,7 @@ impl<W: Write> Run<W> {
             self.show(&format!("{name}:"), &report)?;
         }
         self.remember(name, &report);
-        if lame(&report) {
+        if stuck(&report) {
             let report = self.host.start();
             self.remember("start", &report);
         }
@@ -59,7 +59,7 @@ impl<W: Write> Run<W> {
 }
 
 /// Whether the host was told that the drive latched or has no table.
-fn lame(report: &Report) -> bool {
+fn stuck(report: &Report) -> bool {
     let told = |[one, two, ..]: [u8; 4]| one & status::LATCHED | two & status::NO_TABLE != 0;
     matches!(report.end, End::Finished(bytes) if told(bytes))
 }
