@@ -196,3 +196,33 @@ fn no_line_breaks_the_parser() {
     }
     assert!(lines > 100, "{lines}");
 }
+
+/// The examples of the help text: the last column of its lines.
+fn help_examples() -> Vec<&'static str> {
+    let help = include_str!("../help.txt");
+    let (_, lines) = help.split_once("Lines of a plan").expect("the lines");
+    let (lines, _) = lines.split_once("\nBLOCKS is").expect("their end");
+    let column = |line: &'static str| line.trim().rsplit_once("  ").map(|(_, last)| last);
+    lines.lines().filter_map(column).collect()
+}
+
+/// The examples of the guide: the second cell of its tables' rows.
+fn guide_examples() -> Vec<&'static str> {
+    let guide = include_str!("../../../../docs/WORKBENCH.md");
+    let cell = |line: &'static str| {
+        line.split(" | ")
+            .nth(1)?
+            .strip_prefix('`')?
+            .strip_suffix('`')
+    };
+    guide.lines().filter_map(cell).collect()
+}
+
+#[test]
+fn the_examples_of_help_and_guide_are_lines() {
+    let (help, guide) = (help_examples(), guide_examples());
+    assert_eq!((help.len(), guide.len()), (21, 21));
+    for line in help.into_iter().chain(guide) {
+        assert!(parse(line).is_ok(), "{line}: {:?}", parse(line));
+    }
+}
