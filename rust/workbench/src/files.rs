@@ -50,14 +50,20 @@ pub fn test_folder(name: &str) -> PathBuf {
 #[cfg(test)]
 mod tests {
     use super::*;
+    use std::io::Read;
 
     #[test]
     fn written_whole_or_not_at_all() {
         let folder = test_folder("files");
         let path = folder.join("a.platter");
         write(&path, b"one").expect("written");
+        let mut old = fs::File::open(&path).expect("the first file");
         write(&path, b"two").expect("written");
         assert_eq!(read(&path), Ok(b"two".to_vec()));
+        // The first file was not touched: another one took its name.
+        let mut bytes = vec![];
+        old.read_to_end(&mut bytes).expect("its bytes");
+        assert_eq!(bytes, b"one");
         assert_eq!(fs::read_dir(&folder).expect("a folder").count(), 1);
         assert!(write(&folder.join("none/a"), b"").is_err());
         remove(&path).expect("removed");

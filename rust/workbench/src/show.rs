@@ -267,6 +267,12 @@ mod tests {
     }
 
     #[test]
+    fn only_reads_have_errors_counted() {
+        let written = report(vec![done(Purpose::Write, 2)], [0x05, 0, 0, 0]);
+        assert_eq!(command(&written), "1 write, 1 timeout, failed");
+    }
+
+    #[test]
     fn a_store_is_told_apart() {
         let accesses = vec![done(Purpose::Store, 0), done(Purpose::Read, 0)];
         assert_eq!(

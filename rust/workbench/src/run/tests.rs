@@ -108,6 +108,19 @@ fn what_is_not_as_expected_is_said() {
 }
 
 #[test]
+fn a_failed_read_compares_with_nothing_and_a_failed_store_stores_nothing() {
+    let plan = "start\nwrite 3 \"one\"\nfault sector 3 reads all crc\ncompare 3 0 1 with 6f 6e 65\n\
+                fault sector 4960 writes next 1 timeout\nraise\nexpect stored\nlower 00\nraise\nexpect stored\n";
+    let (ended, _, out) = played(plan, Settings::default());
+    assert_eq!(ended, Ok(false));
+    assert!(out.contains("  NOT as given: 3\n"), "{out}");
+    let part = "raise: table not stored (timeout), offer 01, a command may come\n  \
+                NOT as line 7 expects: stored\n";
+    assert!(out.contains(part), "{out}");
+    assert!(out.contains("  1 of 3 expectations met\n"), "{out}");
+}
+
+#[test]
 fn equal_commands_are_one_line_and_a_trace_has_all() {
     let plan =
         "start\nreset\nwrite 3..6 \"one\"\nfault sector 5 reads next 1 timeout\nread 3..6 1 1\n";
