@@ -193,8 +193,9 @@ fn timeline(plan: &str, to: &str) -> Result<bool, String> {
         ..Settings::default()
     };
     let (good, moments) = play(Some(plan), settings, io::sink())?;
-    let title = Path::new(plan).file_stem().unwrap_or_default();
-    let svg = picture::timeline(&title.to_string_lossy(), &moments);
+    let plan = find_plan(plan);
+    let name = plan.file_name().unwrap_or_default().to_string_lossy();
+    let svg = picture::timeline(&format!("The run of {name}"), &moments);
     files::write(Path::new(to), svg.as_bytes())?;
     Ok(good)
 }

@@ -128,12 +128,35 @@ fn images_and_pictures() {
         "{message}"
     );
     assert!(!here.join("c.image").exists());
+    fs::remove_dir_all(here).expect("removed");
+}
 
-    for arguments in [["picture", "p", "p.svg"], ["timeline", "week", "w.svg"]] {
-        let (status, _, message) = workbench(&here, &arguments, "");
-        assert_eq!((status, message.as_str()), (0, ""));
-        let svg = fs::read_to_string(here.join(arguments[2])).expect("a picture");
-        assert!(svg.contains("<svg") && svg.trim_end().ends_with("</svg>"));
-    }
+/// Draws, and hands back the picture.
+fn picture(here: &Path, command: &str, from: &str) -> String {
+    let (status, out, message) = workbench(here, &[command, from, "out.svg"], "");
+    assert_eq!((status, out.as_str(), message.as_str()), (0, "", ""));
+    let svg = fs::read_to_string(here.join("out.svg")).expect("a picture");
+    assert!(svg.starts_with("<svg") && svg.ends_with("</svg>\n"));
+    svg
+}
+
+#[test]
+fn pictures() {
+    let here = folder("pictures");
+    let (status, _, _) = workbench(&here, &["run", "--platter", "p", "week"], "");
+    assert_eq!(status, 0);
+    let line = ">block 17 → spare 0 (sector 4928)</text>";
+    let svg = picture(&here, "picture", "p");
+    assert!(svg.contains(line) && svg.contains(", 1 unreadable sector<"));
+
+    let platter = fs::read(here.join("p")).expect("a platter");
+    fs::write(here.join("table"), &platter[4960 * 532..][..532]).expect("written");
+    let svg = picture(&here, "picture", "table");
+    assert!(svg.contains(line) && svg.contains(", 0 bad blocks<"));
+    fs::write(here.join("table"), [0; 532]).expect("written");
+    assert!(picture(&here, "picture", "table").contains("no good table found"));
+
+    let svg = picture(&here, "timeline", "week");
+    assert!(svg.contains(">The run of week.plan<") && svg.contains(">162 commands ("));
     fs::remove_dir_all(here).expect("removed");
 }

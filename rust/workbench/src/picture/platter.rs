@@ -1,0 +1,342 @@
+//! The platter: a map of all sectors, and below it cylinder 77 enlarged, with a
+//! line from the home of each moved block to its spare.
+
+mod inset;
+mod map;
+mod symbols;
+mod view;
+
+use reference::geometry::home;
+use reference::image::Table;
+
+use super::svg::{counted, Canvas, BAD, INK, MOVED};
+use inset::{corner, inset, upper_right, BOX, INSET};
+use map::{axes, map, middle, CELL};
+use symbols::{diamond, dot_style, filled, keys, ring};
+use view::{parts, Move, View, PLACES, RESERVED_SECTORS};
+
+/// The list of moves stands right of the enlarged cylinder, from here on, and
+/// names this many.
+const LIST: i32 = 742;
+const LISTED: usize = 12;
+
+/// The legend begins here.
+const LEGEND: i32 = INSET.1 + 198;
+
+const BOLD: &str = r#"font-size="14" font-weight="bold""#;
+
+/// The platter as SVG. `table` is none if no good table was found;
+/// `unreadable` are sector numbers, and those of no sector are left out.
+pub fn platter(title: &str, table: Option<&Table>, unreadable: &[u32]) -> String {
+    let view = View::new(table, unreadable);
+    let mut canvas = Canvas::new();
+    canvas.heading(title, &view.summary());
+    axes(&mut canvas);
+    map(&mut canvas, &view);
+    inset(&mut canvas, &view);
+    moves(&mut canvas, &view);
+    box_dots(&mut canvas, &view, "#ffffff", 12);
+    bads(&mut canvas, &view);
+    box_dots(&mut canvas, &view, INK, 6);
+    dots(&mut canvas, &view);
+    list(&mut canvas, &view);
+    let end = canvas.legend(LEGEND, 4, &keys(&view));
+    canvas.finish(title, end + 20)
+}
+
+/// A ring at each moved block's home, and a line from there to its spare.
+fn moves(canvas: &mut Canvas, view: &View) {
+    let many = view.moves.len() > LISTED;
+    let opacity = if many { "0.5" } else { "0.9" };
+    let style = format!(r#"stroke="{MOVED}" stroke-width="1.5" stroke-opacity="{opacity}""#);
+    canvas.group(&format!(r#"fill="none" {style}"#), |canvas| {
+        for &moved in &view.moves {
+            canvas.tip(&sentence(moved), |canvas| canvas.path(&way(moved), ""));
+        }
+    });
+    rings(canvas, view);
+}
+
+fn rings(canvas: &mut Canvas, view: &View) {
+    for &moved in &view.moves {
+        let (x, y) = middle(home(moved.block).number());
+        canvas.tip(&sentence(moved), |canvas| ring(canvas, x, y));
+    }
+}
+
+/// "block 17 → spare 1 (sector 4929)".
+fn sentence(moved: Move) -> String {
+    let Move {
+        block,
+        spare,
+        sector,
+    } = moved;
+    format!("block {} → spare {spare} (sector {sector})", block.number())
+}
+
+/// The line of a move. It comes to the upper row of spares from above, and to
+/// the lower one through the gap left of the spare.
+fn way(moved: Move) -> String {
+    let (x, y) = middle(home(moved.block).number());
+    let (left, top) = corner(moved.sector);
+    let (to, rest) = if top == INSET.1 {
+        (left + BOX.0 / 2, String::new())
+    } else {
+        (left - 2, format!("V{}h4", top + BOX.1 / 2))
+    };
+    let (end, bend) = (INSET.1, (INSET.1 - y) / 2);
+    let (first, second) = (y + bend, end - bend);
+    format!("M{x} {y}C{x} {first} {to} {second} {to} {end}{rest}")
+}
+
+/// A mark at the present sector of each bad block.
+fn bads(canvas: &mut Canvas, view: &View) {
+    for &block in &view.bads {
+        let sector = view.sector_of(block);
+        let at_home = sector == home(block).number();
+        let (x, y) = if at_home {
+            middle(sector)
+        } else {
+            upper_right(sector)
+        };
+        let words = format!("block {} is bad, at sector {sector}", block.number());
+        canvas.tip(&words, |canvas| diamond(canvas, x, y));
+    }
+}
+
+/// Dots on unreadable sectors, those of one cylinder in one element.
+fn dots(canvas: &mut Canvas, view: &View) {
+    let sectors: Vec<u32> = view.unreadable.iter().copied().collect();
+    let same_cylinder = |one: &u32, next: &u32| parts(*one).0 == parts(*next).0;
+    canvas.group(&dot_style(INK, 4), |canvas| {
+        for same in sectors.chunk_by(same_cylinder) {
+            canvas.tip(&unreadable(same), |canvas| canvas.path(&on_map(same), ""));
+        }
+    });
+}
+
+/// Sectors that follow each other on a track.
+fn runs(sectors: &[u32]) -> impl Iterator<Item = &[u32]> {
+    sectors.chunk_by(|one, next| one + 1 == *next && next % PLACES != 0)
+}
+
+/// Unreadable sectors of one cylinder in words: "640, 642-655".
+fn unreadable(sectors: &[u32]) -> String {
+    let words = runs(sectors).map(|run| match run {
+        [one] => one.to_string(),
+        _ => format!("{}-{}", run[0], run[run.len() - 1]),
+    });
+    let words: Vec<String> = words.collect();
+    format!("unreadable: sectors {}", words.join(", "))
+}
+
+/// The path of dots on the map: from the first to the last cell of each run.
+fn on_map(sectors: &[u32]) -> String {
+    let steps = runs(sectors).map(|run| {
+        let (x, y) = middle(run[0]);
+        let length = (run.len() as i32 - 1) * CELL.1;
+        format!("M{x} {y}v{length}.1")
+    });
+    steps.collect()
+}
+
+/// Dots on unreadable sectors of the enlarged cylinder. The pointer meets the
+/// sector below them.
+fn box_dots(canvas: &mut Canvas, view: &View, colour: &str, size: i32) {
+    let reserved = view.unreadable.range(RESERVED_SECTORS);
+    let steps = reserved.map(|&sector| {
+        let (x, y) = upper_right(sector);
+        format!("M{x} {y}v0.1")
+    });
+    let style = format!(r#"{} pointer-events="none""#, dot_style(colour, size));
+    canvas.path(&steps.collect::<String>(), &style);
+}
+
+/// The moves in words.
+fn list(canvas: &mut Canvas, view: &View) {
+    let top = INSET.1 + 5;
+    let title = match view.moves.len() {
+        _ if !view.known => "no good table found".to_string(),
+        0 => "no block has moved".to_string(),
+        count => format!("{}:", counted(count, "moved block")),
+    };
+    let colour = if view.known { INK } else { BAD };
+    canvas.text((LIST, top), &format!("{BOLD} {}", filled(colour)), &title);
+    for (at, words) in listed(&view.moves).iter().enumerate() {
+        canvas.text((LIST, top + 19 + 14 * at as i32), "", words);
+    }
+}
+
+/// The lines of the list.
+fn listed(moves: &[Move]) -> Vec<String> {
+    let first = moves.iter().take(LISTED).map(|&moved| sentence(moved));
+    let more = moves.len().saturating_sub(LISTED);
+    let rest = (more > 0).then(|| format!("and {more} more"));
+    first.chain(rest).collect()
+}
+
+#[cfg(test)]
+mod tests {
+    use reference::geometry::{Block, BLOCKS, SECTORS};
+    use reference::image::{Spare, MOST_BADS};
+
+    use super::super::svg::check;
+    use super::*;
+
+    fn block(number: u32) -> Block {
+        Block::new(number).expect("a block")
+    }
+
+    fn moved(number: u32) -> Spare {
+        Spare::Moved(block(number))
+    }
+
+    fn table(spares: &[Spare], bads: &[u32]) -> Table {
+        let bads = bads.iter().map(|&number| block(number)).collect();
+        Table::new(spares.to_vec(), bads).expect("a table")
+    }
+
+    /// Every spare has a block, from all over the platter, and so has every
+    /// place of the bad list.
+    fn full() -> Table {
+        let spares: Vec<Spare> = (0..32).map(|k| moved(k * 8191 % BLOCKS)).collect();
+        let bads: Vec<u32> = (0..MOST_BADS as u32).map(|k| k * 97).collect();
+        table(&spares, &bads)
+    }
+
+    /// The picture of a table, looked over.
+    fn drawn(table: &Table, unreadable: &[u32]) -> String {
+        let svg = platter("A platter", Some(table), unreadable);
+        check::picture(&svg);
+        svg
+    }
+
+    #[test]
+    fn the_week() {
+        let svg = drawn(&table(&[moved(17)], &[]), &[17]);
+        assert!(svg.contains(">1 of 32 spares used, 0 dead, 0 bad blocks, 1 unreadable sector<"));
+        assert!(svg.contains(">block 17 → spare 0 (sector 4928)</text>"));
+        assert!(svg.contains("<title>sector 4928: spare 0, block 17</title>"));
+        assert!(svg.contains("<title>sector 4929: spare 1, unused</title>"));
+        assert!(svg.contains("<title>sector 4960: the table</title>"));
+        assert!(svg.contains("<title>unreadable: sectors 17</title>"));
+        assert!(svg.contains(">reserved, no use: 31<"));
+        assert!(svg.len() < 20_000, "{}", svg.len());
+    }
+
+    #[test]
+    fn each_move_has_its_line() {
+        let table = full();
+        let svg = drawn(&table, &[]);
+        for moved in View::new(Some(&table), &[]).moves {
+            let line = format!("<path d=\"{}\" />", way(moved));
+            let tip = format!("<g><title>{}</title>\n{line}", sentence(moved));
+            assert_eq!(svg.matches(&tip).count(), 1, "{tip}");
+        }
+    }
+
+    #[test]
+    fn a_line_leads_from_the_home_to_the_spare() {
+        let table = full();
+        for moved in View::new(Some(&table), &[]).moves {
+            let (steps, (x, y)) = (way(moved), middle(home(moved.block).number()));
+            assert!(steps.starts_with(&format!("M{x} {y}C")), "{steps}");
+            let (left, top) = corner(moved.sector);
+            let end = if moved.spare < 16 {
+                format!(" {} {top}", left + 18)
+            } else {
+                format!(" {} {}V{}h4", left - 2, INSET.1, top + 17)
+            };
+            assert!(steps.ends_with(&end), "{steps}");
+        }
+    }
+
+    #[test]
+    fn twelve_moves_are_listed_and_the_others_counted() {
+        let spares: Vec<Spare> = (0..13).map(moved).collect();
+        let view = |count: usize| View::new(Some(&table(&spares[..count], &[])), &[]);
+        assert_eq!(listed(&view(12).moves).len(), 12);
+        let lines = listed(&view(13).moves);
+        assert_eq!(lines.len(), 13);
+        assert_eq!(lines[0], "block 0 → spare 0 (sector 4928)");
+        assert_eq!(lines[12], "and 1 more");
+    }
+
+    #[test]
+    fn dead_spares_are_crossed() {
+        let svg = drawn(&table(&[Spare::Dead, moved(3), Spare::Dead], &[]), &[]);
+        assert!(svg.contains(">1 of 32 spares used, 2 dead, 0 bad blocks<"));
+        for (sector, k) in [(4928, 0), (4930, 2)] {
+            let (x, y) = corner(sector);
+            let steps = format!("<path d=\"M{} {}l16 16m0 -16l-16 16\"", x + 10, y + 14);
+            assert!(svg.contains(&steps), "{steps}");
+            assert!(svg.contains(&format!("<title>sector {sector}: spare {k}, dead</title>")));
+        }
+    }
+
+    #[test]
+    fn bad_blocks_are_marked_where_they_stand() {
+        let svg = drawn(&table(&[moved(4928)], &[4928, 9727, 4927]), &[]);
+        for words in [
+            "block 4928 is bad, at sector 4928",
+            "block 9727 is bad, at sector 9791",
+            "block 4927 is bad, at sector 4927",
+        ] {
+            assert!(svg.contains(&format!("<title>{words}</title>")), "{words}");
+        }
+        // One in a box of the enlarged cylinder, two on the map, one in the
+        // legend.
+        assert_eq!(svg.matches("l6 6l-6 6l-6 -6Z").count(), 4);
+    }
+
+    #[test]
+    fn unreadable_sectors_are_dotted_in_runs() {
+        let svg = drawn(&table(&[], &[]), &[18, 16, 17, 17, 32, 15, 9792, u32::MAX]);
+        assert!(svg.contains("0 bad blocks, 5 unreadable sectors<"));
+        assert!(svg.contains("<title>unreadable: sectors 15, 16-18, 32</title>"));
+        let (x, y) = middle(16);
+        assert!(svg.contains(&format!("M{x} {y}v10.1")));
+    }
+
+    #[test]
+    fn unreadable_sectors_of_the_reserved_cylinder_show_twice() {
+        let svg = drawn(&table(&[], &[]), &[4960]);
+        let ((x, y), (a, b)) = (middle(4960), upper_right(4960));
+        assert_eq!(svg.matches(&format!("d=\"M{x} {y}v0.1\"")).count(), 1);
+        assert_eq!(svg.matches(&format!("d=\"M{a} {b}v0.1\"")).count(), 2);
+        assert!(svg.contains("<title>sector 4960: the table, unreadable</title>"));
+    }
+
+    #[test]
+    fn no_table() {
+        let svg = platter("A platter", None, &[4960]);
+        check::picture(&svg);
+        assert!(svg.contains(">no good table found</text>"));
+        assert!(svg.contains(">no good table found: the moved blocks are not known, 1 unread"));
+        assert!(svg.contains(">moved block: ?<"));
+        assert!(svg.contains(">spare, state not known: 32<"));
+        assert!(!svg.contains("unused") && !svg.contains(" of 32 spares"));
+    }
+
+    #[test]
+    fn the_title_is_escaped() {
+        let svg = platter("</svg> & \"<b>\"", None, &[]);
+        check::picture(&svg);
+        let title = "&lt;/svg&gt; &amp; &quot;&lt;b&gt;&quot;";
+        assert_eq!(svg.matches(title).count(), 2);
+    }
+
+    #[test]
+    fn sizes() {
+        let full = full();
+        assert!(drawn(&full, &[]).len() < 50_000);
+        let every_other: Vec<u32> = (0..SECTORS).step_by(2).collect();
+        assert!(drawn(&full, &every_other).len() < 150_000);
+    }
+
+    #[test]
+    fn the_same_table_gives_the_same_bytes() {
+        let full = full();
+        assert_eq!(drawn(&full, &[3, 2, 1]), drawn(&full, &[1, 2, 3, 3]));
+    }
+}

@@ -1,0 +1,132 @@
+//! What a platter's picture shows: the spares' states, the moves, the bad blocks
+//! and the unreadable sectors.
+
+use std::collections::BTreeSet;
+use std::ops::Range;
+
+use reference::geometry::{home, spare, Block, SECTORS, SPARES, TABLE};
+use reference::image::{Spare, Table};
+
+use super::super::svg::counted;
+
+/// The drive: cylinders, and on each this many heads and sectors a track.
+pub const CYLINDERS: u32 = 153;
+pub const HEADS: u32 = 4;
+pub const PLACES: u32 = 16;
+
+/// The cylinder with the spares and the table, its first sector, and all of
+/// its sectors.
+pub const RESERVED: u32 = 77;
+pub const FIRST: u32 = RESERVED * HEADS * PLACES;
+pub const RESERVED_SECTORS: Range<u32> = FIRST..FIRST + HEADS * PLACES;
+
+/// What is known of a spare.
+#[derive(Clone, Copy, PartialEq, Eq)]
+pub enum State {
+    Unknown,
+    Unused,
+    Moved(Block),
+    Dead,
+}
+
+/// What a sector of the reserved cylinder is for.
+#[derive(Clone, Copy, PartialEq, Eq)]
+pub enum Use {
+    Spare(usize, State),
+    Table,
+    Nothing,
+}
+
+/// A block that left its home, its spare, and the spare's sector.
+#[derive(Clone, Copy)]
+pub struct Move {
+    pub block: Block,
+    pub spare: usize,
+    pub sector: u32,
+}
+
+/// What the picture shows.
+pub struct View {
+    pub known: bool,
+    pub states: Vec<State>,
+    pub moves: Vec<Move>,
+    pub bads: Vec<Block>,
+    pub unreadable: BTreeSet<u32>,
+}
+
+impl View {
+    pub fn new(table: Option<&Table>, unreadable: &[u32]) -> View {
+        let spares = table.map_or(&[][..], Table::spares);
+        let unlisted = table.map_or(State::Unknown, |_| State::Unused);
+        let listed = spares.iter().map(|spare| match spare {
+            Spare::Moved(block) => State::Moved(*block),
+            Spare::Dead => State::Dead,
+        });
+        let states: Vec<State> = listed
+            .chain(std::iter::repeat(unlisted))
+            .take(SPARES)
+            .collect();
+        let sectors = unreadable.iter().copied();
+        View {
+            known: table.is_some(),
+            moves: moves_of(&states),
+            states,
+            bads: table.map_or(Vec::new(), |table| table.bads().to_vec()),
+            unreadable: sectors.filter(|&sector| sector < SECTORS).collect(),
+        }
+    }
+
+    /// What this sector of the reserved cylinder is for.
+    pub fn use_of(&self, sector: u32) -> Use {
+        let k = (sector - FIRST) as usize;
+        match self.states.get(k) {
+            Some(&state) => Use::Spare(k, state),
+            None if sector == TABLE.number() => Use::Table,
+            None => Use::Nothing,
+        }
+    }
+
+    /// How many spares have this state.
+    pub fn count(&self, state: State) -> usize {
+        self.states.iter().filter(|&&other| other == state).count()
+    }
+
+    /// The sector where a block stands now.
+    pub fn sector_of(&self, block: Block) -> u32 {
+        let moved = self.moves.iter().find(|moved| moved.block == block);
+        moved.map_or(home(block).number(), |moved| moved.sector)
+    }
+
+    /// The platter in one line.
+    pub fn summary(&self) -> String {
+        let unreadable = match self.unreadable.len() {
+            0 => String::new(),
+            count => format!(", {}", counted(count, "unreadable sector")),
+        };
+        if !self.known {
+            return format!("no good table found: the moved blocks are not known{unreadable}");
+        }
+        let (used, dead) = (self.moves.len(), self.count(State::Dead));
+        let bads = counted(self.bads.len(), "bad block");
+        format!("{used} of {SPARES} spares used, {dead} dead, {bads}{unreadable}")
+    }
+}
+
+fn moves_of(states: &[State]) -> Vec<Move> {
+    let entries = states.iter().enumerate();
+    let moved = entries.filter_map(|(k, &state)| match state {
+        State::Moved(block) => Some(Move {
+            block,
+            spare: k,
+            sector: spare(k)?.number(),
+        }),
+        _ => None,
+    });
+    moved.collect()
+}
+
+/// Cylinder, head and place of a sector.
+pub fn parts(sector: u32) -> (u32, u32, u32) {
+    let track = sector / PLACES;
+    (track / HEADS, track % HEADS, sector % PLACES)
+}

@@ -1,0 +1,160 @@
+//! The marks of a time line: surface accesses and outcomes of commands.
+
+use super::super::svg::{room, Canvas, Key, BAD, MOVED, TABLE};
+
+/// One surface access. Read, write and store went well; the others are errors.
+#[derive(Clone, Copy, Debug, PartialEq, Eq)]
+pub enum Mark {
+    Read,
+    Write,
+    Store,
+    CrcError,
+    Timeout,
+    NoSettle,
+}
+
+/// How a command ended.
+#[derive(Clone, Copy, Debug, PartialEq, Eq)]
+pub enum Outcome {
+    Good,
+    Spared { block: u32, sector: u32 },
+    Failed,
+    Refused,
+    None,
+}
+
+const READ: &str = r##"fill="#2563a8""##;
+const WRITE: &str = r##"fill="#e5a50a""##;
+const GOOD: &str = r##"fill="#1f883d""##;
+const REFUSED: &str = r##"fill="#59636e""##;
+const WHITE_LINE: &str = r##"fill="none" stroke="#ffffff" stroke-width="2""##;
+
+/// Errors have shades of red; that of a CRC error is `BAD`.
+const TIMEOUT: &str = "#a40e26";
+const NO_SETTLE: &str = "#6e011a";
+
+impl Mark {
+    /// The access went wrong.
+    pub fn is_error(&self) -> bool {
+        matches!(self, Mark::CrcError | Mark::Timeout | Mark::NoSettle)
+    }
+
+    /// Room from one mark to the next.
+    pub fn room(self) -> i32 {
+        match self {
+            Mark::Read | Mark::Write => 5,
+            Mark::CrcError | Mark::Timeout | Mark::NoSettle => 12,
+            Mark::Store => 18,
+        }
+    }
+
+    /// Draws it in its room, which begins at `x`, around the height `y`.
+    pub fn draw(self, canvas: &mut Canvas, x: i32, y: i32) {
+        let line = |colour| format!(r#"fill="none" stroke="{colour}" stroke-width="2""#);
+        match self {
+            Mark::Read => canvas.rect((x + 1, y - 8), (3, 16), READ),
+            Mark::Write => canvas.rect((x + 1, y - 8), (3, 16), WRITE),
+            Mark::Store => store(canvas, x, y),
+            Mark::CrcError => {
+                let steps = format!("M{} {}l8 8m0 -8l-8 8", x + 2, y - 4);
+                canvas.path(&steps, &line(BAD));
+            }
+            Mark::Timeout => canvas.circle((x + 6, y), 4, &line(TIMEOUT)),
+            Mark::NoSettle => {
+                let steps = format!("M{} {}l6 11h-12Z", x + 6, y - 6);
+                canvas.path(&steps, &format!(r#"fill="{NO_SETTLE}""#));
+            }
+        }
+    }
+
+    /// Draws it in the legend, around a place.
+    fn key(self, canvas: &mut Canvas, x: i32, y: i32) {
+        self.draw(canvas, x - self.room() / 2, y);
+    }
+}
+
+/// A store: the table in its colour, with two of its lines.
+fn store(canvas: &mut Canvas, x: i32, y: i32) {
+    let style = format!(r#"rx="2" fill="{TABLE}""#);
+    canvas.rect((x + 1, y - 8), (16, 16), &style);
+    canvas.path(&format!("M{} {}h10m-10 6h10", x + 4, y - 3), WHITE_LINE);
+}
+
+impl Outcome {
+    /// Room behind the marks.
+    pub fn room(self) -> i32 {
+        match self {
+            Outcome::Good | Outcome::Failed | Outcome::Refused => 24,
+            Outcome::Spared { block, sector } => room(&spared(block, sector), 12) + 24,
+            Outcome::None => 0,
+        }
+    }
+
+    /// Draws its symbol in its room, which begins at `x`.
+    pub fn draw(self, canvas: &mut Canvas, x: i32, y: i32) {
+        match self {
+            Outcome::Good => good(canvas, x + 14, y),
+            Outcome::Failed => failed(canvas, x + 14, y),
+            Outcome::Refused => refused(canvas, x + 14, y),
+            Outcome::Spared { block, sector } => pill(canvas, x + 6, y, &spared(block, sector)),
+            Outcome::None => {}
+        }
+    }
+
+    /// How a card's words end.
+    pub fn words(self) -> String {
+        match self {
+            Outcome::Good => ", good".to_string(),
+            Outcome::Failed => ", failed".to_string(),
+            Outcome::Refused => ", refused".to_string(),
+            Outcome::Spared { block, sector } => format!(", spared: {}", spared(block, sector)),
+            Outcome::None => String::new(),
+        }
+    }
+}
+
+/// "17 → sector 4929".
+fn spared(block: u32, sector: u32) -> String {
+    format!("{block} → sector {sector}")
+}
+
+fn good(canvas: &mut Canvas, x: i32, y: i32) {
+    canvas.circle((x, y), 8, GOOD);
+    canvas.path(&format!("M{} {y}l3 3l5 -6", x - 4), WHITE_LINE);
+}
+
+fn failed(canvas: &mut Canvas, x: i32, y: i32) {
+    canvas.circle((x, y), 8, &format!(r#"fill="{BAD}""#));
+    canvas.path(&format!("M{} {}l6 6m0 -6l-6 6", x - 3, y - 3), WHITE_LINE);
+}
+
+fn refused(canvas: &mut Canvas, x: i32, y: i32) {
+    canvas.circle((x, y), 8, REFUSED);
+    canvas.path(&format!("M{} {y}h8", x - 4), WHITE_LINE);
+}
+
+/// Words on a long round mark.
+fn pill(canvas: &mut Canvas, x: i32, y: i32, words: &str) {
+    let width = room(words, 12) + 16;
+    let style = format!(r#"rx="9" fill="{MOVED}""#);
+    canvas.rect((x, y - 9), (width, 18), &style);
+    let style = r##"font-weight="bold" text-anchor="middle" fill="#ffffff""##;
+    canvas.text((x + width / 2, y + 4), style, words);
+}
+
+/// The legend of marks and outcomes.
+pub fn keys() -> Vec<Key> {
+    let key = |symbol: fn(&mut Canvas, i32, i32), words: &str| (symbol, words.to_string());
+    vec![
+        key(|c, x, y| Mark::Read.key(c, x, y), "read, good"),
+        key(|c, x, y| Mark::Write.key(c, x, y), "write, done"),
+        key(|c, x, y| Mark::Store.key(c, x, y), "store of the table"),
+        key(|c, x, y| Mark::CrcError.key(c, x, y), "CRC error"),
+        key(|c, x, y| Mark::Timeout.key(c, x, y), "timeout"),
+        key(|c, x, y| Mark::NoSettle.key(c, x, y), "no settle"),
+        key(good, "command good"),
+        key(|c, x, y| pill(c, x - 12, y, "→"), "moved to a spare"),
+        key(failed, "command failed"),
+        key(refused, "refused"),
+    ]
+}
