@@ -49,21 +49,25 @@ mod tests {
         Effect::Unreadable,
     ];
 
+    /// Every outcome of this access keeps the surface's rules.
+    fn keeps_the_rules(platter: &Platter, access: Access) {
+        let sent = [7; 532];
+        for effect in EFFECTS {
+            let outcome = outcome(platter, access, &sent, effect);
+            let kept = obeys(platter.sectors(), access, &sent, &outcome);
+            assert!(kept, "{access:?} {effect:?}");
+        }
+    }
+
     #[test]
     fn every_outcome_keeps_the_rules() {
         let sector = Sector::new(17).expect("a sector");
-        let sent = [7; 532];
         let mut platter = Platter::blank();
-        for unreadable in [false, true] {
-            for access in [Access::Read(sector), Access::Write(sector)] {
-                for effect in EFFECTS {
-                    let outcome = outcome(&platter, access, &sent, effect);
-                    let kept = obeys(platter.sectors(), access, &sent, &outcome);
-                    assert!(kept, "{access:?} {effect:?} {unreadable}");
-                }
-            }
-            platter.leave(Access::Write(sector), &sent, &Left::Spoiled);
-        }
+        keeps_the_rules(&platter, Access::Read(sector));
+        keeps_the_rules(&platter, Access::Write(sector));
+        platter.leave(Access::Write(sector), &[7; 532], &Left::Spoiled);
+        keeps_the_rules(&platter, Access::Read(sector));
+        keeps_the_rules(&platter, Access::Write(sector));
     }
 
     #[test]

@@ -34,13 +34,19 @@ fn workbench(folder: &Path, arguments: &[&str], input: &str) -> (i32, String, St
 }
 
 #[test]
-fn help_and_wrong_arguments() {
-    let here = folder("arguments");
+fn help() {
+    let here = folder("help");
     let (status, out, _) = workbench(&here, &["--help"], "");
     assert_eq!(status, 0);
     for word in ["week", "run", "import", "export", "picture", "timeline"] {
         assert!(out.contains(&format!("\n  workbench {word} ")), "{word}");
     }
+    fs::remove_dir_all(here).expect("removed");
+}
+
+#[test]
+fn wrong_arguments() {
+    let here = folder("arguments");
     for arguments in [
         &[][..],
         &["ran"],
@@ -49,6 +55,8 @@ fn help_and_wrong_arguments() {
         &["run", "--fast"],
         &["run", "week", "latch"],
         &["import", "none"],
+        &["picture", "none", "out.svg"],
+        &["timeline", "week"],
     ] {
         let (status, out, message) = workbench(&here, arguments, "");
         assert_eq!((status, out.as_str()), (2, ""), "{arguments:?}");
