@@ -160,7 +160,7 @@ fn pictures() {
     let platter = fs::read(here.join("p")).expect("a platter");
     fs::write(here.join("table"), &platter[4960 * 532..][..532]).expect("written");
     let svg = picture(&here, "picture", "table");
-    assert!(svg.contains(line) && svg.contains(", 0 bad blocks<"));
+    assert!(svg.contains(line) && svg.contains(", no bad block<"));
     fs::write(here.join("table"), [0; 532]).expect("written");
     assert!(picture(&here, "picture", "table").contains("no good table found"));
 

@@ -10,6 +10,7 @@ use reference::geometry::home;
 use reference::image::Table;
 
 use super::svg::{counted, Canvas, BAD, INK, MOVED};
+use crate::summary::table_counts;
 use inset::{corner, inset, upper_right, BOX, INSET};
 use map::{axes, map, middle, CELL};
 use symbols::{diamond, dot_style, filled, keys, ring};
@@ -30,7 +31,7 @@ const BOLD: &str = r#"font-size="14" font-weight="bold""#;
 pub fn platter(title: &str, table: Option<&Table>, unreadable: &[u32]) -> String {
     let view = View::new(table, unreadable);
     let mut canvas = Canvas::new();
-    canvas.heading(title, &view.summary());
+    canvas.heading(title, &summary(table, view.unreadable.len()));
     axes(&mut canvas);
     map(&mut canvas, &view);
     inset(&mut canvas, &view);
@@ -42,6 +43,17 @@ pub fn platter(title: &str, table: Option<&Table>, unreadable: &[u32]) -> String
     list(&mut canvas, &view);
     let end = canvas.legend(LEGEND, 4, &keys(&view));
     canvas.finish(title, end + 20)
+}
+
+/// The platter in one line, in the words of a run.
+fn summary(table: Option<&Table>, unreadable: usize) -> String {
+    let unreadable = match unreadable {
+        0 => String::new(),
+        sectors => format!(", {}", counted(sectors, "unreadable sector")),
+    };
+    let known = table.map(|table| table_counts(table, true));
+    let unknown = || "no good table found: the moved blocks are not known".to_string();
+    format!("{}{unreadable}", known.unwrap_or_else(unknown))
 }
 
 /// A ring at each moved block's home, and a line from there to its spare.
@@ -214,7 +226,7 @@ mod tests {
     #[test]
     fn the_week() {
         let svg = drawn(&table(&[moved(17)], &[]), &[17]);
-        assert!(svg.contains(">1 of 32 spares used, 0 dead, 0 bad blocks, 1 unreadable sector<"));
+        assert!(svg.contains(">1 of 32 spares used, no bad block, 1 unreadable sector<"));
         assert!(svg.contains(">block 17 → spare 0 (sector 4928)</text>"));
         assert!(svg.contains("<title>sector 4928: spare 0, block 17</title>"));
         assert!(svg.contains("<title>sector 4929: spare 1, unused</title>"));
@@ -265,7 +277,7 @@ mod tests {
     #[test]
     fn dead_spares_are_crossed() {
         let svg = drawn(&table(&[Spare::Dead, moved(3), Spare::Dead], &[]), &[]);
-        assert!(svg.contains(">1 of 32 spares used, 2 dead, 0 bad blocks<"));
+        assert!(svg.contains(">3 of 32 spares used, 2 of them dead, no bad block<"));
         for (sector, k) in [(4928, 0), (4930, 2)] {
             let (x, y) = corner(sector);
             let steps = format!("<path d=\"M{} {}l16 16m0 -16l-16 16\"", x + 10, y + 14);
@@ -292,7 +304,7 @@ mod tests {
     #[test]
     fn unreadable_sectors_are_dotted_in_runs() {
         let svg = drawn(&table(&[], &[]), &[18, 16, 17, 17, 32, 15, 9792, u32::MAX]);
-        assert!(svg.contains("0 bad blocks, 5 unreadable sectors<"));
+        assert!(svg.contains("no bad block, 5 unreadable sectors<"));
         assert!(svg.contains("<title>unreadable: sectors 15, 16-18, 32</title>"));
         let (x, y) = middle(16);
         assert!(svg.contains(&format!("M{x} {y}v10.1")));

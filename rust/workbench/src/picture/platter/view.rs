@@ -7,8 +7,6 @@ use std::ops::Range;
 use reference::geometry::{home, spare, Block, SECTORS, SPARES, TABLE};
 use reference::image::{Spare, Table};
 
-use super::super::svg::counted;
-
 /// The drive: cylinders, and on each this many heads and sectors a track.
 pub const CYLINDERS: u32 = 153;
 pub const HEADS: u32 = 4;
@@ -95,20 +93,6 @@ impl View {
     pub fn sector_of(&self, block: Block) -> u32 {
         let moved = self.moves.iter().find(|moved| moved.block == block);
         moved.map_or(home(block).number(), |moved| moved.sector)
-    }
-
-    /// The platter in one line.
-    pub fn summary(&self) -> String {
-        let unreadable = match self.unreadable.len() {
-            0 => String::new(),
-            count => format!(", {}", counted(count, "unreadable sector")),
-        };
-        if !self.known {
-            return format!("no good table found: the moved blocks are not known{unreadable}");
-        }
-        let (used, dead) = (self.moves.len(), self.count(State::Dead));
-        let bads = counted(self.bads.len(), "bad block");
-        format!("{used} of {SPARES} spares used, {dead} dead, {bads}{unreadable}")
     }
 }
 
