@@ -3,14 +3,13 @@
 // hand back the line alone.
 ghost use mathlib.Core.Path.{_≡_};
 ghost use Rattle.drive.specs.declared.Drive.{Drive as Drive'};
-ghost use Rattle.drive.specs.Words.{response, codeOf};
+ghost use Rattle.drive.specs.Words.{codeOf};
 ghost use Rattle.drive.specs.Calls.{startOf, raiseOf, lowerOf, feedOf, surfaceOf, resetOf, imageOutOf};
 ghost use Rattle.packed.specs.Packing.{unpackOf};
 ghost use Rattle.crossing.specs.Crossing.{replyOf, beside, through, throughBytes, anew};
 use controller::Controller;
 use drive::Answer;
 use drive::Change;
-use drive::Offer;
 use drive::Refusal;
 use packed::Packed;
 use packed::PackedLine;
@@ -33,18 +32,6 @@ pub struct LineStep {
 pub struct PackedStep {
     pub packed: Packed,
     pub reply: Reply,
-}
-
-fn offer_number(o: Offer) -> u32
-    ensures { λ r. ⌜ r ≡ response o ⌝ }
-{
-    match o {
-        Offer::Command => 0x01,
-        Offer::Read => 0x02,
-        Offer::Write => 0x03,
-        Offer::Verify => 0x04,
-        Offer::Act => 0x06,
-    }
 }
 
 fn code(r: Refusal) -> u32
@@ -73,7 +60,7 @@ fn spell(a: Answer) -> Reply
 {
     match a {
         Answer::Wait => said(0, 0),
-        Answer::Offer(o) => said(1, offer_number(o)),
+        Answer::Offer(o) => said(1, packed::as_response(o) as u32),
         Answer::Read(s) => said(2, s.0),
         Answer::Write(s) => said(3, s.0),
         Answer::Store => said(4, 0),

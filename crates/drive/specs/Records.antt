@@ -2,7 +2,7 @@
 use mathlib.Core.Bool.{Bool, true, false, cond, not, _&&_, _||_}
 use Prim.Native.Nat.{ℕ, _+_}
 use lib.Dec.{ltb, leb, eqb}
-use Rattle.geometry.specs.Geometry.{isBlock, isSector}
+use Rattle.geometry.specs.Geometry.{isBlock, isSector, spareOf}
 use Rattle.table.specs.Tables.{tableOk}
 use Rattle.drive.specs.declared.Drive.{Drive}
 use Rattle.drive.specs.declared.Line.{Line}
@@ -18,7 +18,7 @@ retryOk r = isBlock (r .block .0) && isSector (r .sector .0) && leb (r .seen .er
 -- "attempts above 2", "a spare under trial other than the next unused": with n listed that is spare n, if n is below 32
 unfoldable pub trialOk : ℕ → Trial → Bool
 trialOk n r =
-    isBlock (r .block .0) && isSector (r .sector .0) && leb (r .attempts) 2 && (not (r .spare) || (ltb n 32 && eqb (r .sector .0) (4928 + n)))
+    isBlock (r .block .0) && isSector (r .sector .0) && leb (r .attempts) 2 && (not (r .spare) || (ltb n 32 && eqb (r .sector .0) (spareOf n .0)))
 
 -- "any access but the start's awaited with no table, start reads above 10": n spares listed, known whether there is a table
 unfoldable pub phaseOk : ℕ → Bool → Phase → Bool

@@ -70,7 +70,7 @@ fn as_flag(n: u8) -> bool
     !(n == 0)
 }
 
-fn as_response(o: Offer) -> u8
+pub fn as_response(o: Offer) -> u8
     ensures { λ r. ⌜ r ≡ response o ⌝ }
 {
     match o {

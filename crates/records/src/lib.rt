@@ -2,9 +2,10 @@
 ghost use mathlib.Core.Path.{_≡_};
 ghost use mathlib.Core.List.{[], _++_};
 ghost use mathlib.Core.Bool.{cond, _&&_};
-ghost use Prim.Native.Nat.{_+_, _≤_};
+ghost use Prim.Native.Nat.{_≤_};
 ghost use lib.Dec.{ltb, eqb};
 ghost use lib.ListN.{length};
+ghost use Rattle.geometry.specs.Geometry.{spareOf};
 ghost use Rattle.drive.specs.Words.{ending1, ending2, ending3, statusOf, dataOf};
 ghost use Rattle.drive.specs.Results.{toPhase, toMarked, refuse, say, finish, altered, latched};
 ghost use Rattle.drive.specs.Records.{retryOk, trialOk, phaseOk, lineOk};
@@ -39,7 +40,7 @@ pub fn retry_ok(r: Retry) -> bool
 
 // Whether this is the sector of the next unused spare, with n listed.
 fn next_unused(n: usize, s: u32) -> bool
-    ensures { λ x. ⌜ x ≡ (ltb n 32 && eqb s (4928 + n)) ⌝ }
+    ensures { λ x. ⌜ x ≡ (ltb n 32 && eqb s (spareOf n .0)) ⌝ }
 {
     match table::next_spare(n) {
         NextSpare::At(at) => s == at.0,

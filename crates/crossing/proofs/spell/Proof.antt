@@ -12,8 +12,11 @@ said-requires c κs = search needs
 enum-known-a : tie.Need-enum-known-a
 enum-known-a c = search needs
 
-offer-number-requires : tie.Need-offer-number-requires
-offer-number-requires c κs = search needs
+as-response-requires : tie.Need-as-response-requires
+as-response-requires c κs = search needs
+
+cast-said : tie.Need-cast-said
+cast-said c = search needs
 
 said-requires-2 : tie.Need-said-requires-2
 said-requires-2 c κs = search needs
@@ -55,7 +58,7 @@ returns : tie.Need-returns
 returns c = rw (c .said .ensures, c .before .enum-told .given .1)
 
 returns-2 : tie.Need-returns-2
-returns-2 c = rw (c .said2 .ensures, c .before .offer-number .ensures, c .before .before .before .a .given .1)
+returns-2 c = rw (c .said2 .ensures, c .before .as-response .ensures, c .before .before .before .a .given .1)
 
 returns-3 : tie.Need-returns-3
 returns-3 c = rw (c .said3 .ensures, c .before .before .a2 .given .1)
@@ -79,7 +82,8 @@ spell-spec =
     enum-told
     said-requires
     enum-known-a
-    offer-number-requires
+    as-response-requires
+    cast-said
     said-requires-2
     enum-known-a-2
     said-requires-3
