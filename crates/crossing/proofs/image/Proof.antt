@@ -14,7 +14,10 @@ said-requires : tie.Need-said-requires
 said-requires c κs = search needs
 
 returns : tie.Need-returns
-returns c = stopped (λ (d : Drive). imageOutOf d (now (c .before .before .before .before .before .args .buf))) (c .before .before .before .before .before .args .p) (now (c .before .before .before .before .before .args .buf)) (c .before .before .is-packing .result) (c .before .before .is-packing .ensures) (c .before .if1 .taken) _ (c .said .ensures)
+returns c =
+    let args = c .before .before .before .before .before .args in
+    let is-packing = c .before .before .is-packing in
+    stopped (λ (d : Drive). imageOutOf d (now (args .buf))) (args .p) (now (args .buf)) (is-packing .result) (is-packing .ensures) (c .before .if1 .taken) _ (c .said .ensures)
 
 unpack-requires : tie.Need-unpack-requires
 unpack-requires c κs = search needs
@@ -32,7 +35,14 @@ same-length : tie.Need-same-length
 same-length c = search needs
 
 returns-2 : tie.Need-returns-2
-returns-2 c = passes (λ (d : Drive). imageOutOf d (now (c .before .before .before .before .before .before .before .before .before .before .before .before .args .buf))) (c .before .before .before .before .before .before .before .before .before .before .before .before .args .p) (now (c .before .before .before .before .before .before .before .before .before .before .before .before .args .buf)) (c .before .before .before .before .before .before .before .before .before .is-packing .result) (c .before .before .before .before .before .before .before .before .before .is-packing .ensures) (c .before .before .before .before .before .before .before .before .if1 .left) (c .before .before .before .before .before .before .before .unpack .result) (c .before .before .before .before .before .before .before .unpack .ensures) (c .before .before .before .before .before .image .result) _ (c .before .before .before .before .before .image .ensures .0) (c .before .before .before .before .before .image .ensures .1) (c .before .pack .result) (c .before .pack .ensures) (c .spell .result) (c .spell .ensures)
+returns-2 c =
+    let args = c .before .before .before .before .before .before .before .before .before .before .before .before .args in
+    let is-packing = c .before .before .before .before .before .before .before .before .before .is-packing in
+    let unpack = c .before .before .before .before .before .before .before .unpack in
+    let image = c .before .before .before .before .before .image in
+    let pack = c .before .pack in
+    let spell = c .spell in
+    passes (λ (d : Drive). imageOutOf d (now (args .buf))) (args .p) (now (args .buf)) (is-packing .result) (is-packing .ensures) (c .before .before .before .before .before .before .before .before .if1 .left) (unpack .result) (unpack .ensures) (image .result) _ (image .ensures .0) (image .ensures .1) (pack .result) (pack .ensures) (spell .result) (spell .ensures)
 
 pub image-spec : {M : Type 1} → statement M
 image-spec =

@@ -26,7 +26,10 @@ said-requires : tie.Need-said-requires
 said-requires c κs = search needs
 
 returns : tie.Need-returns
-returns c = stopped (λ (d : Drive). surfaceOf d (now (c .before .before .before .before .before .before .args .buf)) (c .before .before .before .before .before .before .args .a) (now (c .before .before .before .before .before .before .args .bytes))) (c .before .before .before .before .before .before .args .p) (now (c .before .before .before .before .before .before .args .buf)) (c .before .before .is-packing .result) (c .before .before .is-packing .ensures) (c .before .if1 .taken) _ (c .said .ensures)
+returns c =
+    let args = c .before .before .before .before .before .before .args in
+    let is-packing = c .before .before .is-packing in
+    stopped (λ (d : Drive). surfaceOf d (now (args .buf)) (args .a) (now (args .bytes))) (args .p) (now (args .buf)) (is-packing .result) (is-packing .ensures) (c .before .if1 .taken) _ (c .said .ensures)
 
 unpack-line-requires : tie.Need-unpack-line-requires
 unpack-line-requires c κs = search needs
@@ -45,26 +48,42 @@ enum-told c = search needs
 
 alter-requires : tie.Need-alter-requires
 alter-requires c κs =
-    let t = c .before .before .before .before .before .before .before .before .before .before .before .before .before .before .before .before .before .before .before .before .args .p .table in
+    let args = c .before .before .before .before .before .before .before .before .before .before .before .before .before .before .before .before .before .before .before .before .args in
+    let t = args .p .table in
     let l = c .before .before .before .before .before .before .before .before .before .before .before .before .before .unpack-line .result in
-    let u = now (c .before .before .before .before .before .before .before .before .before .before .before .before .before .before .before .before .before .before .before .before .args .buf) in
-    let bs = now (c .before .before .before .before .before .before .before .before .before .before .before .before .before .before .before .before .before .before .before .before .args .bytes) in
+    let u = now (args .buf) in
+    let bs = now (args .bytes) in
     let o = listsOk (t .spares) (t .nspares) (t .bads) (t .nbads) && lineOk (t .nspares) l in
-    ap (λ (r : Turn). not (isLoad (r .change)) || wellFormed bs) (c .before .before .before .before .before .before .surface .ensures .0) ∙ guarded-formed bs o 536 l u (answered (l .phase) l t u (c .before .before .before .before .before .before .before .before .before .before .before .before .before .before .before .before .before .before .before .before .args .a) bs) (answered-formed bs (l .phase) l t u (c .before .before .before .before .before .before .before .before .before .before .before .before .before .before .before .before .before .before .before .before .args .a))
+    ap (λ (r : Turn). not (isLoad (r .change)) || wellFormed bs) (c .before .before .before .before .before .before .surface .ensures .0) ∙ guarded-formed bs o 536 l u (answered (l .phase) l t u (args .a) bs) (answered-formed bs (l .phase) l t u (args .a))
 
 same-length : tie.Need-same-length
 same-length c = search needs
 
 returns-2 : tie.Need-returns-2
 unfolding surfaceOf
-returns-2 c = table-passes (λ (l : Line). answered (l .phase) l (c .before .before .before .before .before .before .before .before .before .before .before .before .before .before .before .before .before .before .before .before .before .args .p .table) (now (c .before .before .before .before .before .before .before .before .before .before .before .before .before .before .before .before .before .before .before .before .before .args .buf)) (c .before .before .before .before .before .before .before .before .before .before .before .before .before .before .before .before .before .before .before .before .before .args .a) (now (c .before .before .before .before .before .before .before .before .before .before .before .before .before .before .before .before .before .before .before .before .before .args .bytes))) (c .before .before .before .before .before .before .before .before .before .before .before .before .before .before .before .before .before .before .before .before .before .args .p) (now (c .before .before .before .before .before .before .before .before .before .before .before .before .before .before .before .before .before .before .before .before .before .args .buf)) (now (c .before .before .before .before .before .before .before .before .before .before .before .before .before .before .before .before .before .before .before .before .before .args .bytes)) (c .before .before .before .before .before .before .before .before .before .before .before .before .before .before .before .before .before .is-packing .result) (c .before .before .before .before .before .before .before .before .before .before .before .before .before .before .before .before .before .is-packing .ensures) (c .before .before .before .before .before .before .before .before .before .before .before .before .before .before .before .before .if1 .left) (c .before .before .before .before .before .before .before .before .before .before .before .before .before .before .unpack-line .result) (c .before .before .before .before .before .before .before .before .before .before .before .before .before .before .unpack-line .ensures) (c .before .before .before .before .before .before .before .surface .result) _ (c .before .before .before .before .before .before .before .surface .ensures .0) (c .before .before .before .before .before .before .before .surface .ensures .1) (c .before .before .before .before .before .before .before .before .before .before .before .before .before .before .before .before .before .before .before .before .before .args .p .table) (sym (ap (λ (x : Change). changed x (c .before .before .before .before .before .before .before .before .before .before .before .before .before .before .before .before .before .before .before .before .before .args .p .table) (now (c .before .before .before .before .before .before .before .before .before .before .before .before .before .before .before .before .before .before .before .before .before .args .bytes))) (c .enum-told .given .1))) (c .before .before .before .pack-line .result) (c .before .before .before .pack-line .ensures) (c .before .before .spell .result) (c .before .before .spell .ensures)
+returns-2 c =
+    let args = c .before .before .before .before .before .before .before .before .before .before .before .before .before .before .before .before .before .before .before .before .before .args in
+    let is-packing = c .before .before .before .before .before .before .before .before .before .before .before .before .before .before .before .before .before .is-packing in
+    let unpack-line = c .before .before .before .before .before .before .before .before .before .before .before .before .before .before .unpack-line in
+    let surface = c .before .before .before .before .before .before .before .surface in
+    let pack-line = c .before .before .before .pack-line in
+    let spell = c .before .before .spell in
+    table-passes (λ (l : Line). answered (l .phase) l (args .p .table) (now (args .buf)) (args .a) (now (args .bytes))) (args .p) (now (args .buf)) (now (args .bytes)) (is-packing .result) (is-packing .ensures) (c .before .before .before .before .before .before .before .before .before .before .before .before .before .before .before .before .if1 .left) (unpack-line .result) (unpack-line .ensures) (surface .result) _ (surface .ensures .0) (surface .ensures .1) (args .p .table) (sym (ap (λ (x : Change). changed x (args .p .table) (now (args .bytes))) (c .enum-told .given .1))) (pack-line .result) (pack-line .ensures) (spell .result) (spell .ensures)
 
 same-length-2 : tie.Need-same-length-2
 same-length-2 c = search needs
 
 returns-3 : tie.Need-returns-3
 unfolding surfaceOf
-returns-3 c = table-passes (λ (l : Line). answered (l .phase) l (c .before .before .before .before .before .before .before .before .before .before .before .before .before .before .before .before .before .before .before .before .before .args .p .table) (now (c .before .before .before .before .before .before .before .before .before .before .before .before .before .before .before .before .before .before .before .before .before .args .buf)) (c .before .before .before .before .before .before .before .before .before .before .before .before .before .before .before .before .before .before .before .before .before .args .a) (now (c .before .before .before .before .before .before .before .before .before .before .before .before .before .before .before .before .before .before .before .before .before .args .bytes))) (c .before .before .before .before .before .before .before .before .before .before .before .before .before .before .before .before .before .before .before .before .before .args .p) (now (c .before .before .before .before .before .before .before .before .before .before .before .before .before .before .before .before .before .before .before .before .before .args .buf)) (now (c .before .before .before .before .before .before .before .before .before .before .before .before .before .before .before .before .before .before .before .before .before .args .bytes)) (c .before .before .before .before .before .before .before .before .before .before .before .before .before .before .before .before .before .is-packing .result) (c .before .before .before .before .before .before .before .before .before .before .before .before .before .before .before .before .before .is-packing .ensures) (c .before .before .before .before .before .before .before .before .before .before .before .before .before .before .before .before .if1 .left) (c .before .before .before .before .before .before .before .before .before .before .before .before .before .before .unpack-line .result) (c .before .before .before .before .before .before .before .before .before .before .before .before .before .before .unpack-line .ensures) (c .before .before .before .before .before .before .before .surface .result) _ (c .before .before .before .before .before .before .before .surface .ensures .0) (c .before .before .before .before .before .before .before .surface .ensures .1) (c .alter .result) (c .alter .ensures) (c .before .before .before .pack-line .result) (c .before .before .before .pack-line .ensures) (c .before .before .spell .result) (c .before .before .spell .ensures)
+returns-3 c =
+    let args = c .before .before .before .before .before .before .before .before .before .before .before .before .before .before .before .before .before .before .before .before .before .args in
+    let is-packing = c .before .before .before .before .before .before .before .before .before .before .before .before .before .before .before .before .before .is-packing in
+    let unpack-line = c .before .before .before .before .before .before .before .before .before .before .before .before .before .before .unpack-line in
+    let surface = c .before .before .before .before .before .before .before .surface in
+    let alter = c .alter in
+    let pack-line = c .before .before .before .pack-line in
+    let spell = c .before .before .spell in
+    table-passes (λ (l : Line). answered (l .phase) l (args .p .table) (now (args .buf)) (args .a) (now (args .bytes))) (args .p) (now (args .buf)) (now (args .bytes)) (is-packing .result) (is-packing .ensures) (c .before .before .before .before .before .before .before .before .before .before .before .before .before .before .before .before .if1 .left) (unpack-line .result) (unpack-line .ensures) (surface .result) _ (surface .ensures .0) (surface .ensures .1) (alter .result) (alter .ensures) (pack-line .result) (pack-line .ensures) (spell .result) (spell .ensures)
 
 pub surface-spec : {M : Type 1} → statement M
 surface-spec =
