@@ -221,8 +221,9 @@ struct bv_reply bv_start(struct bv_drive *drive, uint8_t *buf, size_t len);
 /* The host raised CMD. In idle: BV_STORE if there is a table with unstored changes and no latch (the
  * bv_surface that ends it answers the offer), else BV_OFFER of BV_OFFER_COMMAND. After command bytes: the
  * offer of their opcode, or BV_OFFER_COMMAND with the bytes dropped if they are fewer than 6 for a read
- * or 4 for a write, or the opcode is none. After data bytes: BV_OFFER_ACT. The buffer stays as it is.
- * Elsewhere BV_BAD_PLACE. */
+ * or 4 for a write, or the opcode is none. After data bytes: BV_OFFER_ACT, and where fewer than 532 were
+ * fed, the rest of the data part is zeroed, whatever number the command has. But for that the buffer stays
+ * as it is. Elsewhere BV_BAD_PLACE. */
 struct bv_reply bv_raise(struct bv_drive *drive, uint8_t *buf, size_t len);
 
 /* The host lowered CMD with `byte` on the bus, after an offer. With BV_GO_ON: after offer 01, 03 or 04
@@ -232,9 +233,9 @@ struct bv_reply bv_raise(struct bv_drive *drive, uint8_t *buf, size_t len);
 struct bv_reply bv_lower(struct bv_drive *drive, uint8_t *buf, size_t len, uint8_t byte);
 
 /* The host sent `n` bytes, any number in a call. Command bytes: the first six are kept, later ones are
- * ignored. Data bytes fill the data part from its start; fewer than 532 leave the rest of it as it was,
- * those after the 532nd are dropped and make the command fail. Answers BV_WAIT, or BV_BAD_PLACE where no
- * bytes are taken. */
+ * ignored. Data bytes fill the data part from its start; the rest of it is as it was until bv_raise zeroes
+ * it, and those after the 532nd are dropped and make the command fail. Answers BV_WAIT, or BV_BAD_PLACE
+ * where no bytes are taken. */
 struct bv_reply bv_feed(struct bv_drive *drive, uint8_t *buf, size_t len, const uint8_t *bytes, size_t n);
 
 /* The access that the last answer asked for is over: `answer` is one of BV_SURFACE_.., and `bytes` are

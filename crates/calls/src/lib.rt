@@ -35,7 +35,7 @@ pub fn raise<'a>(
     if buf.len() != 536 {
         return records::refused(l, Refusal::Buffer);
     }
-    handshake::raise(l)
+    handshake::raise(l, buf)
 }
 
 pub fn lower<'a>(

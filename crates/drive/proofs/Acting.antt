@@ -27,7 +27,7 @@ use Rattle.drive.specs.Words.{response, dataOf, withData, numberOf, opco
 use Rattle.drive.specs.Results.{Result, outOf, clean}
 use Rattle.drive.specs.Handshake.{ends, firstRead, plainWrite, firstAttempt, writes, noNumber, acted}
 use Rattle.drive.specs.Calls.{lower}
-use Rattle.drive.specs.History.{Bytes, Sectors, Where, at, Entry, History, lay, next, heard, learns, acts, underway, touches, touchesFirst, reports, moves, good, hasWritten}
+use Rattle.drive.specs.History.{Bytes, Sectors, Where, at, Entry, History, padded, next, heard, learns, acts, underway, touches, touchesFirst, reports, moves, good, hasWritten}
 use Rattle.drive.specs.Run.{entryOf}
 use Rattle.drive.proofs.Parts.{Cmd}
 use Rattle.drive.proofs.Statuses.{fails, isMove, good-is, moves-is}
@@ -35,11 +35,11 @@ use Rattle.drive.proofs.Sim.{Ln, W, Hs, Blocky, placeOf, Books, Quiet, 
 use Rattle.drive.proofs.Books.{books-weaken}
 use Rattle.drive.proofs.Entries.{fits-silent, fits-failed, fits-first, entry-none, ground-failed, ground-none}
 
-module _ (start σ : Sectors) (t : Table) (mk : Marks) (pl : Block → Where) (ca : Block → List Bytes) (u c : Bytes) (n f : ℕ) (q : Offer) (h pt fd : Bytes) (to' wr : Bool) (lr : Where)
+module _ (start σ : Sectors) (t : Table) (mk : Marks) (pl : Block → Where) (ca : Block → List Bytes) (u c : Bytes) (n f : ℕ) (q : Offer) (h fd : Bytes) (to' wr : Bool) (lr : Where)
     (lc : length c ≡ 6) (gr : Ground (mk .known) t σ pl ca) (go : (eqb (response q) 0x02 || eqb (response q) 0x06) ≡ true) (cm : Cmd c h)
-    (dw : eqb (opcodeOf c) 0 ≡ false → dataOf u ≡ lay fd pt) (sp : Bool) where
+    (dw : eqb (opcodeOf c) 0 ≡ false → dataOf u ≡ padded fd) (sp : Bool) where
   abbrev H₀ : History
-  H₀ = Hs pl ca (answer.Offer q) h pt fd false to' wr lr
+  H₀ = Hs pl ca (answer.Offer q) h fd false to' wr lr
 
   abbrev l₀ : Line
   l₀ = Ln (phase.Offered q) mk c n f

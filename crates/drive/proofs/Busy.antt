@@ -38,7 +38,7 @@ use Rattle.drive.specs.Retries.{goesOnReading}
 use Rattle.drive.specs.Sparing.{attempt, onSpare, once, nextAttempt, missed, brokenOff, verified}
 use Rattle.drive.specs.Access.{settled, lost, reads}
 use Rattle.drive.specs.Calls.{surface}
-use Rattle.drive.specs.History.{Bytes, held, Sectors, Where, at, Entry, History, In, put, lay, readAsked, isTableSector, next, heard, acts, underway, touches, touchesFirst, reports, moves, good, isRead, hasWritten, bytesOf}
+use Rattle.drive.specs.History.{Bytes, held, Sectors, Where, at, Entry, History, In, put, padded, readAsked, isTableSector, next, heard, acts, underway, touches, touchesFirst, reports, moves, good, isRead, hasWritten, bytesOf}
 use Rattle.drive.specs.Surface.{target, sent, landed, brings}
 use Rattle.drive.specs.Run.{Event, entryOf}
 use Rattle.drive.proofs.Statuses.{fails, isMove, good-is, moves-is, data-ended}
@@ -58,10 +58,10 @@ pub killed-count : (t : Table) → t .nspares < 32 → killedNext t .nspares ≡
 unfolding killedNext
 killed-count t h = rw (lt-ltb (t .nspares) 32 h)
 
-module _ (start σ : Sectors) (t : Table) (mk : Marks) (pl : Block → Where) (ca : Block → List Bytes) (u c : Bytes) (n f : ℕ) (p : Phase) (A : Answer) (h pt fd : Bytes) (wr : Bool) (lr : Where) (b : Block) (rd : Bool)
+module _ (start σ : Sectors) (t : Table) (mk : Marks) (pl : Block → Where) (ca : Block → List Bytes) (u c : Bytes) (n f : ℕ) (p : Phase) (A : Answer) (h fd : Bytes) (wr : Bool) (lr : Where) (b : Block) (rd : Bool)
     (lc : length c ≡ 6) (kn : mk .known ≡ true) (i : Blocky b) (num : numberOf h ≡ b .0) (isr : eqb (opcodeOf h) 0 ≡ rd) (nl : isTableSector (readAsked A) ≡ false) (tk : tableOk t ≡ true) (a : ℕ) (bs : Bytes) (sp : Bool) where
   abbrev pub H₂ : History
-  H₂ = Hs pl ca A h pt fd true true wr lr
+  H₂ = Hs pl ca A h fd true true wr lr
 
   abbrev pub l₂ : Line
   l₂ = Ln p mk c n f
@@ -88,11 +88,11 @@ module _ (start σ : Sectors) (t : Table) (mk : Marks) (pl : Block → Where) (c
   block-is : blockOf h ≡ b
   block-is = same-block (blockOf h) b num
 
-  bytes-are : (o : Entry) (x : Bytes) → dataOf (o .buffer) ≡ x → (rd ≡ false → x ≡ lay fd pt) → bytesOf H₂ o ≡ x
+  bytes-are : (o : Entry) (x : Bytes) → dataOf (o .buffer) ≡ x → (rd ≡ false → x ≡ padded fd) → bytesOf H₂ o ≡ x
   unfolding bytesOf isRead
   bytes-are o x e w = go rd refl
     where
-      go : (q : Bool) → rd ≡ q → cond (eqb (opcodeOf h) 0) (dataOf (o .buffer)) (lay fd pt) ≡ x
+      go : (q : Bool) → rd ≡ q → cond (eqb (opcodeOf h) 0) (dataOf (o .buffer)) (padded fd) ≡ x
       go true q = rw (isr, q) e
       go false q = rw (isr, q) (sym (w q))
 
@@ -111,7 +111,7 @@ module _ (start σ : Sectors) (t : Table) (mk : Marks) (pl : Block → Where) (c
   moves-done : (m : Marks) (ch : Change) (e : Ending) (s : Seen) (v : Bytes) → moves (o₂ (finish l₂ m ch e s v)) ≡ isMove e
   moves-done m ch e s v = moves-is (surface a bs) answer.Finished e s (m .fresh) v
 
-  pub ends-fine : (m : Marks) (ch : Change) (s : Seen) (v : Bytes) → m .known ≡ true → (rd ≡ false → dataOf v ≡ lay fd pt) → (R₂ → rd ≡ true → In (dataOf v) (ca b))
+  pub ends-fine : (m : Marks) (ch : Change) (s : Seen) (v : Bytes) → m .known ≡ true → (rd ≡ false → dataOf v ≡ padded fd) → (R₂ → rd ≡ true → In (dataOf v) (ca b))
       → (R₂ → Books (changed ch t bs) σ₂ pl (put ca b (dataOf v ∷ [])) Quiet) → G₂ (finish l₂ m ch ending.Good s v)
   unfolding next heard acts underway touches touchesFirst reports
   ends-fine m ch s v km w mem k =
@@ -124,7 +124,7 @@ module _ (start σ : Sectors) (t : Table) (mk : Marks) (pl : Block → Where) (c
             resting,
       )
 
-  pub ends-moved : (s' : Sector) → lr ≡ at s' → (m : Marks) (ch : Change) (s : Seen) (v : Bytes) → m .known ≡ true → (rd ≡ false → dataOf v ≡ lay fd pt) → (R₂ → rd ≡ true → In (dataOf v) (ca b))
+  pub ends-moved : (s' : Sector) → lr ≡ at s' → (m : Marks) (ch : Change) (s : Seen) (v : Bytes) → m .known ≡ true → (rd ≡ false → dataOf v ≡ padded fd) → (R₂ → rd ≡ true → In (dataOf v) (ca b))
       → (R₂ → Books (changed ch t bs) σ₂ (put pl b (at s')) (put ca b (dataOf v ∷ [])) Quiet) → G₂ (finish l₂ m ch ending.Moved s v)
   unfolding next heard acts underway touches touchesFirst reports
   ends-moved s' es m ch s v km w mem k =
@@ -146,7 +146,7 @@ module _ (start σ : Sectors) (t : Table) (mk : Marks) (pl : Block → Where) (c
       λ ok. (fits-failed _ _ g refl, at-rest lc (grounded km (entry-failed H₂ o start (no-learn H₂ o nl) (moves-done m ch e s v ∙ em) g (inl (read-c true op)) k)) resting)
 
   -- failed, and it may have written
-  pub ends-failed : wr ≡ true → (m : Marks) (ch : Change) (e : Ending) (s : Seen) (v : Bytes) → m .known ≡ true → fails e ≡ true → isMove e ≡ false → Bound ca b rd v (lay fd pt)
+  pub ends-failed : wr ≡ true → (m : Marks) (ch : Change) (e : Ending) (s : Seen) (v : Bytes) → m .known ≡ true → fails e ≡ true → isMove e ≡ false → Bound ca b rd v (padded fd)
       → (R₂ → Books (changed ch t bs) σ₂ pl ca (Own b (dataOf v))) → G₂ (finish l₂ m ch e s v)
   unfolding next heard acts underway touches touchesFirst reports hasWritten
   ends-failed wt m ch e s v km ef em bd k = go rd refl
@@ -177,7 +177,7 @@ module _ (start σ : Sectors) (t : Table) (mk : Marks) (pl : Block → Where) (c
       let o : Entry = o₂ (say (toPhase l₂ (phase.Reading r)) (answer.Read (r .sector)) v) in
       λ ok. (fits-silent _ _ refl refl, at-work lc kn i num isr (rereads eb refl es op (g ok) (entry-none H₂ o start (no-learn H₂ o nl) refl k)))
 
-  pub goes-trying : (m : Marks) (ch : Change) (r : Trial) (v : Bytes) → m .known ≡ true → r .block ≡ b → Spot (changed ch t bs) b r → (R₂ → Bound ca b rd v (lay fd pt))
+  pub goes-trying : (m : Marks) (ch : Change) (r : Trial) (v : Bytes) → m .known ≡ true → r .block ≡ b → Spot (changed ch t bs) b r → (R₂ → Bound ca b rd v (padded fd))
       → (R₂ → Books (changed ch t bs) σ₂ pl ca (Own b (dataOf v))) → G₂ (attempt l₂ m ch r v)
   unfolding next heard acts underway touches touchesFirst reports
   goes-trying m ch r v km eb st bd k =
@@ -187,7 +187,7 @@ module _ (start σ : Sectors) (t : Table) (mk : Marks) (pl : Block → Where) (c
         at-work lc km i num isr (trying refl eb refl st (bound-as (candidates-kept H₂ o start (no-learn H₂ o nl) refl) (bd ok)) (entry-none H₂ o start (no-learn H₂ o nl) refl (k ok))),
       )
 
-  pub goes-checking : wr ≡ true → (r : Trial) (v : Bytes) → r .block ≡ b → Spot t b r → Bound ca b rd v (lay fd pt) → Books t σ₂ pl ca (Own b (dataOf v))
+  pub goes-checking : wr ≡ true → (r : Trial) (v : Bytes) → r .block ≡ b → Spot t b r → Bound ca b rd v (padded fd) → Books t σ₂ pl ca (Own b (dataOf v))
       → G₂ (say (toPhase l₂ (phase.Checking r)) (answer.Read (r .sector)) v)
   unfolding next heard acts underway touches touchesFirst reports
   goes-checking wt r v eb st bd k =
@@ -198,7 +198,7 @@ module _ (start σ : Sectors) (t : Table) (mk : Marks) (pl : Block → Where) (c
       )
 
   -- SPARING: an attempt missed
-  module _ (wt : wr ≡ true) (r : Trial) (eb : r .block ≡ b) (st : Spot t b r) (v : Bytes) (bd : Bound ca b rd v (lay fd pt)) (k : R₂ → Books t σ₂ pl ca (Own b (dataOf v))) where
+  module _ (wt : wr ≡ true) (r : Trial) (eb : r .block ≡ b) (st : Spot t b r) (v : Bytes) (bd : Bound ca b rd v (padded fd)) (k : R₂ → Books t σ₂ pl ca (Own b (dataOf v))) where
     goes-next : (m : Marks) (ch : Change) (j : ℕ) (s : Seen) → m .known ≡ true → changed ch t bs .nspares ≡ j → (R₂ → Books (changed ch t bs) σ₂ pl ca (Own b (dataOf v))) → G₂ (nextAttempt j l₂ m ch r s v)
     unfolding nextAttempt
     goes-next m ch j s km ej k' =

@@ -43,7 +43,7 @@ use Rattle.drive.specs.Retries.{met, passed, failed, goesOnReading, afte
 use Rattle.drive.specs.Sparing.{tried, checked}
 use Rattle.drive.specs.Access.{startAnswered, keptData, reads, readAnswered, writeAnswered, answered}
 use Rattle.drive.specs.Calls.{Call, raise, lower, feed, surface, reset, raiseOf, lowerOf, feedOf, surfaceOf, resetOf, stepOf, startOf}
-use Rattle.drive.specs.History.{Bytes, Content, held, unreadable, Sectors, Where, nowhere, at, History, lay, next, heard, learns, acts, underway, touches, touchesFirst, reports, placeNext, candidatesNext, Allows, blank}
+use Rattle.drive.specs.History.{Bytes, Content, held, unreadable, Sectors, Where, nowhere, at, History, padded, next, heard, learns, acts, underway, touches, touchesFirst, reports, placeNext, candidatesNext, Allows, blank}
 use Rattle.drive.specs.Surface.{putSector, brings}
 use Rattle.drive.specs.Run.{Event, World, made, Lawful, entries, begins, Demand3}
 use Rattle.drive.proofs.Parts.{data-with}
@@ -88,13 +88,13 @@ after-try t σ pl ca b x sp r i st k = go (r .spare) refl
         (books-aside (spareOf (t .nspares)) (cond sp unreadable (held x))
         (λ z e. unused-spare (spareList t) z (t .nspares) (omega (arith, length-take (t .nspares) (t .spares))) (st .aside q .0) e) k)
 
-module _ (start σ : Sectors) (t : Table) (mk : Marks) (pl : Block → Where) (ca : Block → List Bytes) (u c : Bytes) (n f : ℕ) (h pt fd : Bytes) (wr : Bool) (lr : Where) (b : Block) (rd : Bool) (s : Sector)
+module _ (start σ : Sectors) (t : Table) (mk : Marks) (pl : Block → Where) (ca : Block → List Bytes) (u c : Bytes) (n f : ℕ) (h fd : Bytes) (wr : Bool) (lr : Where) (b : Block) (rd : Bool) (s : Sector)
     (lc : length c ≡ 6) (kn : mk .known ≡ true) (i : Blocky b) (num : numberOf h ≡ b .0) (isr : eqb (opcodeOf h) 0 ≡ rd) (tk : tableOk t ≡ true) (lu : length u ≡ 536) (a : ℕ) (bs : Bytes) (sp : Bool) where
   abbrev Gr : Phase → Result → Type 0
-  Gr p x = Good start (W t (Ln p mk c n f) u σ (answer.Read s)) (Hs pl ca (answer.Read s) h pt fd true true wr lr) (ev (surface a bs) sp) (outOf t bs x)
+  Gr p x = Good start (W t (Ln p mk c n f) u σ (answer.Read s)) (Hs pl ca (answer.Read s) h fd true true wr lr) (ev (surface a bs) sp) (outOf t bs x)
 
   abbrev Gw : Phase → Result → Type 0
-  Gw p x = Good start (W t (Ln p mk c n f) u σ (answer.Write s)) (Hs pl ca (answer.Write s) h pt fd true true wr lr) (ev (surface a bs) sp) (outOf t bs x)
+  Gw p x = Good start (W t (Ln p mk c n f) u σ (answer.Write s)) (Hs pl ca (answer.Write s) h fd true true wr lr) (ev (surface a bs) sp) (outOf t bs x)
 
   -- A READ ANSWERED
   module _ (r : Retry) (eb : r .block ≡ b) (er : r .sector ≡ s) (es : s ≡ placeOf t b) (op : rd ≡ true) (g : r .good ≡ true → σ s ≡ held (dataOf u)) (k : Books t σ pl ca Quiet) where
@@ -138,36 +138,36 @@ module _ (start σ : Sectors) (t : Table) (mk : Marks) (pl : Block → Where) (c
 
     on : (r' : Retry) → r' .block ≡ b → r' .sector ≡ placeOf t b → (R → r' .good ≡ true → σ (placeOf t b) ≡ held (dataOf (keptData r u a bs))) → Go (goesOnReading r')
     on r' eb' es' g' =
-        goes-on start σ t mk pl ca u c n f (phase.Reading r) (answer.Read s) h pt fd wr lr b rd lc kn i num isr nl tk a bs sp op k (keptData r u a bs) r' eb' es' g'
+        goes-on start σ t mk pl ca u c n f (phase.Reading r) (answer.Read s) h fd wr lr b rd lc kn i num isr nl tk a bs sp op k (keptData r u a bs) r' eb' es' g'
 
     pub read-answered : Gr (phase.Reading r) (readAnswered r lp t u a bs)
     unfolding readAnswered afterRead reads failed
     read-answered =
         branch Go (eqb a 0)
         (λ q. branch Go (r .first)
-        (λ z. reads-fine start σ t mk pl ca u c n f (phase.Reading r) (answer.Read s) h pt fd wr lr b rd lc kn i num isr nl tk a bs sp op k (keptData r u a bs) (r .seen) (after-good q))
+        (λ z. reads-fine start σ t mk pl ca u c n f (phase.Reading r) (answer.Read s) h fd wr lr b rd lc kn i num isr nl tk a bs sp op k (keptData r u a bs) (r .seen) (after-good q))
         (λ z. on (passed r) eb (er ∙ es) (λ ok y. after-good q ok)))
         (λ q. branch Go (eqb a 3)
-        (λ z. goes-stopped start σ t mk pl ca u c n f (phase.Reading r) (answer.Read s) h pt fd wr lr b rd lc kn i num isr nl tk a bs sp op k (keptData r u a bs) (r .seen))
+        (λ z. goes-stopped start σ t mk pl ca u c n f (phase.Reading r) (answer.Read s) h fd wr lr b rd lc kn i num isr nl tk a bs sp op k (keptData r u a bs) (r .seen))
         (λ z. on (failed r a) eb (er ∙ es) (λ ok y. after-bad q ok y)))
 
   -- THE ONE WRITE OF A PLAIN WRITE ANSWERED
-  pub write-answered : s ≡ placeOf t b → wr ≡ true → rd ≡ false → dataOf u ≡ lay fd pt → Books t σ pl ca Quiet → Gw (phase.Writing s) (writeAnswered (Ln (phase.Writing s) mk c n f) u a)
+  pub write-answered : s ≡ placeOf t b → wr ≡ true → rd ≡ false → dataOf u ≡ padded fd → Books t σ pl ca Quiet → Gw (phase.Writing s) (writeAnswered (Ln (phase.Writing s) mk c n f) u a)
   unfolding writeAnswered
   write-answered es wt op ed k =
       branch (Gw (phase.Writing s)) (eqb a 0)
-      (λ q. ends-fine start σ t mk pl ca u c n f (phase.Writing s) (answer.Write s) h pt fd wr lr b rd lc kn i num isr refl tk a bs sp mk change.Keep clean u kn (λ e. ed) (λ ok e. clash e op)
+      (λ q. ends-fine start σ t mk pl ca u c n f (phase.Writing s) (answer.Write s) h fd wr lr b rd lc kn i num isr refl tk a bs sp mk change.Keep clean u kn (λ e. ed) (λ ok e. clash e op)
       (λ ok. rw (q, es)
       (books-only b (dataOf u) i (λ y e. left-is sp (dataOf u) y (rw putSector-same at e)) (books-write b (dataOf u) (cond sp unreadable (held (dataOf u))) i (λ x y e. absurd e) (left-is sp (dataOf u)) k))))
       (λ q. branch (Gw (phase.Writing s)) (eqb a 3) (λ z. bad (latched mk) ending.Latched clean kn refl refl q) (λ z. bad mk ending.Failed (met a clean) kn refl refl q))
     where
       bad : (m : Marks) (e : Ending) (x : Seen) → m .known ≡ true → fails e ≡ true → isMove e ≡ false → eqb a 0 ≡ false → Gw (phase.Writing s) (finish (Ln (phase.Writing s) mk c n f) m change.Keep e x u)
       bad m e x km ef em q =
-          ends-failed start σ t mk pl ca u c n f (phase.Writing s) (answer.Write s) h pt fd wr lr b rd lc kn i num isr refl tk a bs sp wt m change.Keep e x u km ef em
+          ends-failed start σ t mk pl ca u c n f (phase.Writing s) (answer.Write s) h fd wr lr b rd lc kn i num isr refl tk a bs sp wt m change.Keep e x u km ef em
           (record { as-read = λ z. clash z op; as-write = λ z. ed }) (λ ok. rw q (books-weaken b (dataOf u) k))
 
   -- SPARING ANSWERED
-  module _ (r : Trial) (eb : r .block ≡ b) (er : r .sector ≡ s) (wt : wr ≡ true) (st : Spot t b r) (bd : Bound ca b rd u (lay fd pt)) (k : Books t σ pl ca (Own b (dataOf u))) where
+  module _ (r : Trial) (eb : r .block ≡ b) (er : r .sector ≡ s) (wt : wr ≡ true) (st : Spot t b r) (bd : Bound ca b rd u (padded fd)) (k : Books t σ pl ca (Own b (dataOf u))) where
     nt : eqb (s .0) (tableSector .0) ≡ false
     nt = rw er at (not-at-table t b r (k .short) st)
 
@@ -175,11 +175,11 @@ module _ (start σ : Sectors) (t : Table) (mk : Marks) (pl : Block → Where) (c
     unfolding tried
     try-answered =
         branch (Gw (phase.Trying r)) (eqb a 0)
-        (λ q. goes-checking start σ t mk pl ca u c n f (phase.Trying r) (answer.Write s) h pt fd wr lr b rd lc kn i num isr refl tk a bs sp wt r u eb st bd
+        (λ q. goes-checking start σ t mk pl ca u c n f (phase.Trying r) (answer.Write s) h fd wr lr b rd lc kn i num isr refl tk a bs sp wt r u eb st bd
         (rw (q, ← er) (after-try t σ pl ca b (dataOf u) sp r i st k)))
         (λ q. branch (Gw (phase.Trying r)) (eqb a 3)
-        (λ z. goes-broken start σ t mk pl ca u c n f (phase.Trying r) (answer.Write s) h pt fd wr lr b rd lc kn i num isr refl tk a bs sp wt r eb st u bd (λ ok. rw q k))
-        (λ z. goes-missed start σ t mk pl ca u c n f (phase.Trying r) (answer.Write s) h pt fd wr lr b rd lc kn i num isr refl tk a bs sp wt r eb st u bd (λ ok. rw q k) (met a (r .seen))))
+        (λ z. goes-broken start σ t mk pl ca u c n f (phase.Trying r) (answer.Write s) h fd wr lr b rd lc kn i num isr refl tk a bs sp wt r eb st u bd (λ ok. rw q k))
+        (λ z. goes-missed start σ t mk pl ca u c n f (phase.Trying r) (answer.Write s) h fd wr lr b rd lc kn i num isr refl tk a bs sp wt r eb st u bd (λ ok. rw q k) (met a (r .seen))))
 
     found : (eqb a 0 && same bs (dataOf u)) ≡ true → brings (at s) (eqb a 0) bs σ → σ (r .sector) ≡ held (dataOf u)
     found q ok =
@@ -191,48 +191,48 @@ module _ (start σ : Sectors) (t : Table) (mk : Marks) (pl : Block → Where) (c
     unfolding checked
     check-answered el =
         branch (Gr (phase.Checking r)) (eqb a 0 && same bs (dataOf u))
-        (λ q. goes-verified start σ t mk pl ca u c n f (phase.Checking r) (answer.Read s) h pt fd wr lr b rd lc kn i num isr nt tk a bs sp wt r eb st u bd (λ ok. k) (el ∙ ap at (sym er)) (λ ok. found q ok))
+        (λ q. goes-verified start σ t mk pl ca u c n f (phase.Checking r) (answer.Read s) h fd wr lr b rd lc kn i num isr nt tk a bs sp wt r eb st u bd (λ ok. k) (el ∙ ap at (sym er)) (λ ok. found q ok))
         (λ q. branch (Gr (phase.Checking r)) (eqb a 3)
-        (λ z. goes-broken start σ t mk pl ca u c n f (phase.Checking r) (answer.Read s) h pt fd wr lr b rd lc kn i num isr nt tk a bs sp wt r eb st u bd (λ ok. k))
-        (λ z. goes-missed start σ t mk pl ca u c n f (phase.Checking r) (answer.Read s) h pt fd wr lr b rd lc kn i num isr nt tk a bs sp wt r eb st u bd (λ ok. k) (met (cond (eqb a 0) 1 a) (r .seen))))
+        (λ z. goes-broken start σ t mk pl ca u c n f (phase.Checking r) (answer.Read s) h fd wr lr b rd lc kn i num isr nt tk a bs sp wt r eb st u bd (λ ok. k))
+        (λ z. goes-missed start σ t mk pl ca u c n f (phase.Checking r) (answer.Read s) h fd wr lr b rd lc kn i num isr nt tk a bs sp wt r eb st u bd (λ ok. k) (met (cond (eqb a 0) 1 a) (r .seen))))
 
 -- EVERY CALL OF A COMMAND UNDER WAY
-works : {start : Sectors} {t : Table} {mk : Marks} {c : Bytes} {n f : ℕ} {p : Phase} {u : Bytes} {σ : Sectors} {a : Answer} {pl : Block → Where} {ca : Block → List Bytes} {h pt fd : Bytes} {wr : Bool} {lr : Where} {b : Block} {rd : Bool}
-    → length u ≡ 536 → tableOk t ≡ true → length c ≡ 6 → mk .known ≡ true → Blocky b → numberOf h ≡ b .0 → eqb (opcodeOf h) 0 ≡ rd → Work t σ pl ca b rd u (lay fd pt) p a wr lr
-    → Sim start (W t (Ln p mk c n f) u σ a) (Hs pl ca a h pt fd true true wr lr) → (x : Call) (sp : Bool)
-    → Keeps start t (Ln p mk c n f) u σ a (Hs pl ca a h pt fd true true wr lr) x sp
+works : {start : Sectors} {t : Table} {mk : Marks} {c : Bytes} {n f : ℕ} {p : Phase} {u : Bytes} {σ : Sectors} {a : Answer} {pl : Block → Where} {ca : Block → List Bytes} {h fd : Bytes} {wr : Bool} {lr : Where} {b : Block} {rd : Bool}
+    → length u ≡ 536 → tableOk t ≡ true → length c ≡ 6 → mk .known ≡ true → Blocky b → numberOf h ≡ b .0 → eqb (opcodeOf h) 0 ≡ rd → Work t σ pl ca b rd u (padded fd) p a wr lr
+    → Sim start (W t (Ln p mk c n f) u σ a) (Hs pl ca a h fd true true wr lr) → (x : Call) (sp : Bool)
+    → Keeps start t (Ln p mk c n f) u σ a (Hs pl ca a h fd true true wr lr) x sp
 unfolding raised lowered fedTo rested answered
 works lu tk lc kn i num isr (rereads eb er es op g k) m raise sp = declined raise sp refusal.Place [] m
 works lu tk lc kn i num isr (rereads eb er es op g k) m (lower y) sp = declined (lower y) sp refusal.Place [] m
 works lu tk lc kn i num isr (rereads eb er es op g k) m (feed bs) sp = declined (feed bs) sp refusal.Place [] m
-works {start} {t} {mk} {c} {n} {f} {p} {u} {σ} {a} {pl} {ca} {h} {pt} {fd} {wr} {lr} {b} {rd} lu tk lc kn i num isr (rereads {r = r} {s = s} eb er es op g k) m (surface y bs) sp =
-    read-checked y bs sp _ m (read-answered start σ t mk pl ca u c n f h pt fd wr lr b rd s lc kn i num isr tk lu y bs sp r eb er es op g k)
+works {start} {t} {mk} {c} {n} {f} {p} {u} {σ} {a} {pl} {ca} {h} {fd} {wr} {lr} {b} {rd} lu tk lc kn i num isr (rereads {r = r} {s = s} eb er es op g k) m (surface y bs) sp =
+    read-checked y bs sp _ m (read-answered start σ t mk pl ca u c n f h fd wr lr b rd s lc kn i num isr tk lu y bs sp r eb er es op g k)
 works lu tk lc kn i num isr (rereads eb er es op g k) m reset sp = declined reset sp refusal.Place [] m
 works lu tk lc kn i num isr (writing wt es op ed k) m raise sp = declined raise sp refusal.Place [] m
 works lu tk lc kn i num isr (writing wt es op ed k) m (lower y) sp = declined (lower y) sp refusal.Place [] m
 works lu tk lc kn i num isr (writing wt es op ed k) m (feed bs) sp = declined (feed bs) sp refusal.Place [] m
-works {start} {t} {mk} {c} {n} {f} {p} {u} {σ} {a} {pl} {ca} {h} {pt} {fd} {wr} {lr} {b} {rd} lu tk lc kn i num isr (writing {s = s} wt es op ed k) m (surface y bs) sp =
-    write-checked y bs sp _ m (write-answered start σ t mk pl ca u c n f h pt fd wr lr b rd s lc kn i num isr tk lu y bs sp es wt op ed k)
+works {start} {t} {mk} {c} {n} {f} {p} {u} {σ} {a} {pl} {ca} {h} {fd} {wr} {lr} {b} {rd} lu tk lc kn i num isr (writing {s = s} wt es op ed k) m (surface y bs) sp =
+    write-checked y bs sp _ m (write-answered start σ t mk pl ca u c n f h fd wr lr b rd s lc kn i num isr tk lu y bs sp es wt op ed k)
 works lu tk lc kn i num isr (writing wt es op ed k) m reset sp = declined reset sp refusal.Place [] m
 works lu tk lc kn i num isr (trying wt eb er st bd k) m raise sp = declined raise sp refusal.Place [] m
 works lu tk lc kn i num isr (trying wt eb er st bd k) m (lower y) sp = declined (lower y) sp refusal.Place [] m
 works lu tk lc kn i num isr (trying wt eb er st bd k) m (feed bs) sp = declined (feed bs) sp refusal.Place [] m
-works {start} {t} {mk} {c} {n} {f} {p} {u} {σ} {a} {pl} {ca} {h} {pt} {fd} {wr} {lr} {b} {rd} lu tk lc kn i num isr (trying {r = r} {s = s} wt eb er st bd k) m (surface y bs) sp =
-    write-checked y bs sp _ m (try-answered start σ t mk pl ca u c n f h pt fd wr lr b rd s lc kn i num isr tk lu y bs sp r eb er wt st bd k)
+works {start} {t} {mk} {c} {n} {f} {p} {u} {σ} {a} {pl} {ca} {h} {fd} {wr} {lr} {b} {rd} lu tk lc kn i num isr (trying {r = r} {s = s} wt eb er st bd k) m (surface y bs) sp =
+    write-checked y bs sp _ m (try-answered start σ t mk pl ca u c n f h fd wr lr b rd s lc kn i num isr tk lu y bs sp r eb er wt st bd k)
 works lu tk lc kn i num isr (trying wt eb er st bd k) m reset sp = declined reset sp refusal.Place [] m
 works lu tk lc kn i num isr (checking wt el eb er st bd k) m raise sp = declined raise sp refusal.Place [] m
 works lu tk lc kn i num isr (checking wt el eb er st bd k) m (lower y) sp = declined (lower y) sp refusal.Place [] m
 works lu tk lc kn i num isr (checking wt el eb er st bd k) m (feed bs) sp = declined (feed bs) sp refusal.Place [] m
-works {start} {t} {mk} {c} {n} {f} {p} {u} {σ} {a} {pl} {ca} {h} {pt} {fd} {wr} {lr} {b} {rd} lu tk lc kn i num isr (checking {r = r} {s = s} wt el eb er st bd k) m (surface y bs) sp =
-    read-checked y bs sp _ m (check-answered start σ t mk pl ca u c n f h pt fd wr lr b rd s lc kn i num isr tk lu y bs sp r eb er wt st bd k el)
+works {start} {t} {mk} {c} {n} {f} {p} {u} {σ} {a} {pl} {ca} {h} {fd} {wr} {lr} {b} {rd} lu tk lc kn i num isr (checking {r = r} {s = s} wt el eb er st bd k) m (surface y bs) sp =
+    read-checked y bs sp _ m (check-answered start σ t mk pl ca u c n f h fd wr lr b rd s lc kn i num isr tk lu y bs sp r eb er wt st bd k el)
 works lu tk lc kn i num isr (checking wt el eb er st bd k) m reset sp = declined reset sp refusal.Place [] m
 
 -- THE START'S READS
-module _ (start : Sectors) (t : Table) (mk : Marks) (c : Bytes) (n f j : ℕ) (u : Bytes) (pl : Block → Where) (ca : Block → List Bytes) (h pt fd : Bytes) (to' wr : Bool) (lr : Where)
+module _ (start : Sectors) (t : Table) (mk : Marks) (c : Bytes) (n f j : ℕ) (u : Bytes) (pl : Block → Where) (ca : Block → List Bytes) (h fd : Bytes) (to' wr : Bool) (lr : Where)
     (lc : length c ≡ 6) (kn : mk .known ≡ false) (none : (b : Block) → pl b ≡ nowhere)
-    (m : Sim start (W t (Ln (phase.Starting j) mk c n f) u start (answer.Read tableSector)) (Hs pl ca (answer.Read tableSector) h pt fd false to' wr lr)) where
+    (m : Sim start (W t (Ln (phase.Starting j) mk c n f) u start (answer.Read tableSector)) (Hs pl ca (answer.Read tableSector) h fd false to' wr lr)) where
   abbrev Gs : ℕ → Bytes → Bool → Result → Type 0
-  Gs a bs sp x = Good start (W t (Ln (phase.Starting j) mk c n f) u start (answer.Read tableSector)) (Hs pl ca (answer.Read tableSector) h pt fd false to' wr lr) (ev (surface a bs) sp) (outOf t bs x)
+  Gs a bs sp x = Good start (W t (Ln (phase.Starting j) mk c n f) u start (answer.Read tableSector)) (Hs pl ca (answer.Read tableSector) h fd false to' wr lr) (ev (surface a bs) sp) (outOf t bs x)
 
   bare : Ground (mk .known) t start pl ca
   bare = record { tabled = λ q. clash q kn; tableless = λ q. none }
@@ -248,7 +248,7 @@ module _ (start : Sectors) (t : Table) (mk : Marks) (c : Bytes) (n f j : ℕ) (u
       (λ q. branch (Gs a bs sp) (eqb a 3) (λ z. λ ok. (fits-silent _ _ refl refl, rw q (at-rest lc bare resting)))
       (λ z. branch (Gs a bs sp) (ltb j 10) (λ y. λ ok. (fits-silent _ _ refl refl, rw q (at-start lc kn none))) (λ y. λ ok. (fits-silent _ _ refl refl, rw q (at-rest lc bare resting)))))
 
-  starts : (x : Call) (sp : Bool) → Keeps start t (Ln (phase.Starting j) mk c n f) u start (answer.Read tableSector) (Hs pl ca (answer.Read tableSector) h pt fd false to' wr lr) x sp
+  starts : (x : Call) (sp : Bool) → Keeps start t (Ln (phase.Starting j) mk c n f) u start (answer.Read tableSector) (Hs pl ca (answer.Read tableSector) h fd false to' wr lr) x sp
   unfolding raised lowered fedTo rested answered
   starts raise sp = declined raise sp refusal.Place [] m
   starts (lower y) sp = declined (lower y) sp refusal.Place [] m
@@ -259,8 +259,8 @@ module _ (start : Sectors) (t : Table) (mk : Marks) (c : Bytes) (n f j : ℕ) (u
 -- ONE CALL, past the codes 1 and 2
 kept-by-rule : {start : Sectors} {w : World} {H : History} → Sim start w H → length (w .buffer) ≡ 536 → tableOk (w .drive .table) ≡ true → (x : Call) (sp : Bool)
     → Keeps start (w .drive .table) (w .drive .line) (w .buffer) (w .sectors) (w .asked) H x sp
-kept-by-rule {start} (at-start {t = t} {mk = mk} {c = c} {n = n} {f = f} {k = k} {u = u} {pl = pl} {ca = ca} {h = h} {pt = pt} {fd = fd} {to = to} {wr = wr} {lr = lr} lc kn none) lu tk x sp =
-    starts start t mk c n f k u pl ca h pt fd to wr lr lc kn none (at-start lc kn none) x sp
+kept-by-rule {start} (at-start {t = t} {mk = mk} {c = c} {n = n} {f = f} {k = k} {u = u} {pl = pl} {ca = ca} {h = h} {fd = fd} {to = to} {wr = wr} {lr = lr} lc kn none) lu tk x sp =
+    starts start t mk c n f k u pl ca h fd to wr lr lc kn none (at-start lc kn none) x sp
 kept-by-rule {start} (at-rest {t = t} {σ = σ} {pl = pl} {ca = ca} lc gr sh) lu tk x sp = rests start σ t pl ca lu lc gr sh (at-rest lc gr sh) x sp
 kept-by-rule (at-work lc kn i num isr wk) lu tk x sp = works lu tk lc kn i num isr wk (at-work lc kn i num isr wk) x sp
 

@@ -1,4 +1,4 @@
--- The history forbids something: lists of entries that no run gives, each against one of its rules. Blocks are one byte here.
+-- The history forbids something: lists of entries that no run gives, each against one of its rules. Blocks are one byte and zeros here.
 use mathlib.Core.Path.{_≡_, refl, ap, sym}
 use mathlib.Core.Logic.{inl, inr}
 use mathlib.Core.Bool.{false}
@@ -6,7 +6,7 @@ use mathlib.Core.List.{List, [], _∷_, _++_}
 use Prim.Native.Nat.{ℕ}
 use borrow.Author.Tests.{eq-eqb}
 use lib.Dec.{eqb}
-use lib.ListN.{getD}
+use lib.ListN.{getD, replicate}
 use Rattle.logic.proofs.Bools.{clash}
 use Rattle.geometry.specs.Geometry.{homeOf}
 use Rattle.geometry.specs.declared.Block.{Block}
@@ -21,7 +21,7 @@ use Rattle.drive.specs.declared.Answer.the-variants as answer
 use Rattle.drive.specs.declared.Refusal.the-variants as refusal
 use Rattle.drive.specs.Words.{dataOf, opcodeOf, numberOf}
 use Rattle.drive.specs.Calls.{Call, raise, lower, feed, surface, reset}
-use Rattle.drive.specs.History.{Bytes, held, unreadable, Sectors, Where, nowhere, at, Entry, History, blank, isAt, In, lay, bit, learns, acts, underway, reports, good, moves, isRead, bytesOf, touches, touchesFirst, hasWritten, placeNext, candidatesNext, heard, next, Fits, Apart, Allows}
+use Rattle.drive.specs.History.{Bytes, held, unreadable, Sectors, Where, nowhere, at, Entry, History, blank, isAt, In, padded, bit, learns, acts, underway, reports, good, moves, isRead, bytesOf, touches, touchesFirst, hasWritten, placeNext, candidatesNext, heard, next, Fits, Apart, Allows}
 use Rattle.drive.proofs.Runs.{sector, go, done, timesOut, command}
 
 -- what the rules ask at the last entry of a list
@@ -32,10 +32,14 @@ AtLast start H (o ∷ p ∷ os) = AtLast start (next start H o) (p ∷ os)
 
 -- A proof that unfolds this one unfolds all that its line names: what the history's computation has to see through.
 at-last : (start : Sectors) (H : History) (os : List Entry) → Allows start H os → AtLast start H os
-unfolding homeOf indexOf memberOf entryOk entriesOk sectorOf wide triple triples listPart framedPart imageOf narrow entryAt entriesFrom framed wellFormed tableOf same allAre dataOf opcodeOf numberOf lay bit learns acts underway reports good moves isRead bytesOf touches touchesFirst hasWritten placeNext candidatesNext heard next
+unfolding homeOf indexOf memberOf entryOk entriesOk sectorOf wide triple triples listPart framedPart imageOf narrow entryAt entriesFrom framed wellFormed tableOf same allAre dataOf opcodeOf numberOf padded bit learns acts underway reports good moves isRead bytesOf touches touchesFirst hasWritten placeNext candidatesNext heard next
 at-last start H [] a = tt
 at-last start H (o ∷ []) a = (a .0, a .1)
 at-last start H (o ∷ p ∷ os) a = at-last start (next start H o) (p ∷ os) (a .2)
+
+-- a block of one byte and zeros
+abbrev block : ℕ → Bytes
+block v = v ∷ replicate 531 0
 
 -- what those rules cannot be met with
 abbrev byteOf : Bytes → ℕ
@@ -48,7 +52,7 @@ numberAt (at s) = s .0
 differ : (m n : ℕ) → eqb m n ≡ false → m ≡ n → ⊥
 differ m n h e = clash (eq-eqb m n e) h
 
-not-the-one : (m n : ℕ) → eqb m n ≡ false → In (m ∷ []) ((n ∷ []) ∷ []) → ⊥
+not-the-one : (m n : ℕ) → eqb m n ≡ false → In (block m) (block n ∷ []) → ⊥
 not-the-one m n h (inl e) = differ m n h (ap byteOf e)
 not-the-one m n h (inr e) = e
 
@@ -62,14 +66,14 @@ not-anywhere n e = clash refl (sym (ap isAt e))
 
 -- every sector holds a seven
 abbrev sevens : Sectors
-sevens = λ s. held (7 ∷ [])
+sevens = λ s. held (block 7)
 
--- an entry with zeros in its buffer, and a finish with status 1, status 2 and a data byte
+-- an entry with zeros in its buffer, and a finish with status 1, status 2 and the first data byte
 abbrev says : Call → Answer → Entry
-says c a = record { call = c; answer = a; buffer = 0 ∷ 0 ∷ 0 ∷ 0 ∷ 0 ∷ [] }
+says c a = record { call = c; answer = a; buffer = replicate 536 0 }
 
 abbrev ends : Call → ℕ → ℕ → ℕ → Entry
-ends c s t v = record { call = c; answer = answer.Finished; buffer = s ∷ t ∷ 0 ∷ 0 ∷ v ∷ [] }
+ends c s t v = record { call = c; answer = answer.Finished; buffer = s ∷ t ∷ 0 ∷ 0 ∷ block v }
 
 abbrev offers : Offer → Entry
 offers o = says raise (answer.Offer o)
@@ -82,10 +86,10 @@ writes n = answer.Write (record { 0 = n })
 
 -- a read answered 0 and 1
 abbrev gives : ℕ → Call
-gives v = surface 0 (v ∷ [])
+gives v = surface 0 (block v)
 
 abbrev garbles : ℕ → Call
-garbles v = surface 1 (v ∷ [])
+garbles v = surface 1 (block v)
 
 -- the start finds a table with these spares; or none, with an image that came with answer 1 and bytes that are no image
 abbrev found : List ℕ → List Entry
@@ -190,7 +194,7 @@ pub bytes-of-a-write-that-finished-twice : Allows sevens blank finishedTwice →
 unfolding at-last
 bytes-of-a-write-that-finished-twice a = not-the-one 1 7 refl (at-last sevens blank finishedTwice a .0 .read-rule refl)
 
--- The one was not taken, so what was written is the zero of the data part.
+-- The one was not taken, so zeros were written.
 abbrev fedInVain : List Entry
 fedInVain =
     found []
@@ -217,6 +221,23 @@ leftBehind = found [] ++ asksWrite 1 ++ (says go (writes 17) ∷ ends done 0x00 
 pub bytes-that-a-good-write-left-in-the-buffer : Allows sevens blank leftBehind → ⊥
 unfolding at-last
 bytes-that-a-good-write-left-in-the-buffer a = not-the-one 9 1 refl (at-last sevens blank leftBehind a .0 .read-rule refl)
+
+-- The one was fed alone. A nine of another job stands behind it in the buffer and in the read.
+abbrev jobBefore : Bytes
+jobBefore = 1 ∷ 9 ∷ replicate 530 0
+
+abbrev leftFromBefore : List Entry
+leftFromBefore =
+    found [] ++ asksWrite 1 ++ (says go (writes 17) ∷ record { call = done; answer = answer.Finished; buffer = 0 ∷ 0 ∷ 0 ∷ 0 ∷ jobBefore } ∷ [])
+    ++ asksRead 17 ++ (says go (reads 17) ∷ record { call = surface 0 jobBefore; answer = answer.Finished; buffer = 0 ∷ 0 ∷ 0 ∷ 0 ∷ jobBefore } ∷ [])
+
+not-behind : In jobBefore (block 1 ∷ []) → ⊥
+not-behind (inl e) = differ 9 0 refl (ap (λ (x : Bytes). getD x 1 0) e)
+not-behind (inr e) = e
+
+pub bytes-of-another-job-behind-short-data : Allows sevens blank leftFromBefore → ⊥
+unfolding at-last
+bytes-of-another-job-behind-short-data a = not-behind (at-last sevens blank leftFromBefore a .0 .read-rule refl)
 
 -- Another block holds the image of a table. To read it is not to read the table.
 abbrev imageElsewhere : List Entry

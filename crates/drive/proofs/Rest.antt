@@ -1,11 +1,11 @@
 -- The calls between commands: handshake, store, command bytes, data bytes.
-use mathlib.Core.Path.{_≡_, refl, sym, subst, ap, _∙_}
+use mathlib.Core.Path.{_≡_, refl, sym, subst, ap}
 use mathlib.Core.Bool.{Bool, true, false, cond, not, _&&_, _||_}
-use mathlib.Core.List.{List, [], _∷_, _++_}
-use Prim.Native.Nat.{ℕ, _+_, _-_, _≤_, _<_, min}
+use mathlib.Core.List.{List, [], _∷_}
+use Prim.Native.Nat.{ℕ, _-_, _≤_, _<_}
 use native.Mathlib.Omega.{arith}
 use lib.Dec.{eqb, ltb, leb}
-use lib.ListN.{length, take, drop, length-append}
+use lib.ListN.{length}
 use borrow.Author.Tests.{eqb-true, ne-eqb}
 use Rattle.geometry.specs.Geometry.{tableSector}
 use Rattle.geometry.specs.declared.Block.{Block}
@@ -30,10 +30,10 @@ use Rattle.drive.specs.Results.{Result, outOf, say, toPhase}
 use Rattle.drive.specs.Handshake.{raisedIdle, commandOffer, offers, raised, goesOn, lowered, fedTo, rested, stray}
 use Rattle.drive.specs.Access.{toRead, toWrite, storeAnswered, answered}
 use Rattle.drive.specs.Calls.{Call, raise, lower, feed, surface, reset}
-use Rattle.drive.specs.History.{Bytes, Content, held, unreadable, Sectors, Where, at, Entry, History, lay, next, heard, learns, acts, underway, touches, touchesFirst, reports, placeNext, candidatesNext}
+use Rattle.drive.specs.History.{Bytes, Content, held, unreadable, Sectors, Where, at, Entry, History, next, heard, learns, acts, underway, touches, touchesFirst, reports, placeNext, candidatesNext}
 use Rattle.drive.specs.Surface.{landed}
 use Rattle.drive.specs.Run.{World, entryOf}
-use Rattle.drive.proofs.Parts.{data-length, lay-fed, fed-data, Prefix, prefix-none, prefix-more, Cmd, cmd-of, cmd-more}
+use Rattle.drive.proofs.Parts.{data-length, Prefix, prefix-none, prefix-more, data-fed, data-padded, Cmd, cmd-of, cmd-more}
 use Rattle.drive.proofs.Sim.{Ln, W, Hs, Books, Quiet, Ground, Shake, storing, resting, offer1, heads, offer2, offer3, offer4, takes, offer6, Sim, at-rest, Good, ev, declined}
 use Rattle.drive.proofs.Books.{books-aside}
 use Rattle.drive.proofs.Entries.{fits-silent, ground-none, no-learn}
@@ -91,28 +91,28 @@ aside {σ} {pl} {ca} {known} {t} b sp x g =
       tableless = g .tableless;
     }
 
-stored : {start σ : Sectors} {t : Table} {mk : Marks} {pl : Block → Where} {ca : Block → List Bytes} {u c : Bytes} {n f : ℕ} {h pt fd : Bytes} {to' wr : Bool} {lr : Where}
-    → length c ≡ 6 → Ground (mk .known) t σ pl ca → Sim start (W t (Ln phase.Storing mk c n f) u σ answer.Store) (Hs pl ca answer.Store h pt fd false to' wr lr) → (b : ℕ) (bs : Bytes) (sp : Bool)
-    → Good start (W t (Ln phase.Storing mk c n f) u σ answer.Store) (Hs pl ca answer.Store h pt fd false to' wr lr) (ev (surface b bs) sp) (outOf t bs (storeAnswered (Ln phase.Storing mk c n f) u b))
+stored : {start σ : Sectors} {t : Table} {mk : Marks} {pl : Block → Where} {ca : Block → List Bytes} {u c : Bytes} {n f : ℕ} {h fd : Bytes} {to' wr : Bool} {lr : Where}
+    → length c ≡ 6 → Ground (mk .known) t σ pl ca → Sim start (W t (Ln phase.Storing mk c n f) u σ answer.Store) (Hs pl ca answer.Store h fd false to' wr lr) → (b : ℕ) (bs : Bytes) (sp : Bool)
+    → Good start (W t (Ln phase.Storing mk c n f) u σ answer.Store) (Hs pl ca answer.Store h fd false to' wr lr) (ev (surface b bs) sp) (outOf t bs (storeAnswered (Ln phase.Storing mk c n f) u b))
 unfolding storeAnswered next heard acts underway touches touchesFirst reports
-stored {start} {σ} {t} {mk} {pl} {ca} {u} {c} {n} {f} {h} {pt} {fd} {to'} {wr} {lr} lc gr m b bs sp =
-    let H : History = Hs pl ca answer.Store h pt fd false to' wr lr in
+stored {start} {σ} {t} {mk} {pl} {ca} {u} {c} {n} {f} {h} {fd} {to'} {wr} {lr} lc gr m b bs sp =
+    let H : History = Hs pl ca answer.Store h fd false to' wr lr in
     let o : Entry = record { call = surface b bs; answer = answer.Offer offer.Command; buffer = u } in
     λ ok. (fits-silent _ _ refl refl, at-rest lc (ground-none H o start (no-learn H o refl) refl (aside b sp (tableImage t) gr)) offer1)
 
 module _ (start σ : Sectors) (t : Table) (pl : Block → Where) (ca : Block → List Bytes) where
-  abbrev Kp : Phase → Marks → Bytes → ℕ → ℕ → Bytes → Answer → Bytes → Bytes → Bytes → Bool → Bool → Where → Call → Bool → Type 0
-  Kp p mk c n f u a h pt fd to wr lr x sp = Keeps start t (Ln p mk c n f) u σ a (Hs pl ca a h pt fd false to wr lr) x sp
+  abbrev Kp : Phase → Marks → Bytes → ℕ → ℕ → Bytes → Answer → Bytes → Bytes → Bool → Bool → Where → Call → Bool → Type 0
+  Kp p mk c n f u a h fd to wr lr x sp = Keeps start t (Ln p mk c n f) u σ a (Hs pl ca a h fd false to wr lr) x sp
 
-  abbrev Sm : Phase → Marks → Bytes → ℕ → ℕ → Bytes → Answer → Bytes → Bytes → Bytes → Bool → Bool → Where → Type 0
-  Sm p mk c n f u a h pt fd to wr lr = Sim start (W t (Ln p mk c n f) u σ a) (Hs pl ca a h pt fd false to wr lr)
+  abbrev Sm : Phase → Marks → Bytes → ℕ → ℕ → Bytes → Answer → Bytes → Bytes → Bool → Bool → Where → Type 0
+  Sm p mk c n f u a h fd to wr lr = Sim start (W t (Ln p mk c n f) u σ a) (Hs pl ca a h fd false to wr lr)
 
   -- idle
-  rest-idle : {mk : Marks} {u c : Bytes} {n f : ℕ} {h pt fd : Bytes} {to' wr : Bool} {lr : Where} {a : Answer} → length c ≡ 6 → Ground (mk .known) t σ pl ca
-      → Sm phase.Idle mk c n f u a h pt fd to' wr lr → (x : Call) (sp : Bool) → Kp phase.Idle mk c n f u a h pt fd to' wr lr x sp
+  rest-idle : {mk : Marks} {u c : Bytes} {n f : ℕ} {h fd : Bytes} {to' wr : Bool} {lr : Where} {a : Answer} → length c ≡ 6 → Ground (mk .known) t σ pl ca
+      → Sm phase.Idle mk c n f u a h fd to' wr lr → (x : Call) (sp : Bool) → Kp phase.Idle mk c n f u a h fd to' wr lr x sp
   unfolding raised raisedIdle lowered fedTo rested answered next heard learns acts underway touches touchesFirst reports placeNext candidatesNext
-  rest-idle {mk} {u} {c} {n} {f} {h} {pt} {fd} {to'} {wr} {lr} {a} lc gr m raise sp =
-      branch (λ (y : Result). Good start (W t (Ln phase.Idle mk c n f) u σ a) (Hs pl ca a h pt fd false to' wr lr) (ev raise sp) (outOf t [] y)) (mk .known && mk .changed && not (mk .latch))
+  rest-idle {mk} {u} {c} {n} {f} {h} {fd} {to'} {wr} {lr} {a} lc gr m raise sp =
+      branch (λ (y : Result). Good start (W t (Ln phase.Idle mk c n f) u σ a) (Hs pl ca a h fd false to' wr lr) (ev raise sp) (outOf t [] y)) (mk .known && mk .changed && not (mk .latch))
       (λ q. λ ok. (fits-silent _ _ refl refl, at-rest lc gr storing)) (λ q. λ ok. (fits-silent _ _ refl refl, at-rest lc gr offer1))
   rest-idle lc gr m (lower b) sp = declined (lower b) sp refusal.Place [] m
   rest-idle lc gr m (feed bs) sp = declined (feed bs) sp refusal.Place [] m
@@ -120,71 +120,69 @@ module _ (start σ : Sectors) (t : Table) (pl : Block → Where) (ca : Block →
   rest-idle lc gr m reset sp = λ ok. (fits-silent _ _ refl refl, at-rest lc gr resting)
 
   -- another byte: status 80 00 00 00, idle, finished; the command, if any, is neither good nor failed
-  strayed : {mk : Marks} {u c : Bytes} {n f : ℕ} {q : Offer} {h pt fd : Bytes} {to' wr : Bool} {lr : Where} → length c ≡ 6 → Ground (mk .known) t σ pl ca
-      → Sm (phase.Offered q) mk c n f u (answer.Offer q) h pt fd to' wr lr → (b : ℕ) (sp : Bool) → eqb b 0x55 ≡ false
-      → Good start (W t (Ln (phase.Offered q) mk c n f) u σ (answer.Offer q)) (Hs pl ca (answer.Offer q) h pt fd false to' wr lr) (ev (lower b) sp) (outOf t [] (stray (Ln (phase.Offered q) mk c n f) u))
+  strayed : {mk : Marks} {u c : Bytes} {n f : ℕ} {q : Offer} {h fd : Bytes} {to' wr : Bool} {lr : Where} → length c ≡ 6 → Ground (mk .known) t σ pl ca
+      → Sm (phase.Offered q) mk c n f u (answer.Offer q) h fd to' wr lr → (b : ℕ) (sp : Bool) → eqb b 0x55 ≡ false
+      → Good start (W t (Ln (phase.Offered q) mk c n f) u σ (answer.Offer q)) (Hs pl ca (answer.Offer q) h fd false to' wr lr) (ev (lower b) sp) (outOf t [] (stray (Ln (phase.Offered q) mk c n f) u))
   unfolding next heard learns acts underway touches touchesFirst reports placeNext candidatesNext
   strayed lc gr m b sp e = λ ok. (fits-silent _ _ (rw e) (rw e), rw e (at-rest lc gr resting))
 
   -- an offer stands: what the lower with 55 does is given
-  rest-offered : {mk : Marks} {u c : Bytes} {n f : ℕ} {q : Offer} {h pt fd : Bytes} {to' wr : Bool} {lr : Where} → length c ≡ 6 → Ground (mk .known) t σ pl ca
-      → Sm (phase.Offered q) mk c n f u (answer.Offer q) h pt fd to' wr lr
-      → ((sp : Bool) → Good start (W t (Ln (phase.Offered q) mk c n f) u σ (answer.Offer q)) (Hs pl ca (answer.Offer q) h pt fd false to' wr lr) (ev (lower 0x55) sp) (outOf t [] (goesOn q (Ln (phase.Offered q) mk c n f) t u)))
-      → (x : Call) (sp : Bool) → Kp (phase.Offered q) mk c n f u (answer.Offer q) h pt fd to' wr lr x sp
+  rest-offered : {mk : Marks} {u c : Bytes} {n f : ℕ} {q : Offer} {h fd : Bytes} {to' wr : Bool} {lr : Where} → length c ≡ 6 → Ground (mk .known) t σ pl ca
+      → Sm (phase.Offered q) mk c n f u (answer.Offer q) h fd to' wr lr
+      → ((sp : Bool) → Good start (W t (Ln (phase.Offered q) mk c n f) u σ (answer.Offer q)) (Hs pl ca (answer.Offer q) h fd false to' wr lr) (ev (lower 0x55) sp) (outOf t [] (goesOn q (Ln (phase.Offered q) mk c n f) t u)))
+      → (x : Call) (sp : Bool) → Kp (phase.Offered q) mk c n f u (answer.Offer q) h fd to' wr lr x sp
   unfolding raised lowered fedTo rested answered next heard learns acts underway touches touchesFirst reports placeNext candidatesNext
   rest-offered lc gr m g raise sp = declined raise sp refusal.Place [] m
-  rest-offered {mk} {u} {c} {n} {f} {q} {h} {pt} {fd} {to'} {wr} {lr} lc gr m g (lower b) sp =
-      branch (λ (y : Result). Good start (W t (Ln (phase.Offered q) mk c n f) u σ (answer.Offer q)) (Hs pl ca (answer.Offer q) h pt fd false to' wr lr) (ev (lower b) sp) (outOf t [] y)) (eqb b 0x55)
-      (λ e. subst (λ (i : ℕ). Good start (W t (Ln (phase.Offered q) mk c n f) u σ (answer.Offer q)) (Hs pl ca (answer.Offer q) h pt fd false to' wr lr) (ev (lower i) sp) (outOf t [] (goesOn q (Ln (phase.Offered q) mk c n f) t u))) (sym (eqb-true b 0x55 e)) (g sp))
+  rest-offered {mk} {u} {c} {n} {f} {q} {h} {fd} {to'} {wr} {lr} lc gr m g (lower b) sp =
+      branch (λ (y : Result). Good start (W t (Ln (phase.Offered q) mk c n f) u σ (answer.Offer q)) (Hs pl ca (answer.Offer q) h fd false to' wr lr) (ev (lower b) sp) (outOf t [] y)) (eqb b 0x55)
+      (λ e. subst (λ (i : ℕ). Good start (W t (Ln (phase.Offered q) mk c n f) u σ (answer.Offer q)) (Hs pl ca (answer.Offer q) h fd false to' wr lr) (ev (lower i) sp) (outOf t [] (goesOn q (Ln (phase.Offered q) mk c n f) t u))) (sym (eqb-true b 0x55 e)) (g sp))
       (λ e. strayed lc gr m b sp e)
   rest-offered lc gr m g (feed bs) sp = declined (feed bs) sp refusal.Place [] m
   rest-offered lc gr m g (surface b bs) sp = declined (surface b bs) sp refusal.Place bs m
   rest-offered lc gr m g reset sp = λ ok. (fits-silent _ _ refl refl, at-rest lc gr resting)
 
   -- command bytes are taken
-  rest-command : {mk : Marks} {u c : Bytes} {n f : ℕ} {h pt fd : Bytes} {to' wr : Bool} {lr : Where} → length u ≡ 536 → length c ≡ 6 → Ground (mk .known) t σ pl ca → Prefix c n h
-      → Sm phase.Command mk c n f u answer.Wait h pt fd to' wr lr → (x : Call) (sp : Bool) → Kp phase.Command mk c n f u answer.Wait h pt fd to' wr lr x sp
+  rest-command : {mk : Marks} {u c : Bytes} {n f : ℕ} {h fd : Bytes} {to' wr : Bool} {lr : Where} → length u ≡ 536 → length c ≡ 6 → Ground (mk .known) t σ pl ca → Prefix 6 6 c n h
+      → Sm phase.Command mk c n f u answer.Wait h fd to' wr lr → (x : Call) (sp : Bool) → Kp phase.Command mk c n f u answer.Wait h fd to' wr lr x sp
   unfolding raised commandOffer lowered fedTo rested answered next heard learns acts underway touches touchesFirst reports placeNext candidatesNext
-  rest-command {mk} {u} {c} {n} {f} {h} {pt} {fd} {to'} {wr} {lr} lu lc gr p m raise sp =
+  rest-command {mk} {u} {c} {n} {f} {h} {fd} {to'} {wr} {lr} lu lc gr p m raise sp =
       branch P (eqb (opcodeOf c) 0x00 && leb 6 n)
       (λ q. λ ok. (fits-silent _ _ refl refl, at-rest lc gr (offer2 (cmd-of c h n 6 p (and-right (eqb (opcodeOf c) 0x00) (leb 6 n) q) (omega arith)) (and-left (eqb (opcodeOf c) 0x00) (leb 6 n) q))))
       (λ q0. branch P (eqb (opcodeOf c) 0x01 && leb 4 n)
       (λ q. λ ok. (
         fits-silent _ _ refl refl,
-        at-rest lc gr (offer3 (cmd-of c h n 4 p (and-right (eqb (opcodeOf c) 0x01) (leb 4 n) q) (omega arith)) (not-read (opcodeOf c) 1 (and-left (eqb (opcodeOf c) 0x01) (leb 4 n) q) (omega arith)) refl (data-length u lu)),
+        at-rest lc gr (offer3 (cmd-of c h n 4 p (and-right (eqb (opcodeOf c) 0x01) (leb 4 n) q) (omega arith)) (not-read (opcodeOf c) 1 (and-left (eqb (opcodeOf c) 0x01) (leb 4 n) q) (omega arith))),
       ))
       (λ q1. branch P (eqb (opcodeOf c) 0x02 && leb 4 n)
       (λ q. λ ok. (
         fits-silent _ _ refl refl,
-        at-rest lc gr (offer4 (cmd-of c h n 4 p (and-right (eqb (opcodeOf c) 0x02) (leb 4 n) q) (omega arith)) (not-read (opcodeOf c) 2 (and-left (eqb (opcodeOf c) 0x02) (leb 4 n) q) (omega arith)) refl (data-length u lu)),
+        at-rest lc gr (offer4 (cmd-of c h n 4 p (and-right (eqb (opcodeOf c) 0x02) (leb 4 n) q) (omega arith)) (not-read (opcodeOf c) 2 (and-left (eqb (opcodeOf c) 0x02) (leb 4 n) q) (omega arith))),
       ))
       (λ q2. λ ok. (fits-silent _ _ refl refl, at-rest lc gr offer1))))
     where
       P : Offer → Type 0
-      P o = Good start (W t (Ln phase.Command mk c n f) u σ answer.Wait) (Hs pl ca answer.Wait h pt fd false to' wr lr) (ev raise sp) (outOf t [] (offers (Ln phase.Command mk c n f) o u))
+      P o = Good start (W t (Ln phase.Command mk c n f) u σ answer.Wait) (Hs pl ca answer.Wait h fd false to' wr lr) (ev raise sp) (outOf t [] (offers (Ln phase.Command mk c n f) o u))
   rest-command lu lc gr p m (lower b) sp = declined (lower b) sp refusal.Place [] m
   rest-command {c = c} {n = n} {h = h} lu lc gr p m (feed bs) sp =
-      let p' = prefix-more c h bs n p in
+      let p' = prefix-more 6 6 c h bs n (omega arith) p in
       λ ok. (fits-silent _ _ refl refl, at-rest (p' .full) gr (heads p'))
   rest-command lu lc gr p m (surface b bs) sp = declined (surface b bs) sp refusal.Place bs m
   rest-command lu lc gr p m reset sp = λ ok. (fits-silent _ _ refl refl, at-rest lc gr resting)
 
   -- data bytes are taken
-  rest-taking : {mk : Marks} {u c : Bytes} {n f : ℕ} {h pt fd : Bytes} {to' wr : Bool} {lr : Where} → length u ≡ 536 → length c ≡ 6 → Ground (mk .known) t σ pl ca → Cmd c h → eqb (opcodeOf c) 0 ≡ false
-      → f ≡ min 533 (length fd) → dataOf u ≡ lay fd pt → length pt ≡ 532
-      → Sm phase.Data mk c n f u answer.Wait h pt fd to' wr lr → (x : Call) (sp : Bool) → Kp phase.Data mk c n f u answer.Wait h pt fd to' wr lr x sp
+  rest-taking : {mk : Marks} {u c : Bytes} {n f : ℕ} {h fd : Bytes} {to' wr : Bool} {lr : Where} → length u ≡ 536 → length c ≡ 6 → Ground (mk .known) t σ pl ca → Cmd c h → eqb (opcodeOf c) 0 ≡ false
+      → Prefix 532 533 (dataOf u) f fd
+      → Sm phase.Data mk c n f u answer.Wait h fd to' wr lr → (x : Call) (sp : Bool) → Kp phase.Data mk c n f u answer.Wait h fd to' wr lr x sp
   unfolding raised lowered fedTo rested answered next heard learns acts underway touches touchesFirst reports placeNext candidatesNext
-  rest-taking lu lc gr cm op en ed lp m raise sp = λ ok. (fits-silent _ _ refl refl, at-rest lc gr (offer6 cm op ed))
-  rest-taking lu lc gr cm op en ed lp m (lower b) sp = declined (lower b) sp refusal.Place [] m
-  rest-taking {mk} {u} {c} {n} {f} {h} {pt} {fd} lu lc gr cm op en ed lp m (feed bs) sp =
-      let en' : min 533 (f + length bs) ≡ min 533 (length (fd ++ bs)) = omega (arith, length-append fd bs) in
-      let laid : take f (dataOf u) ++ lay bs (drop f (dataOf u)) ≡ lay (fd ++ bs) pt = rw ed (sym (lay-fed fd bs pt f en lp)) in
-      λ ok. (fits-silent _ _ refl refl, at-rest lc gr (takes (cmd-more c h bs cm) op en' (fed-data u bs f lu ∙ laid) lp))
-  rest-taking lu lc gr cm op en ed lp m (surface b bs) sp = declined (surface b bs) sp refusal.Place bs m
-  rest-taking lu lc gr cm op en ed lp m reset sp = λ ok. (fits-silent _ _ refl refl, at-rest lc gr resting)
+  rest-taking {u = u} {f = f} {fd = fd} lu lc gr cm op tk m raise sp = λ ok. (fits-silent _ _ refl refl, at-rest lc gr (offer6 cm op (data-padded u fd f lu tk)))
+  rest-taking lu lc gr cm op tk m (lower b) sp = declined (lower b) sp refusal.Place [] m
+  rest-taking {mk} {u} {c} {n} {f} {h} {fd} lu lc gr cm op tk m (feed bs) sp =
+      λ ok. (fits-silent _ _ refl refl, at-rest lc gr (takes (cmd-more c h bs cm) op (data-fed u bs fd f lu tk)))
+  rest-taking lu lc gr cm op tk m (surface b bs) sp = declined (surface b bs) sp refusal.Place bs m
+  rest-taking lu lc gr cm op tk m reset sp = λ ok. (fits-silent _ _ refl refl, at-rest lc gr resting)
 
-  rest-storing : {mk : Marks} {u c : Bytes} {n f : ℕ} {h pt fd : Bytes} {to' wr : Bool} {lr : Where} → length c ≡ 6 → Ground (mk .known) t σ pl ca
-      → Sm phase.Storing mk c n f u answer.Store h pt fd to' wr lr → (x : Call) (sp : Bool) → Kp phase.Storing mk c n f u answer.Store h pt fd to' wr lr x sp
+  rest-storing : {mk : Marks} {u c : Bytes} {n f : ℕ} {h fd : Bytes} {to' wr : Bool} {lr : Where} → length c ≡ 6 → Ground (mk .known) t σ pl ca
+      → Sm phase.Storing mk c n f u answer.Store h fd to' wr lr → (x : Call) (sp : Bool) → Kp phase.Storing mk c n f u answer.Store h fd to' wr lr x sp
   unfolding raised lowered fedTo rested answered
   rest-storing lc gr m raise sp = declined raise sp refusal.Place [] m
   rest-storing lc gr m (lower b) sp = declined (lower b) sp refusal.Place [] m
@@ -193,17 +191,17 @@ module _ (start σ : Sectors) (t : Table) (pl : Block → Where) (ca : Block →
   rest-storing lc gr m reset sp = declined reset sp refusal.Place [] m
 
   -- EVERY CALL BETWEEN COMMANDS
-  pub rests : {mk : Marks} {u c : Bytes} {n f : ℕ} {p : Phase} {h pt fd : Bytes} {to' wr : Bool} {lr : Where} {a : Answer} → length u ≡ 536 → length c ≡ 6 → Ground (mk .known) t σ pl ca → Shake u p c n f a h pt fd
-      → Sm p mk c n f u a h pt fd to' wr lr → (x : Call) (sp : Bool) → Kp p mk c n f u a h pt fd to' wr lr x sp
-  unfolding goesOn next heard learns acts underway touches touchesFirst reports placeNext candidatesNext lay
+  pub rests : {mk : Marks} {u c : Bytes} {n f : ℕ} {p : Phase} {h fd : Bytes} {to' wr : Bool} {lr : Where} {a : Answer} → length u ≡ 536 → length c ≡ 6 → Ground (mk .known) t σ pl ca → Shake u p c n f a h fd
+      → Sm p mk c n f u a h fd to' wr lr → (x : Call) (sp : Bool) → Kp p mk c n f u a h fd to' wr lr x sp
+  unfolding goesOn next heard learns acts underway touches touchesFirst reports placeNext candidatesNext
   rests lu lc gr storing m x sp = rest-storing lc gr m x sp
   rests lu lc gr resting m x sp = rest-idle lc gr m x sp
-  rests {c = c} lu lc gr offer1 m x sp = rest-offered lc gr m (λ s. λ ok. (fits-silent _ _ refl refl, at-rest lc gr (heads (prefix-none c lc)))) x sp
+  rests {c = c} lu lc gr offer1 m x sp = rest-offered lc gr m (λ s. λ ok. (fits-silent _ _ refl refl, at-rest lc gr (heads (prefix-none 6 6 c lc)))) x sp
   rests lu lc gr (heads p) m x sp = rest-command lu lc gr p m x sp
-  rests {mk} {u} {to' = to'} {wr = wr} {lr = lr} lu lc gr (offer2 {c = c} {n = n} {h = h} {pt = pt} {fd = fd} cm op) m x sp =
-      rest-offered lc gr m (λ s. acts-well start σ t mk pl ca u c n 0 offer.Read h pt fd to' wr lr lc gr refl cm (λ z. clash op z) s) x sp
-  rests lu lc gr (offer3 cm op ed lp) m x sp = rest-offered lc gr m (λ s. λ ok. (fits-silent _ _ refl refl, at-rest lc gr (takes cm op (omega arith) ed lp))) x sp
-  rests lu lc gr (offer4 cm op ed lp) m x sp = rest-offered lc gr m (λ s. λ ok. (fits-silent _ _ refl refl, at-rest lc gr (takes cm op (omega arith) ed lp))) x sp
-  rests lu lc gr (takes cm op en ed lp) m x sp = rest-taking lu lc gr cm op en ed lp m x sp
-  rests {mk} {u} {to' = to'} {wr = wr} {lr = lr} lu lc gr (offer6 {c = c} {n = n} {f = f} {h = h} {pt = pt} {fd = fd} cm op ed) m x sp =
-      rest-offered lc gr m (λ s. acts-well start σ t mk pl ca u c n f offer.Act h pt fd to' wr lr lc gr refl cm (λ z. ed) s) x sp
+  rests {mk} {u} {to' = to'} {wr = wr} {lr = lr} lu lc gr (offer2 {c = c} {n = n} {h = h} {fd = fd} cm op) m x sp =
+      rest-offered lc gr m (λ s. acts-well start σ t mk pl ca u c n 0 offer.Read h fd to' wr lr lc gr refl cm (λ z. clash op z) s) x sp
+  rests {u = u} lu lc gr (offer3 cm op) m x sp = rest-offered lc gr m (λ s. λ ok. (fits-silent _ _ refl refl, at-rest lc gr (takes cm op (prefix-none 532 533 (dataOf u) (data-length u lu))))) x sp
+  rests {u = u} lu lc gr (offer4 cm op) m x sp = rest-offered lc gr m (λ s. λ ok. (fits-silent _ _ refl refl, at-rest lc gr (takes cm op (prefix-none 532 533 (dataOf u) (data-length u lu))))) x sp
+  rests lu lc gr (takes cm op tk) m x sp = rest-taking lu lc gr cm op tk m x sp
+  rests {mk} {u} {to' = to'} {wr = wr} {lr = lr} lu lc gr (offer6 {c = c} {n = n} {f = f} {h = h} {fd = fd} cm op ed) m x sp =
+      rest-offered lc gr m (λ s. acts-well start σ t mk pl ca u c n f offer.Act h fd to' wr lr lc gr refl cm (λ z. ed) s) x sp

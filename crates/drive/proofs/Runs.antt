@@ -24,7 +24,7 @@ use Rattle.drive.specs.Retries.{failed, goesOnReading, afterRead}
 use Rattle.drive.specs.Sparing.{nextAttempt, missed, brokenOff, verified, tried, checked}
 use Rattle.drive.specs.Access.{toRead, toWrite, startAnswered, storeAnswered, keptData, lost, settled, reads, readAnswered, writeAnswered, answered}
 use Rattle.drive.specs.Calls.{Call, raise, lower, feed, surface, reset, raiseOf, lowerOf, feedOf, surfaceOf, resetOf, startOf, stepOf}
-use Rattle.drive.specs.History.{Bytes, Content, held, unreadable, Sectors, Where, nowhere, at, Entry, History, blank, isRefused, readAsked, lay, bit, learns, acts, underway, reports, good, moves, isRead, bytesOf, touches, touchesFirst, hasWritten, placeNext, candidatesNext, heard, next, Allows}
+use Rattle.drive.specs.History.{Bytes, Content, held, unreadable, Sectors, Where, nowhere, at, Entry, History, blank, isRefused, readAsked, padded, bit, learns, acts, underway, reports, good, moves, isRead, bytesOf, touches, touchesFirst, hasWritten, placeNext, candidatesNext, heard, next, Allows}
 use Rattle.drive.specs.Surface.{brings}
 use Rattle.drive.specs.Run.{Event, World, after, rule, unless, made, Lawful, entries, begins}
 use Rattle.drive.proofs.Demand3.{demand-3}
@@ -177,7 +177,7 @@ happens : (old : Drive) (r : Run) → isLawful (from old r) (calls r) ≡ true �
     → history old r .place key ≡ r .place
     → history old r .candidates key ≡ r .candidates
     → Happens old r
-unfolding homeOf indexOf memberOf entryOk entriesOk listsOk sectorOf listed killedNext withBad removed withoutBad wide triple triples listPart framedPart imageOf narrow entryAt entriesFrom framed wellFormed tableOf over same allAre dataOf withData opcodeOf numberOf ending1 ending2 ending3 statusOf retryOk trialOk phaseOk lineOk recordOk raisedIdle commandOffer raised writes noNumber acted goesOn lowered fedTo rested failed goesOnReading afterRead nextAttempt missed brokenOff verified tried checked toRead toWrite startAnswered storeAnswered keptData lost settled reads readAnswered writeAnswered answered raiseOf lowerOf feedOf surfaceOf resetOf startOf stepOf lay bit learns acts underway reports good moves isRead bytesOf touches touchesFirst hasWritten placeNext candidatesNext heard next
+unfolding homeOf indexOf memberOf entryOk entriesOk listsOk sectorOf listed killedNext withBad removed withoutBad wide triple triples listPart framedPart imageOf narrow entryAt entriesFrom framed wellFormed tableOf over same allAre dataOf withData opcodeOf numberOf ending1 ending2 ending3 statusOf retryOk trialOk phaseOk lineOk recordOk raisedIdle commandOffer raised writes noNumber acted goesOn lowered fedTo rested failed goesOnReading afterRead nextAttempt missed brokenOff verified tried checked toRead toWrite startAnswered storeAnswered keptData lost settled reads readAnswered writeAnswered answered raiseOf lowerOf feedOf surfaceOf resetOf startOf stepOf padded bit learns acts underway reports good moves isRead bytesOf touches touchesFirst hasWritten placeNext candidatesNext heard next
 happens old r l s d p c = record { lawful = lawful-by-test (from old r) (calls r) l; says = s; part = d; place = p; candidates = c }
 
 -- so the theorem speaks of it: its history allows the whole list
@@ -472,24 +472,106 @@ pub bytes-of-a-write-broken-off-do-not-count : (old : Drive) → Happens old bro
 unfolding happens
 bytes-of-a-write-broken-off-do-not-count old = happens old brokenOffAtOffer06 refl refl refl refl refl
 
--- Two bytes are laid over the data part of the read before. 533 bytes fail the next write.
+-- SHORT DATA, each time after a read that left sevens in the data part.
+abbrev sevensRead : List Turn
+sevensRead = found [] [] ++ opens ++ asksRead 17 2 2 ++ (go ⇒ read 17 ∷ gives 7 ⇒ finished 0x00 0x00 0x80 0 ∷ [])
+
+-- Zeros stand behind two bytes. 533 bytes fail the next write.
 abbrev shortAndLong : Run
 shortAndLong =
     record {
       sectors = disk [] [];
       turns =
-          found [] []
-          ++ opens ++ asksRead 17 2 2 ++ (go ⇒ read 17 ∷ gives 7 ⇒ finished 0x00 0x00 0x80 0 ∷ [])
+          sevensRead
           ++ opens ++ asksWrite 1 17 (1 ∷ 2 ∷ []) ++ (go ⇒ write 17 ∷ done ⇒ finished 0x00 0x00 0x00 0 ∷ [])
           ++ opens ++ asksWrite 1 17 (replicate 533 3) ++ (go ⇒ finished 0x41 0x00 0x00 0 ∷ []);
       part = bytes 3;
       place = sector 17;
-      candidates = (1 ∷ 2 ∷ replicate 530 7) ∷ [];
+      candidates = (1 ∷ 2 ∷ replicate 530 0) ∷ [];
     }
 
-pub short-data-is-laid-over-and-long-data-refused : (old : Drive) → Happens old shortAndLong
+pub short-data-ends-in-zeros-and-long-data-is-refused : (old : Drive) → Happens old shortAndLong
 unfolding happens
-short-data-is-laid-over-and-long-data-refused old = happens old shortAndLong refl refl refl refl refl
+short-data-ends-in-zeros-and-long-data-is-refused old = happens old shortAndLong refl refl refl refl refl
+
+-- A verify compares with the zeros too.
+abbrev shortVerified : Run
+shortVerified =
+    record {
+      sectors = disk [] [];
+      turns =
+          sevensRead
+          ++ opens ++ asksWrite 2 17 (1 ∷ [])
+          ++ (go ⇒ write 17 ∷ done ⇒ read 17 ∷ surface 0 (1 ∷ replicate 531 0) ⇒ finished 0x00 0x00 0x00 0 ∷ []);
+      part = 1 ∷ replicate 531 0;
+      place = sector 17;
+      candidates = (1 ∷ replicate 531 0) ∷ [];
+    }
+
+pub short-data-is-verified-with-its-zeros : (old : Drive) → Happens old shortVerified
+unfolding happens
+short-data-is-verified-with-its-zeros old = happens old shortVerified refl refl refl refl refl
+
+-- One byte to FFFFFE.
+abbrev shortToTheBuffer : Run
+shortToTheBuffer =
+    record {
+      sectors = disk [] [];
+      turns = sevensRead ++ opens ++ asksWrite 1 0xFFFFFE (1 ∷ []) ++ (go ⇒ finished 0x00 0x00 0x00 0 ∷ []);
+      part = 1 ∷ replicate 531 0;
+      place = sector 17;
+      candidates = bytes 7 ∷ [];
+    }
+
+pub a-short-write-to-FFFFFE-leaves-zeros : (old : Drive) → Happens old shortToTheBuffer
+unfolding happens
+a-short-write-to-FFFFFE-leaves-zeros old = happens old shortToTheBuffer refl refl refl refl refl
+
+-- No byte to a number of no block.
+abbrev noneFed : Run
+noneFed =
+    record {
+      sectors = disk [] [];
+      turns = sevensRead ++ opens ++ asksWrite 2 9728 [] ++ (go ⇒ finished 0x01 0x00 0x40 0 ∷ []);
+      part = bytes 0;
+      place = sector 17;
+      candidates = bytes 7 ∷ [];
+    }
+
+pub with-no-byte-fed-the-whole-part-is-zeroed : (old : Drive) → Happens old noneFed
+unfolding happens
+with-no-byte-fed-the-whole-part-is-zeroed old = happens old noneFed refl refl refl refl refl
+
+-- Broken off at offer 06 the zeros stay; broken off before that raise nothing is zeroed.
+abbrev shortBrokenOff : Run
+shortBrokenOff =
+    record {
+      sectors = disk [] [];
+      turns = sevensRead ++ opens ++ asksWrite 1 17 (1 ∷ []) ++ (lower 0xAA ⇒ finished 0x80 0x00 0x00 0 ∷ []);
+      part = 1 ∷ replicate 531 0;
+      place = sector 17;
+      candidates = bytes 7 ∷ [];
+    }
+
+pub the-zeros-of-a-write-broken-off-stay : (old : Drive) → Happens old shortBrokenOff
+unfolding happens
+the-zeros-of-a-write-broken-off-stay old = happens old shortBrokenOff refl refl refl refl refl
+
+abbrev brokenOffBeforeTheRaise : Run
+brokenOffBeforeTheRaise =
+    record {
+      sectors = disk [] [];
+      turns =
+          sevensRead
+          ++ opens ++ (go ⇒ wait ∷ feed (command 1 17 []) ⇒ wait ∷ raise ⇒ offer 0x03 ∷ go ⇒ wait ∷ feed (1 ∷ []) ⇒ wait ∷ reset ⇒ wait ∷ []);
+      part = 1 ∷ replicate 531 7;
+      place = sector 17;
+      candidates = bytes 7 ∷ [];
+    }
+
+pub before-that-raise-nothing-is-zeroed : (old : Drive) → Happens old brokenOffBeforeTheRaise
+unfolding happens
+before-that-raise-nothing-is-zeroed old = happens old brokenOffBeforeTheRaise refl refl refl refl refl
 
 -- Calls out of place, answers that are none and bytes of a wrong length stand among the calls of one write.
 abbrev refusedAmong : Run

@@ -3,7 +3,7 @@ use mathlib.Core.Path.{_≡_, refl, sym, subst, ap, _∙_}
 use mathlib.Core.Bool.{Bool, true, false, cond, not, _&&_, _||_}
 use mathlib.Core.Logic.{_⊎_, inl, inr}
 use mathlib.Core.List.{List, [], _∷_, _++_}
-use Prim.Native.Nat.{ℕ, zero, suc, _+_, _≤_, _<_, min}
+use Prim.Native.Nat.{ℕ, zero, suc, _+_, _≤_, _<_}
 use native.Mathlib.Omega.{arith}
 use lib.Dec.{eqb}
 use lib.ListN.{length, take}
@@ -30,7 +30,7 @@ use Rattle.drive.specs.declared.Refusal.{Refusal}
 use Rattle.drive.specs.Words.{dataOf, numberOf, opcodeOf, blockOf}
 use Rattle.drive.specs.Results.{Out, Result, outOf, refuse}
 use Rattle.drive.specs.Calls.{Call}
-use Rattle.drive.specs.History.{Bytes, Content, held, Sectors, Where, nowhere, at, Entry, History, In, lay, next, Fits, Apart}
+use Rattle.drive.specs.History.{Bytes, Content, held, Sectors, Where, nowhere, at, Entry, History, In, padded, next, Fits, Apart}
 use Rattle.drive.specs.Run.{Event, World, after, Permits, entryOf}
 use Rattle.drive.proofs.Parts.{Prefix, Cmd}
 
@@ -41,9 +41,9 @@ Ln p mk c n f = record { phase = p; marks = mk; command = c; count = n; fed = f 
 abbrev pub W : Table → Line → Bytes → Sectors → Answer → World
 W t l u σ a = record { drive = record { table = t; line = l }; buffer = u; sectors = σ; asked = a }
 
-abbrev pub Hs : (Block → Where) → (Block → List Bytes) → Answer → Bytes → Bytes → Bytes → Bool → Bool → Bool → Where → History
-Hs pl ca a h pt fd ac to wr lr =
-    record { place = pl; candidates = ca; last = a; command = h; part = pt; fed = fd; acting = ac; touched = to; wrote = wr; lastRead = lr }
+abbrev pub Hs : (Block → Where) → (Block → List Bytes) → Answer → Bytes → Bytes → Bool → Bool → Bool → Where → History
+Hs pl ca a h fd ac to wr lr =
+    record { place = pl; candidates = ca; last = a; command = h; fed = fd; acting = ac; touched = to; wrote = wr; lastRead = lr }
 
 abbrev pub Blocky : Block → Type 0
 Blocky b = isBlock (b .0) ≡ true
@@ -70,21 +70,18 @@ pub record Ground (known : Bool) (t : Table) (σ : Sectors) (pl : Block → Wher
   pub tabled : known ≡ true → Books t σ pl ca Quiet
   pub tableless : known ≡ false → (b : Block) → pl b ≡ nowhere
 
--- between commands: phase, command bytes, their count, data count; last answer, bytes fed, part, data fed
-pub data Shake (u : Bytes) : Phase → Bytes → ℕ → ℕ → Answer → Bytes → Bytes → Bytes → Type 0 where
-  storing : {c : Bytes} {n f : ℕ} {h pt fd : Bytes} → Shake u phase.Storing c n f answer.Store h pt fd
-  resting : {c : Bytes} {n f : ℕ} {a : Answer} {h pt fd : Bytes} → Shake u phase.Idle c n f a h pt fd
-  offer1 : {c : Bytes} {f : ℕ} {pt fd : Bytes} → Shake u (phase.Offered offer.Command) c 0 f (answer.Offer offer.Command) [] pt fd
-  heads : {c : Bytes} {n f : ℕ} {h pt fd : Bytes} → Prefix c n h → Shake u phase.Command c n f answer.Wait h pt fd
-  offer2 : {c : Bytes} {n : ℕ} {h pt fd : Bytes} → Cmd c h → eqb (opcodeOf c) 0 ≡ true → Shake u (phase.Offered offer.Read) c n 0 (answer.Offer offer.Read) h pt fd
-  offer3 : {c : Bytes} {n : ℕ} {h pt : Bytes} → Cmd c h → eqb (opcodeOf c) 0 ≡ false → dataOf u ≡ pt → length pt ≡ 532
-      → Shake u (phase.Offered offer.Write) c n 0 (answer.Offer offer.Write) h pt []
-  offer4 : {c : Bytes} {n : ℕ} {h pt : Bytes} → Cmd c h → eqb (opcodeOf c) 0 ≡ false → dataOf u ≡ pt → length pt ≡ 532
-      → Shake u (phase.Offered offer.Verify) c n 0 (answer.Offer offer.Verify) h pt []
-  takes : {c : Bytes} {n f : ℕ} {h pt fd : Bytes} → Cmd c h → eqb (opcodeOf c) 0 ≡ false → f ≡ min 533 (length fd) → dataOf u ≡ lay fd pt → length pt ≡ 532
-      → Shake u phase.Data c n f answer.Wait h pt fd
-  offer6 : {c : Bytes} {n f : ℕ} {h pt fd : Bytes} → Cmd c h → eqb (opcodeOf c) 0 ≡ false → dataOf u ≡ lay fd pt
-      → Shake u (phase.Offered offer.Act) c n f (answer.Offer offer.Act) h pt fd
+-- between commands: phase, command bytes, their count, data count; last answer, bytes fed, data fed
+pub data Shake (u : Bytes) : Phase → Bytes → ℕ → ℕ → Answer → Bytes → Bytes → Type 0 where
+  storing : {c : Bytes} {n f : ℕ} {h fd : Bytes} → Shake u phase.Storing c n f answer.Store h fd
+  resting : {c : Bytes} {n f : ℕ} {a : Answer} {h fd : Bytes} → Shake u phase.Idle c n f a h fd
+  offer1 : {c : Bytes} {f : ℕ} {fd : Bytes} → Shake u (phase.Offered offer.Command) c 0 f (answer.Offer offer.Command) [] fd
+  heads : {c : Bytes} {n f : ℕ} {h fd : Bytes} → Prefix 6 6 c n h → Shake u phase.Command c n f answer.Wait h fd
+  offer2 : {c : Bytes} {n : ℕ} {h fd : Bytes} → Cmd c h → eqb (opcodeOf c) 0 ≡ true → Shake u (phase.Offered offer.Read) c n 0 (answer.Offer offer.Read) h fd
+  offer3 : {c : Bytes} {n : ℕ} {h : Bytes} → Cmd c h → eqb (opcodeOf c) 0 ≡ false → Shake u (phase.Offered offer.Write) c n 0 (answer.Offer offer.Write) h []
+  offer4 : {c : Bytes} {n : ℕ} {h : Bytes} → Cmd c h → eqb (opcodeOf c) 0 ≡ false → Shake u (phase.Offered offer.Verify) c n 0 (answer.Offer offer.Verify) h []
+  takes : {c : Bytes} {n f : ℕ} {h fd : Bytes} → Cmd c h → eqb (opcodeOf c) 0 ≡ false → Prefix 532 533 (dataOf u) f fd → Shake u phase.Data c n f answer.Wait h fd
+  offer6 : {c : Bytes} {n f : ℕ} {h fd : Bytes} → Cmd c h → eqb (opcodeOf c) 0 ≡ false → dataOf u ≡ padded fd
+      → Shake u (phase.Offered offer.Act) c n f (answer.Offer offer.Act) h fd
 
 -- what the history will take for the command's bytes is the data part; rd: the command is a read
 pub record Bound (ca : Block → List Bytes) (b : Block) (rd : Bool) (u mine : Bytes) : Type 0 where
@@ -109,14 +106,14 @@ pub data Work (t : Table) (σ : Sectors) (pl : Block → Where) (ca : Block → 
 
 -- THE INVARIANT
 pub data Sim (start : Sectors) : World → History → Type 0 where
-  at-start : {t : Table} {mk : Marks} {c : Bytes} {n f k : ℕ} {u : Bytes} {pl : Block → Where} {ca : Block → List Bytes} {h pt fd : Bytes} {to wr : Bool} {lr : Where}
+  at-start : {t : Table} {mk : Marks} {c : Bytes} {n f k : ℕ} {u : Bytes} {pl : Block → Where} {ca : Block → List Bytes} {h fd : Bytes} {to wr : Bool} {lr : Where}
       → length c ≡ 6 → mk .known ≡ false → ((b : Block) → pl b ≡ nowhere)
-      → Sim start (W t (Ln (phase.Starting k) mk c n f) u start (answer.Read tableSector)) (Hs pl ca (answer.Read tableSector) h pt fd false to wr lr)
-  at-rest : {t : Table} {mk : Marks} {c : Bytes} {n f : ℕ} {p : Phase} {u : Bytes} {σ : Sectors} {a : Answer} {pl : Block → Where} {ca : Block → List Bytes} {h pt fd : Bytes} {to wr : Bool} {lr : Where}
-      → length c ≡ 6 → Ground (mk .known) t σ pl ca → Shake u p c n f a h pt fd → Sim start (W t (Ln p mk c n f) u σ a) (Hs pl ca a h pt fd false to wr lr)
-  at-work : {t : Table} {mk : Marks} {c : Bytes} {n f : ℕ} {p : Phase} {u : Bytes} {σ : Sectors} {a : Answer} {pl : Block → Where} {ca : Block → List Bytes} {h pt fd : Bytes} {wr : Bool} {lr : Where} {b : Block} {rd : Bool}
-      → length c ≡ 6 → mk .known ≡ true → Blocky b → numberOf h ≡ b .0 → eqb (opcodeOf h) 0 ≡ rd → Work t σ pl ca b rd u (lay fd pt) p a wr lr
-      → Sim start (W t (Ln p mk c n f) u σ a) (Hs pl ca a h pt fd true true wr lr)
+      → Sim start (W t (Ln (phase.Starting k) mk c n f) u start (answer.Read tableSector)) (Hs pl ca (answer.Read tableSector) h fd false to wr lr)
+  at-rest : {t : Table} {mk : Marks} {c : Bytes} {n f : ℕ} {p : Phase} {u : Bytes} {σ : Sectors} {a : Answer} {pl : Block → Where} {ca : Block → List Bytes} {h fd : Bytes} {to wr : Bool} {lr : Where}
+      → length c ≡ 6 → Ground (mk .known) t σ pl ca → Shake u p c n f a h fd → Sim start (W t (Ln p mk c n f) u σ a) (Hs pl ca a h fd false to wr lr)
+  at-work : {t : Table} {mk : Marks} {c : Bytes} {n f : ℕ} {p : Phase} {u : Bytes} {σ : Sectors} {a : Answer} {pl : Block → Where} {ca : Block → List Bytes} {h fd : Bytes} {wr : Bool} {lr : Where} {b : Block} {rd : Bool}
+      → length c ≡ 6 → mk .known ≡ true → Blocky b → numberOf h ≡ b .0 → eqb (opcodeOf h) 0 ≡ rd → Work t σ pl ca b rd u (padded fd) p a wr lr
+      → Sim start (W t (Ln p mk c n f) u σ a) (Hs pl ca a h fd true true wr lr)
 
 -- WHAT A CALL HAS TO KEEP, as a property of its result
 abbrev pub Good : Sectors → World → History → Event → Out → Type 0

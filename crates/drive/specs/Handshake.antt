@@ -3,7 +3,7 @@ use mathlib.Core.Bool.{Bool, true, false, cond, not, _&&_, _||_}
 use mathlib.Core.List.{List, [], _∷_, _++_}
 use Prim.Native.Nat.{ℕ, _+_, _-_, min}
 use lib.Dec.{ltb, leb, eqb}
-use lib.ListN.{length, take}
+use lib.ListN.{length, take, replicate}
 use Rattle.geometry.specs.Geometry.{isBlock}
 use Rattle.geometry.specs.declared.Block.{Block}
 use Rattle.lists.specs.Lists.{memberOf}
@@ -58,12 +58,17 @@ keptBytes offer.Act n = n
 abbrev pub offers : Line → Offer → List ℕ → Result
 offers l o u = say (opened l o (keptBytes o (l .count))) (answer.Offer o) u
 
+-- Document 02, request 1: "When fewer than 532 are fed, the rest of the data part is now zeroed at the raise that offers 06."
+-- The buffer with f data bytes fed: its status, those bytes, then zeros.
+abbrev pub zeroed : ℕ → List ℕ → List ℕ
+zeroed f u = take (4 + f) u ++ replicate (532 - f) 0x00
+
 -- "Raise after data: offer 06."
 unfoldable pub raised : Phase → Line → List ℕ → Result
 raised phase.Idle l u = raisedIdle l u
 raised (phase.Offered o) l u = refuse refusal.Place l u
 raised phase.Command l u = offers l (commandOffer (l .command) (l .count)) u
-raised phase.Data l u = say (toPhase l (phase.Offered offer.Act)) (answer.Offer offer.Act) u
+raised phase.Data l u = say (toPhase l (phase.Offered offer.Act)) (answer.Offer offer.Act) (zeroed (l .fed) u)
 raised (phase.Starting k) l u = refuse refusal.Place l u
 raised phase.Storing l u = refuse refusal.Place l u
 raised (phase.Reading r) l u = refuse refusal.Place l u
@@ -151,8 +156,8 @@ fedCommand l u bs =
     say (record { phase = phase.Command; marks = l .marks; command = over (l .count) (take (6 - l .count) bs) (l .command); count = min 6 (l .count + length bs); fed = l .fed })
     answer.Wait u
 
--- "Data fills the data part from its start; fewer than 532 leave the rest of the part as it was; bytes after the 532nd
--- are dropped, the count stopping at 533."
+-- "Data fills the data part from its start; fewer than 532 leave the rest of the part as it was" until the raise that offers
+-- 06; "bytes after the 532nd are dropped, the count stopping at 533."
 abbrev pub fedData : Line → List ℕ → List ℕ → Result
 fedData l u bs =
     say (record { phase = phase.Data; marks = l .marks; command = l .command; count = l .count; fed = min 533 (l .fed + length bs) }) answer.Wait

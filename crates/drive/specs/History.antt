@@ -6,7 +6,7 @@ use mathlib.Core.Bool.{Bool, true, false, cond, not, _&&_, _||_}
 use mathlib.Core.List.{List, [], _∷_, _++_}
 use Prim.Native.Nat.{ℕ, _/_, _%_}
 use lib.Dec.{eqb}
-use lib.ListN.{getD}
+use lib.ListN.{take, replicate, getD}
 use Rattle.geometry.specs.Geometry.{isBlock, tableSector}
 use Rattle.geometry.specs.declared.Block.{Block}
 use Rattle.geometry.specs.declared.Sector.{Sector}
@@ -46,8 +46,7 @@ pub record History : Type 0 where
   pub candidates : Block → List Bytes  -- "and a list of candidates"
   pub last : Answer  -- the answer of the last call that was not refused
   pub command : Bytes  -- the bytes fed since the last offer 01
-  pub part : Bytes  -- the data part left by the last offer 03 or 04
-  pub fed : Bytes  -- the bytes fed since then
+  pub fed : Bytes  -- the bytes fed since the last offer 03 or 04
   pub acting : Bool  -- a command is acted on and not yet reported
   pub touched : Bool  -- it has asked for an access
   pub wrote : Bool  -- it has asked for a write s
@@ -56,7 +55,7 @@ pub record History : Type 0 where
 -- "none at first"; "The list begins where an accepted start returned, its read of 4960 awaited"
 abbrev pub blank : History
 blank =
-    record { place = λ b. nowhere; candidates = λ b. []; last = answer.Read tableSector; command = []; part = []; fed = []; acting = false; touched = false; wrote = false; lastRead = nowhere }
+    record { place = λ b. nowhere; candidates = λ b. []; last = answer.Read tableSector; command = []; fed = []; acting = false; touched = false; wrote = false; lastRead = nowhere }
 
 -- tests on answers
 abbrev pub isRefused : Answer → Bool
@@ -158,12 +157,6 @@ andFed h reset = h
 abbrev pub put : {A : Type 0} → (Block → A) → Block → A → Block → A
 put f k x = λ b. cond (eqb (b .0) (k .0)) x (f b)
 
--- bytes laid over the start of a part
-unfoldable pub lay : Bytes → Bytes → Bytes
-lay [] part = part
-lay (x ∷ xs) [] = []
-lay (x ∷ xs) (y ∷ part) = x ∷ lay xs part
-
 unfoldable pub bit : ℕ → ℕ → Bool
 bit k n = eqb (n / k % 2) 1
 
@@ -203,10 +196,13 @@ moves o = bit 4 (getD (o .buffer) 1 0)
 unfoldable pub isRead : History → Bool
 isRead H = eqb (opcodeOf (H .command)) 0x00
 
--- "A write's bytes are the data part left by its offer 03 or 04, with the bytes fed since then laid over its start. A read's
--- bytes are the data part left at finished."
+-- Document 02, request 1: a write's bytes are the bytes fed since its offer 03 or 04, then zeros up to 532.
+unfoldable pub padded : Bytes → Bytes
+padded fed = take 532 (fed ++ replicate 532 0x00)
+
+-- "A read's bytes are the data part left at finished."
 unfoldable pub bytesOf : History → Entry → Bytes
-bytesOf H o = cond (isRead H) (dataOf (o .buffer)) (lay (H .fed) (H .part))
+bytesOf H o = cond (isRead H) (dataOf (o .buffer)) (padded (H .fed))
 
 -- an access of a command, and whether it is its first
 unfoldable pub touches : History → Entry → Bool
@@ -242,7 +238,6 @@ heard start H o =
       candidates = candidatesNext start H o;
       last = o .answer;
       command = cond (isOffer 0x01 (o .answer)) [] (andFed (H .command) (o .call));
-      part = cond (isOffer 0x03 (o .answer) || isOffer 0x04 (o .answer)) (dataOf (o .buffer)) (H .part);
       fed = cond (isOffer 0x03 (o .answer) || isOffer 0x04 (o .answer)) [] (andFed (H .fed) (o .call));
       acting = underway H o && not (isFinished (o .answer));
       touched = touches H o || (not (acts H o) && H .touched);

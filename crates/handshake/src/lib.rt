@@ -1,7 +1,9 @@
-// The handshake of document 01, on the line alone: raise and reset.
+// The handshake of document 01: raise and reset. The buffer is lent where data end.
 ghost use mathlib.Core.Path.{_≡_};
 ghost use mathlib.Core.List.{[]};
-ghost use Rattle.drive.specs.Handshake.{opened, raisedIdle, commandOffer, keptBytes, raised, atRest, rested};
+ghost use Prim.Native.Nat.{_-_};
+ghost use lib.ListN.{length};
+ghost use Rattle.drive.specs.Handshake.{opened, raisedIdle, commandOffer, keptBytes, zeroed, raised, atRest, rested};
 ghost use Rattle.drive.specs.Results.{say};
 ghost use Rattle.drive.specs.declared.Answer.the-variants as answer;
 ghost use Rattle.drive.specs.declared.Phase.the-variants as phase;
@@ -79,18 +81,41 @@ fn raise_command(l: Line) -> Turn
     offer(l, o, kept_bytes(o, l.count))
 }
 
-pub fn raise(l: Line) -> Turn
-    ensures { λ x. ⌜ x ≡ turnOf (raised (l .phase) l []) ⌝ }
+// How many of the 532 data bytes were not fed, if f were.
+fn unfed(f: usize) -> usize
+    ensures { λ x. ⌜ x ≡ 532 - f ⌝ }
+{
+    if f < 532 { 532 - f } else { 0 }
+}
+
+// Those bytes are the buffer's last, and become zeros.
+fn zero_rest(buf: &mut [u8], f: usize)
+    requires { ⌜ length (now buf) ≡ 536 ⌝ }
+    ensures { λ x. ⌜ now (buf .exit) ≡ zeroed f (now (buf .entry)) ⌝ }
+{
+    let n = unfed(f);
+    buffer::fill(buf, 536 - n, n, 0);
+}
+
+fn raise_data(l: Line, buf: &mut [u8]) -> Turn
+    requires { ⌜ length (now buf) ≡ 536 ⌝ }
+    ensures { λ x. ⌜ (x ≡ turnOf (raised phase.Data l (now (buf .entry)))) × (now (buf .exit) ≡ raised phase.Data l (now (buf .entry)) .bytes) ⌝ }
+{
+    zero_rest(buf, l.fed);
+    let next = records::in_phase(l, Phase::Offered(Offer::Act));
+    records::said(next, Answer::Offer(Offer::Act))
+}
+
+pub fn raise(l: Line, buf: &mut [u8]) -> Turn
+    requires { ⌜ length (now buf) ≡ 536 ⌝ }
+    ensures { λ x. ⌜ (x ≡ turnOf (raised (l .phase) l (now (buf .entry)))) × (now (buf .exit) ≡ raised (l .phase) l (now (buf .entry)) .bytes) ⌝ }
 {
     let p = l.phase;
     match p {
         Phase::Idle => raise_idle(l),
         Phase::Offered(_) => records::refused(l, Refusal::Place),
         Phase::Command => raise_command(l),
-        Phase::Data => records::said(
-            records::in_phase(l, Phase::Offered(Offer::Act)),
-            Answer::Offer(Offer::Act),
-        ),
+        Phase::Data => raise_data(l, buf),
         Phase::Starting(_) => records::refused(l, Refusal::Place),
         Phase::Storing => records::refused(l, Refusal::Place),
         Phase::Reading(_) => records::refused(l, Refusal::Place),

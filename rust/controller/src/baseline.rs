@@ -252,7 +252,7 @@ impl Drive {
         Answer::Offer(offer)
     }
 
-    fn raised(&mut self, buffer: &[u8]) -> Result<Answer, Code> {
+    fn raised(&mut self, buffer: &mut [u8]) -> Result<Answer, Code> {
         self.accept(buffer, BUFFER)?;
         match self.phase {
             Phase::Idle if self.known && self.changed && !self.latch => {
@@ -270,7 +270,10 @@ impl Drive {
                 self.fed = 0;
                 Ok(self.offer(offer))
             }
-            Phase::Data => Ok(self.offer(Offer::Act)),
+            Phase::Data => {
+                buffer[STATUS + self.fed.min(SECTOR_BYTES)..].fill(0);
+                Ok(self.offer(Offer::Act))
+            }
             _ => Err(Code::Place),
         }
     }

@@ -95,6 +95,29 @@ fn a_block_that_moves_and_the_store() {
 }
 
 #[test]
+fn short_data_ends_in_zeros() {
+    for count in [0, 1, 511, 512, 531, 532] {
+        let (mut drive, mut buffer) = started();
+        // Another job's bytes stand in the data part.
+        let other = [0xEE; SECTOR_BYTES];
+        let done = command(&mut drive, &mut buffer, &[1, 0xFF, 0xFF, 0xFE], &other);
+        assert_eq!((done, &buffer[4..]), (Answer::Finished, &other[..]));
+
+        let mut wanted = [0; SECTOR_BYTES];
+        wanted[..count].fill(0x5A);
+        let fed = vec![0x5A; count];
+        let asked = command(&mut drive, &mut buffer, &[2, 0, 0, 17], &fed);
+        assert_eq!(asked, Answer::Write(Sector(17)));
+        assert_eq!(buffer[4..], wanted, "{count}");
+        let done = drive.surface(&mut buffer, surface::GOOD, &[]);
+        assert_eq!(done, Answer::Read(Sector(17)));
+        let done = drive.surface(&mut buffer, surface::GOOD, &wanted);
+        assert_eq!(done, Answer::Finished);
+        assert_eq!(buffer[..4], [0; 4]);
+    }
+}
+
+#[test]
 fn codes_in_their_order() {
     let (mut drive, mut buffer) = started();
     let refused = Answer::Refused;

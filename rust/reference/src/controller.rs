@@ -192,7 +192,7 @@ impl Record {
         Ok(())
     }
 
-    fn raised(&mut self, buffer: &[u8]) -> Result<Answer, Code> {
+    fn raised(&mut self, buffer: &mut [u8]) -> Result<Answer, Code> {
         self.accept(buffer, BUFFER)?;
         match self.phase {
             Phase::Idle if self.known && self.changed && !self.latch => {
@@ -218,7 +218,8 @@ impl Record {
                 Ok(self.offer(next))
             }
             Phase::Data => {
-                met("raise.data");
+                met(&self.data_name());
+                self.zero_rest(buffer);
                 Ok(self.offer(Offer::Act))
             }
             _ => Err(Code::Place),
@@ -235,6 +236,24 @@ impl Record {
             (Offer::Command, Some(_)) => String::from("raise.command.unknown"),
             _ => format!("raise.command.offer-{:02x}.of-{count}", next.byte()),
         }
+    }
+
+    fn data_name(&self) -> String {
+        let count = match self.data_count {
+            0 => "none",
+            1..SECTOR_BYTES => "some",
+            SECTOR_BYTES => "532",
+            _ => "533",
+        };
+        format!("raise.data.{}.{count}", self.number_name())
+    }
+
+    /// The part behind the bytes that were fed becomes zeros (document 02, request 1).
+    fn zero_rest(&self, buffer: &mut [u8]) {
+        let part = data_mut(buffer);
+        // At 533 there is no rest either.
+        let fed = self.data_count.min(part.len());
+        part[fed..].fill(0);
     }
 
     /// What a raise after command bytes offers.

@@ -81,7 +81,7 @@ impl Page {
 struct Command {
     opcode: u8,
     number: u32,
-    /// A write's bytes.
+    /// A write's bytes: those fed, then zeros up to 532 (document 02, request 1).
     bytes: Vec<u8>,
     /// An access was asked for.
     accessed: bool,
@@ -103,11 +103,8 @@ pub struct Ledger {
     offer: Option<Offer>,
     /// The first bytes fed since the last offer 01, four at most.
     fed: Vec<u8>,
-    /// The data part left by the last offer 03 or 04, with the bytes fed since
-    /// then laid over its start.
-    written: Vec<u8>,
-    /// How many of them were fed.
-    laid: usize,
+    /// The first bytes fed since the last offer 03 or 04, 532 at most.
+    data: Vec<u8>,
     command: Option<Command>,
     broken: Option<Broken>,
     good_reads: u64,
@@ -123,8 +120,7 @@ impl Ledger {
             table_awaited: true,
             offer: None,
             fed: vec![],
-            written: vec![0; SECTOR_BYTES],
-            laid: 0,
+            data: vec![],
             command: None,
             broken: None,
             good_reads: 0,
@@ -154,16 +150,12 @@ impl Ledger {
         assert!(*call != Call::Start, "a start begins another list");
         self.take(call);
         self.table_awaited = answer == Answer::Read(TABLE);
-        let data = &buffer[STATUS..];
         match answer {
             Answer::Offer(offer) => {
                 self.offer = Some(offer);
                 match offer {
                     Offer::Command => self.fed.clear(),
-                    Offer::Write | Offer::Verify => {
-                        self.written = data.to_vec();
-                        self.laid = 0;
-                    }
+                    Offer::Write | Offer::Verify => self.data.clear(),
                     Offer::Read | Offer::Act => {}
                 }
             }
@@ -181,7 +173,8 @@ impl Ledger {
             }
             Answer::Finished => {
                 if let Some(command) = self.command.take() {
-                    self.report(command, &buffer[..STATUS], data);
+                    let (status, data) = buffer.split_at(STATUS);
+                    self.report(command, status, data);
                 }
             }
             Answer::Wait | Answer::Store | Answer::Refused(_) => {}
@@ -194,10 +187,8 @@ impl Ledger {
             Call::Feed(bytes) => {
                 let room = 4 - self.fed.len();
                 self.fed.extend(bytes.iter().take(room));
-                let room = SECTOR_BYTES - self.laid;
-                let laid = bytes.len().min(room);
-                self.written[self.laid..self.laid + laid].copy_from_slice(&bytes[..laid]);
-                self.laid += laid;
+                let room = SECTOR_BYTES - self.data.len();
+                self.data.extend(bytes.iter().take(room));
             }
             Call::Lower(byte) => {
                 let offer = self.offer.take();
@@ -217,10 +208,12 @@ impl Ledger {
 
     fn acted_on(&self) -> Command {
         let byte = |place: usize| self.fed.get(place).copied().unwrap_or(0xFF);
+        let mut bytes = self.data.clone();
+        bytes.resize(SECTOR_BYTES, 0);
         Command {
             opcode: byte(0),
             number: u32::from_be_bytes([0, byte(1), byte(2), byte(3)]),
-            bytes: self.written.clone(),
+            bytes,
             accessed: false,
             wrote: false,
             last_read: None,

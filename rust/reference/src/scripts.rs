@@ -10,6 +10,7 @@ mod moves;
 mod reads;
 mod refusals;
 mod settle;
+mod short_data;
 mod starts;
 mod stores;
 mod ways;
@@ -43,6 +44,7 @@ pub fn all() -> Vec<Stored> {
     [
         handshake::all(),
         commands::all(),
+        short_data::all(),
         starts::all(),
         stores::all(),
         reads::all(),
@@ -103,7 +105,7 @@ mod tests {
                 together += size;
             }
         }
-        assert!(together < 400_000, "{together} bytes");
+        assert!(together < 440_000, "{together} bytes");
     }
 
     #[test]

@@ -45,7 +45,7 @@ impl Blocks {
 /// Where a line's data comes from.
 #[derive(Clone, Debug, PartialEq, Eq)]
 pub enum Data {
-    /// These bytes for every block.
+    /// These bytes for every block, as they are: none, fewer than 532 or more.
     Bytes(Vec<u8>),
     /// The text and the block's number, over and over.
     Text(String),

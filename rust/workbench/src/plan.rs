@@ -149,6 +149,11 @@ fn compare(mut words: Words) -> Result<Line, String> {
         return Err(String::from("\"with\" and the data are missing"));
     }
     let data = words.data()?;
+    if data == Data::Bytes(vec![]) {
+        return Err(String::from(
+            "\"nothing\" can be written, not compared with",
+        ));
+    }
     Ok(Line::Compare {
         blocks,
         retry,

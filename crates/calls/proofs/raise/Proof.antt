@@ -1,10 +1,6 @@
 -- `calls::raise` meets its contract.
-use mathlib.Core.Path.{sym, _∙_}
 use borrow.Author.Tests.{eq-eqb, ne-eqb}
-use denote.Ref.{now}
-use mathlib.Core.List.{[]}
 use Rattle.calls.proofs.Parts.{unsound, sound-so}
-use Rattle.calls.proofs.Asides.{raise-aside}
 use borrow.Author.Needs.{needs}
 use Rattle.calls.proofs.raise.Statement.{statement}
 use Rattle.calls.proofs.raise.Tie as tie
@@ -29,13 +25,15 @@ returns-2 c =
     (rw (c .refused2 .ensures, e, ne-eqb _ _ (c .before .if2 .taken)), rw (e, ne-eqb _ _ (c .before .if2 .taken)))
 
 raise-requires : tie.Need-raise-requires
-raise-requires c κs = search needs
+raise-requires c κs = c .before .if2 .left
+
+same-length : tie.Need-same-length
+same-length c = search needs
 
 returns-3 : tie.Need-returns-3
 returns-3 c =
-    let e = sound-so (c .before .before .before .sound .ensures) (c .before .before .if1 .left) in
-    let z = raise-aside (c .before .before .before .before .before .before .before .args .l .phase) (c .before .before .before .before .before .before .before .args .l) [] (now (c .before .before .before .before .before .before .before .args .buf)) in
-    (rw (e, eq-eqb _ _ (c .before .if2 .left)) (c .raise .ensures ∙ z .turn), rw (e, eq-eqb _ _ (c .before .if2 .left)) (sym (z .bytes)))
+    let e = sound-so (c .before .before .before .before .before .before .sound .ensures) (c .before .before .before .before .before .if1 .left) in
+    (rw (e, eq-eqb _ _ (c .before .before .before .before .if2 .left)) (c .before .before .raise .ensures .0), rw (e, eq-eqb _ _ (c .before .before .before .before .if2 .left)) (c .before .before .raise .ensures .1))
 
 pub raise-spec : {M : Type 1} → statement M
 raise-spec =
@@ -47,4 +45,5 @@ raise-spec =
     refused-requires-2
     returns-2
     raise-requires
+    same-length
     returns-3)

@@ -1,5 +1,9 @@
 -- `handshake::raise` meets its contract: a call for each phase.
-use Rattle.drive.specs.Handshake.{raised}
+use mathlib.Core.Path.{sym, _∙_}
+use mathlib.Core.List.{[]}
+use denote.Ref.{now}
+use Rattle.drive.specs.Handshake.{raisedIdle, raised}
+use Rattle.handshake.proofs.Buffers.{idle-aside}
 use borrow.Author.Needs.{needs}
 use Rattle.handshake.proofs.raise.Statement.{statement}
 use Rattle.handshake.proofs.raise.Tie as tie
@@ -25,11 +29,8 @@ raise-command-requires c κs = search needs
 enum-told-4 : tie.Need-enum-told-4
 enum-told-4 c = search needs
 
-in-phase-requires : tie.Need-in-phase-requires
-in-phase-requires c κs = search needs
-
-said-requires : tie.Need-said-requires
-said-requires c κs = search needs
+raise-data-requires : tie.Need-raise-data-requires
+raise-data-requires c κs = search needs
 
 enum-told-5 : tie.Need-enum-told-5
 enum-told-5 c = search needs
@@ -68,44 +69,50 @@ refused-requires-7 : tie.Need-refused-requires-7
 refused-requires-7 c κs = search needs
 
 returns : tie.Need-returns
-unfolding raised
-returns c = rw (c .raise-idle .ensures, c .before .enum-told .given .1)
+unfolding raised raisedIdle
+returns c =
+    let a = c .before .before .before .before .args in
+    let z = idle-aside (a .l) [] (now (a .buf)) in
+    (rw (c .before .enum-told .given .1) (c .raise-idle .ensures ∙ z .turn), rw (c .before .enum-told .given .1) (sym (z .bytes)))
 
 returns-2 : tie.Need-returns-2
 unfolding raised
-returns-2 c = rw (c .refused .ensures, c .before .enum-told2 .given .1)
+returns-2 c = (rw (c .refused .ensures, c .before .enum-told2 .given .1), rw (c .before .enum-told2 .given .1))
 
 returns-3 : tie.Need-returns-3
 unfolding raised
-returns-3 c = rw (c .raise-command .ensures, c .before .enum-told3 .given .1)
+returns-3 c = (rw (c .raise-command .ensures, c .before .enum-told3 .given .1), rw (c .before .enum-told3 .given .1))
+
+same-length : tie.Need-same-length
+same-length c = search needs
 
 returns-4 : tie.Need-returns-4
 unfolding raised
-returns-4 c = rw (c .said .ensures, c .before .in-phase .ensures, c .before .before .enum-told4 .given .1)
+returns-4 c = (rw (c .before .before .raise-data .ensures .0, c .before .before .before .before .enum-told4 .given .1), rw (c .before .before .raise-data .ensures .1, c .before .before .before .before .enum-told4 .given .1))
 
 returns-5 : tie.Need-returns-5
 unfolding raised
-returns-5 c = rw (c .refused2 .ensures, c .before .enum-told5 .given .1)
+returns-5 c = (rw (c .refused2 .ensures, c .before .enum-told5 .given .1), rw (c .before .enum-told5 .given .1))
 
 returns-6 : tie.Need-returns-6
 unfolding raised
-returns-6 c = rw (c .refused3 .ensures, c .before .enum-told6 .given .1)
+returns-6 c = (rw (c .refused3 .ensures, c .before .enum-told6 .given .1), rw (c .before .enum-told6 .given .1))
 
 returns-7 : tie.Need-returns-7
 unfolding raised
-returns-7 c = rw (c .refused4 .ensures, c .before .enum-told7 .given .1)
+returns-7 c = (rw (c .refused4 .ensures, c .before .enum-told7 .given .1), rw (c .before .enum-told7 .given .1))
 
 returns-8 : tie.Need-returns-8
 unfolding raised
-returns-8 c = rw (c .refused5 .ensures, c .before .enum-told8 .given .1)
+returns-8 c = (rw (c .refused5 .ensures, c .before .enum-told8 .given .1), rw (c .before .enum-told8 .given .1))
 
 returns-9 : tie.Need-returns-9
 unfolding raised
-returns-9 c = rw (c .refused6 .ensures, c .before .enum-told9 .given .1)
+returns-9 c = (rw (c .refused6 .ensures, c .before .enum-told9 .given .1), rw (c .before .enum-told9 .given .1))
 
 returns-10 : tie.Need-returns-10
 unfolding raised
-returns-10 c = rw (c .refused7 .ensures, c .before .enum-told10 .given .1)
+returns-10 c = (rw (c .refused7 .ensures, c .before .enum-told10 .given .1), rw (c .before .enum-told10 .given .1))
 
 pub raise-spec : {M : Type 1} → statement M
 raise-spec =
@@ -118,8 +125,7 @@ raise-spec =
     enum-told-3
     raise-command-requires
     enum-told-4
-    in-phase-requires
-    said-requires
+    raise-data-requires
     enum-told-5
     refused-requires-2
     enum-told-6
@@ -135,6 +141,7 @@ raise-spec =
     returns
     returns-2
     returns-3
+    same-length
     returns-4
     returns-5
     returns-6

@@ -120,6 +120,19 @@ impl Record {
         }
     }
 
+    /// A word for the number of a write and what stands in its way, for the
+    /// coverage names.
+    pub(super) fn number_name(&self) -> &'static str {
+        let number = Order::new(Offer::Act, &self.command).number;
+        match Block::new(number) {
+            Some(_) if !self.known => "no-table",
+            Some(_) if self.latch => "latch",
+            Some(_) => "block",
+            None if number == RAM => "fffffe",
+            None => "invalid",
+        }
+    }
+
     /// The status of a command that is over before any access, and before the
     /// table is put in the data part.
     fn at_once(&self, order: Order) -> Option<[u8; STATUS]> {
@@ -130,14 +143,7 @@ impl Record {
         let block = Block::new(number);
 
         if order.writes() && self.data_count > SECTOR_BYTES {
-            let what = match block {
-                Some(_) if !self.known => "no-table",
-                Some(_) if self.latch => "latch",
-                Some(_) => "block",
-                None if number == RAM => "fffffe",
-                None => "invalid",
-            };
-            met(&format!("act.too-much.{kind}.{what}"));
+            met(&format!("act.too-much.{kind}.{}", self.number_name()));
             return Some([one::ABORTED | one::FAILED, 0, 0, 0]);
         }
         if block.is_none() && number != RAM && !order.reads_table() {

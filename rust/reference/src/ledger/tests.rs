@@ -85,6 +85,7 @@ impl List {
         let laid = data.len().min(532);
         self.buffer[STATUS..STATUS + laid].copy_from_slice(&data[..laid]);
         self.call(Call::Feed(data.to_vec()), Answer::Wait);
+        self.buffer[STATUS + laid..].fill(0);
         self.call(Call::Raise, Answer::Offer(Offer::Act));
     }
 
@@ -205,14 +206,81 @@ fn a_write_broken_off_is_neither() {
     }
 }
 
+/// So many bytes of 07, then this byte up to 532.
+fn ending_in(count: usize, byte: u8) -> [u8; 532] {
+    let mut bytes = [byte; 532];
+    bytes[..count].fill(7);
+    bytes
+}
+
+/// A list with these bytes in the data part, then a write of so many bytes of 07
+/// to block 5.
+fn short_write(part: &[u8], count: usize, status: [u8; 4]) -> List {
+    let mut list = List::with(&[]);
+    list.buffer[STATUS..].copy_from_slice(part);
+    list.write(5, 5, &vec![7; count], status);
+    list
+}
+
 #[test]
-fn short_data_lie_over_what_was_there() {
+fn short_data_ends_in_zeros() {
+    for count in [0, 1, 511, 512, 531, 532] {
+        let mut list = short_write(&NEW, count, GOOD);
+        list.read(5, 5, GOOD, &ending_in(count, 0));
+        list.allowed();
+    }
+}
+
+#[test]
+fn what_was_there_behind_short_data_is_forbidden() {
+    for count in [0, 1, 511, 512, 531] {
+        let mut list = short_write(&NEW, count, GOOD);
+        list.read(5, 5, GOOD, &ending_in(count, 0x02));
+        list.broken(Broken::GoodRead(block(5)));
+    }
+    let mut list = short_write(&NEW, 532, GOOD);
+    list.read(5, 5, GOOD, &ending_in(532, 0x02));
+    list.allowed();
+}
+
+#[test]
+fn a_failed_write_of_short_data_adds_zeros() {
+    for (read, allowed) in [
+        (OLD, true),
+        (ending_in(512, 0), true),
+        (ending_in(512, 0x01), false),
+        (ending_in(512, 0x02), false),
+    ] {
+        let mut list = short_write(&NEW, 512, FAILED);
+        list.read(5, 5, GOOD, &read);
+        assert_eq!(list.ledger.verdict().is_ok(), allowed, "{}", read[531]);
+    }
+}
+
+#[test]
+fn the_data_part_has_no_say_in_a_writes_bytes() {
+    // A controller that forgets the zeros is found out, whatever its buffer shows.
     let mut list = List::with(&[]);
     list.buffer[STATUS..].copy_from_slice(&NEW);
+    list.command(&[1, 0, 0, 5]);
+    list.call(Call::Lower(0x55), Answer::Wait);
+    list.call(Call::Feed(vec![7; 512]), Answer::Wait);
+    list.buffer[STATUS..].copy_from_slice(&ending_in(512, 0x02));
+    list.call(Call::Raise, Answer::Offer(Offer::Act));
+    list.call(Call::Lower(0x55), Answer::Write(sector(5)));
+    list.finished(GOOD, &ending_in(512, 0x02));
+    list.read(5, 5, GOOD, &ending_in(512, 0x02));
+    list.broken(Broken::GoodRead(block(5)));
+}
+
+#[test]
+fn bytes_of_a_write_broken_off_reach_no_later_one() {
+    let mut list = List::with(&[]);
+    list.up_to_06(1, 5, &[9; 532]);
+    list.buffer[..4].copy_from_slice(&[0x80, 0, 0, 0]);
+    list.call(Call::Lower(0x54), Answer::Finished);
     list.write(5, 5, &[7; 3], GOOD);
-    let mut wanted = NEW;
-    wanted[..3].fill(7);
-    list.read(5, 5, GOOD, &wanted);
+    list.read(5, 5, GOOD, &ending_in(3, 0));
     list.allowed();
 }
 

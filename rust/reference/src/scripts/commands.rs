@@ -55,7 +55,7 @@ fn clean() -> Bench {
         bench.holds(place);
     }
 
-    bench.note("Short data: the rest of the data part is written as it was.");
+    bench.note("Short data: the rest of the block is zeros.");
     bench.write(200, &[0xAA; 5]);
     bench.said_write(200);
     bench.good();
@@ -63,7 +63,7 @@ fn clean() -> Bench {
     bench.good();
     bench.read(200, 0, 1);
     bench.good();
-    assert_eq!(bench.drive.data()[..6], [0xAA, 0xAA, 0xAA, 0xAA, 0xAA, 10]);
+    assert_eq!(bench.drive.data()[..6], [0xAA, 0xAA, 0xAA, 0xAA, 0xAA, 0]);
 
     bench.note("A write that fails, then a read of the old bytes.");
     bench.write(99, &[0xBB; 532]);
@@ -117,7 +117,7 @@ fn numbers() -> Bench {
     bench.verify(0xFF_FFFE, &[0x25; 10]);
     bench.finished([0; 4]);
     bench.read(0xFF_FFFE, 0, 0);
-    assert_eq!(bench.drive.data()[9..11], [0x25, 0x24]);
+    assert_eq!(bench.drive.data()[9..11], [0x25, 0]);
     bench.note("FFFFFF: the table, as it stands in the record.");
     bench.read(0xFF_FFFF, 0, 0);
     bench.finished([0; 4]);
@@ -131,13 +131,14 @@ fn numbers() -> Bench {
     bench.table_is(&[17, 0xFF_FFFE], &[0, 9727]);
     bench.read(0xFF_FFFF, 0, 0);
     bench.finished([0; 4]);
-    bench.note("The table's bytes are now in the buffer: a write of nothing sends them.");
+    bench.note("The table's bytes are now in the buffer: a write of nothing sends zeros.");
     bench.write(300, &[]);
     bench.said_write(300);
     bench.good();
     bench.read(300, 0, 1);
     bench.good();
     bench.finished([0; 4]);
+    bench.holds(0);
     bench
 }
 

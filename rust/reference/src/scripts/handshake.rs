@@ -136,7 +136,7 @@ fn wrong_bytes() -> Bench {
     bench.good();
     bench.good();
     bench.finished([0; 4]);
-    bench.holds(0x77);
+    bench.holds(0);
     bench
 }
 

@@ -55,6 +55,8 @@ fn data() {
         other => panic!("{line}: {other:?}"),
     };
     assert_eq!(data("write 1 4d 00*3"), Data::Bytes(vec![0x4D, 0, 0, 0]));
+    assert_eq!(data("write 1 nothing"), Data::Bytes(vec![]));
+    assert_eq!(data("write-verify 0..39 nothing"), Data::Bytes(vec![]));
     assert_eq!(data("write 1 \"a b\""), Data::Text(String::from("a b")));
     let path = String::from("front.dat");
     let file = Data::File { path, offset: 532 };
@@ -126,7 +128,7 @@ fn expectations_and_traffic() {
 }
 
 /// Lines with a fault in them, and a part of what is said of each.
-const WRONG: [(&str, &str); 38] = [
+const WRONG: [(&str, &str); 40] = [
     ("red 17", "\"red\" begins no line of a plan"),
     ("Start", "\"Start\" begins no line"),
     ("start now", "\"now\" is too much"),
@@ -156,6 +158,8 @@ const WRONG: [(&str, &str); 38] = [
     ),
     ("write 17 file", "a file's name is missing"),
     ("write 17 file a at", "an offset is missing"),
+    ("write 17 nothing 00", "\"00\" is too much"),
+    ("compare 17 with nothing", "can be written, not compared"),
     ("compare 17 \"a\"", "R is a number"),
     ("compare 17 10 3", "\"with\" and the data are missing"),
     ("lower 5", "a byte is two hex digits, not \"5\""),

@@ -122,6 +122,10 @@ impl<'a> Words<'a> {
             self.end()?;
             return Ok(Data::File { path, offset });
         }
+        if self.take("nothing") {
+            self.end()?;
+            return Ok(Data::Bytes(vec![]));
+        }
         bytes(self.rest).map(Data::Bytes)
     }
 }

@@ -93,6 +93,16 @@ fn a_file_of_40_blocks_there_and_back() {
 }
 
 #[test]
+fn short_data_is_sent_as_it_is_and_ends_in_zeros() {
+    let plan = "start\nwrite 3 \"one\"\nwrite 4 4d*512\ncompare 4 with 4d*512 00*20\n\
+                compare 3 with \"one\"\nwrite-verify 4 4e*531\ncompare 4 with 4e*531 00\n\
+                compare 3 with \"one\"\nwrite 4..5 nothing\ncompare 4..5 with 00*532\n";
+    let (ended, _, out) = played(plan, Settings::default());
+    assert_eq!(ended, Ok(true), "{out}");
+    assert!(out.contains("  5 of 5 expectations met\n"), "{out}");
+}
+
+#[test]
 fn what_is_not_as_expected_is_said() {
     let plan = "start\nwrite 3..5 \"one\"\nexpect failed accesses 1\nwrite 4 00\n\
                 compare 3..5 with \"one\"\nexpect good\n";
