@@ -4,9 +4,9 @@
  * The board turns what happens on the host's bus and at the heads into calls, and does what each call
  * answers. docs/BOARD.md has the loop, examples/board_loop.c is one. Usable from C11 and from C++11.
  *
- * WHAT IS PROMISED. For every record, every buffer and every argument a call answers as document 01
- * defines it, changes the record and the buffer as it defines, reads and writes nothing else, and ends.
- * No call waits, allocates, or keeps a pointer.
+ * WHAT IS PROMISED. For every record, every buffer and every argument a call answers as document 01 with
+ * request 1 of document 02 defines it, changes the record and the buffer as it defines, reads and writes
+ * nothing else, and ends. No call waits, allocates, or keeps a pointer.
  *
  * WHAT THE CALLER OWES, and no call can test:
  *   - `drive` points to a struct bv_drive, aligned as C aligns it;

@@ -222,22 +222,30 @@ pub bytes-that-a-good-write-left-in-the-buffer : Allows sevens blank leftBehind 
 unfolding at-last
 bytes-that-a-good-write-left-in-the-buffer a = not-the-one 9 1 refl (at-last sevens blank leftBehind a .0 .read-rule refl)
 
--- The one was fed alone. A nine of another job stands behind it in the buffer and in the read.
-abbrev jobBefore : Bytes
-jobBefore = 1 ∷ 9 ∷ replicate 530 0
+-- The data part holds another job's nines at offer 03. The one is fed alone, and the nines behind it are written and read.
+abbrev shows : Bytes → Call → Answer → Entry
+shows x c a = record { call = c; answer = a; buffer = 0 ∷ 0 ∷ 0 ∷ 0 ∷ x }
 
-abbrev leftFromBefore : List Entry
-leftFromBefore =
-    found [] ++ asksWrite 1 ++ (says go (writes 17) ∷ record { call = done; answer = answer.Finished; buffer = 0 ∷ 0 ∷ 0 ∷ 0 ∷ jobBefore } ∷ [])
-    ++ asksRead 17 ++ (says go (reads 17) ∷ record { call = surface 0 jobBefore; answer = answer.Finished; buffer = 0 ∷ 0 ∷ 0 ∷ 0 ∷ jobBefore } ∷ [])
+abbrev nines : Bytes
+nines = replicate 532 9
 
-not-behind : In jobBefore (block 1 ∷ []) → ⊥
+abbrev oneAndNines : Bytes
+oneAndNines = 1 ∷ replicate 531 9
+
+abbrev notZeroed : List Entry
+notZeroed =
+    found []
+    ++ (offers offer.Command ∷ says go answer.Wait ∷ says (feed (command 1 17 [])) answer.Wait ∷ shows nines raise (answer.Offer offer.Write) ∷ shows nines go answer.Wait ∷ [])
+    ++ (shows oneAndNines (feed (1 ∷ [])) answer.Wait ∷ shows oneAndNines raise (answer.Offer offer.Act) ∷ shows oneAndNines go (writes 17) ∷ shows oneAndNines done answer.Finished ∷ [])
+    ++ asksRead 17 ++ (says go (reads 17) ∷ shows oneAndNines (surface 0 oneAndNines) answer.Finished ∷ [])
+
+not-behind : In oneAndNines (block 1 ∷ []) → ⊥
 not-behind (inl e) = differ 9 0 refl (ap (λ (x : Bytes). getD x 1 0) e)
 not-behind (inr e) = e
 
-pub bytes-of-another-job-behind-short-data : Allows sevens blank leftFromBefore → ⊥
+pub bytes-of-another-job-behind-short-data : Allows sevens blank notZeroed → ⊥
 unfolding at-last
-bytes-of-another-job-behind-short-data a = not-behind (at-last sevens blank leftFromBefore a .0 .read-rule refl)
+bytes-of-another-job-behind-short-data a = not-behind (at-last sevens blank notZeroed a .0 .read-rule refl)
 
 -- Another block holds the image of a table. To read it is not to read the table.
 abbrev imageElsewhere : List Entry

@@ -1,4 +1,4 @@
-// The handshake of document 01: raise and reset. The buffer is lent where data end.
+// The handshake of document 01: raise and reset. Raise is lent the buffer, for the zeros behind short data.
 ghost use mathlib.Core.Path.{_≡_};
 ghost use mathlib.Core.List.{[]};
 ghost use Prim.Native.Nat.{_-_};

@@ -1,4 +1,4 @@
-//! Hand-computed cases from document 01.
+//! Hand-computed cases from document 01, and from request 1 of document 02.
 
 mod short_data;
 

@@ -108,7 +108,7 @@ fn numbers() -> Bench {
         bench.finished([0x01, 0, 0x40, 0]);
         bench.holds(0x23);
     }
-    bench.note("FFFFFE: the buffer as fed.");
+    bench.note("FFFFFE: the buffer as fed, then zeros.");
     bench.read(0xFF_FFFE, 255, 0);
     bench.finished([0; 4]);
     bench.holds(0x23);

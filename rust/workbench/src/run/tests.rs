@@ -93,7 +93,7 @@ fn a_file_of_40_blocks_there_and_back() {
 }
 
 #[test]
-fn short_data_is_sent_as_it_is_and_ends_in_zeros() {
+fn short_data_ends_in_zeros() {
     let plan = "start\nwrite 3 \"one\"\nwrite 4 4d*512\ncompare 4 with 4d*512 00*20\n\
                 compare 3 with \"one\"\nwrite-verify 4 4e*531\ncompare 4 with 4e*531 00\n\
                 compare 3 with \"one\"\nwrite 4..5 nothing\ncompare 4..5 with 00*532\n";
