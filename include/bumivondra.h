@@ -5,8 +5,8 @@
  * answers. docs/BOARD.md has the loop, examples/board_loop.c is one. Usable from C11 and from C++11.
  *
  * WHAT IS PROMISED. For every record, every buffer and every argument a call answers as document 01 with
- * request 1 of document 02 defines it, changes the record and the buffer as it defines, reads and writes
- * nothing else, and ends. No call waits, allocates, or keeps a pointer.
+ * requests 1 and 2 of document 02 defines it, changes the record and the buffer as it defines, reads and
+ * writes nothing else, and ends. No call waits, allocates, or keeps a pointer.
  *
  * WHAT THE CALLER OWES, and no call can test:
  *   - `drive` points to a struct bv_drive, aligned as C aligns it;
@@ -228,8 +228,9 @@ struct bv_reply bv_raise(struct bv_drive *drive, uint8_t *buf, size_t len);
 
 /* The host lowered CMD with `byte` on the bus, after an offer. With BV_GO_ON: after offer 01, 03 or 04
  * bytes are taken (BV_WAIT); after 02 or 06 the command is acted on, and the answer is its first BV_READ
- * or BV_WRITE, or BV_FINISHED where it is over without an access. With any other byte the command is
- * broken off: status 80 00 00 00, idle, BV_FINISHED. With no offer standing BV_BAD_PLACE. */
+ * or BV_WRITE, or BV_FINISHED where it is over without an access; a read of BV_NUMBER_TABLE is, and the
+ * data part then has the bytes of bv_image, whatever it held. With any other byte the command is broken
+ * off: status 80 00 00 00, idle, BV_FINISHED. With no offer standing BV_BAD_PLACE. */
 struct bv_reply bv_lower(struct bv_drive *drive, uint8_t *buf, size_t len, uint8_t byte);
 
 /* The host sent `n` bytes, any number in a call. Command bytes: the first six are kept, later ones are

@@ -15,7 +15,6 @@ use Rattle.logic.proofs.Bools.{branch, clash}
 use Rattle.lists.specs.Lists.{memberOf}
 use Rattle.table.specs.declared.Table.{Table}
 use Rattle.table.specs.Tables.{spareList, badList}
-use Rattle.image.specs.Images.{tableImage}
 use Rattle.drive.specs.declared.Line.{Line}
 use Rattle.drive.specs.declared.Marks.{Marks}
 use Rattle.drive.specs.declared.Offer.{Offer}
@@ -23,7 +22,7 @@ use Rattle.drive.specs.declared.Phase.the-variants as phase
 use Rattle.drive.specs.declared.Answer.the-variants as answer
 use Rattle.drive.specs.declared.Ending.{Ending}
 use Rattle.drive.specs.declared.Ending.the-variants as ending
-use Rattle.drive.specs.Words.{response, dataOf, withData, numberOf, opcodeOf, blockOf}
+use Rattle.drive.specs.Words.{response, dataOf, numberOf, opcodeOf, blockOf}
 use Rattle.drive.specs.Results.{Result, outOf, clean}
 use Rattle.drive.specs.Handshake.{ends, firstRead, plainWrite, firstAttempt, writes, noNumber, acted}
 use Rattle.drive.specs.Calls.{lower}
@@ -135,6 +134,6 @@ module _ (start σ : Sectors) (t : Table) (mk : Marks) (pl : Block → Where) (c
       (λ e0. branch G₀ (noNumber c) (λ e1. end-failed ending.NoBlock refl refl)
       (λ e1. branch G₀ (eqb (numberOf c) 0xFFFFFE) (λ e2. end-no-block (not-block 0xFFFFFE refl e2) ending.Good u)
       (λ e2. branch G₀ (not (mk .known)) (λ e3. end-failed (ending.NoTable (not (eqb (opcodeOf c) 0x00))) refl refl)
-      (λ e3. branch G₀ (eqb (numberOf c) 0xFFFFFF) (λ e4. end-no-block (not-block 0xFFFFFF refl e4) ending.Good (withData u (tableImage t)))
+      (λ e3. branch G₀ (eqb (numberOf c) 0xFFFFFF) (λ e4. end-no-block (not-block 0xFFFFFF refl e4) ending.Good _)
       (λ e4. branch G₀ (eqb (opcodeOf c) 0x00) (λ e5. go-read (not-false (mk .known) e3) (block-left e1 e2 e4) e5)
       (λ e5. branch G₀ (mk .latch) (λ e6. end-failed ending.Latched refl refl) (λ e6. go-block (not-false (mk .known) e3) (block-left e1 e2 e4) e5)))))))

@@ -8,6 +8,7 @@ pub mod Rest
 pub mod Busy
 pub mod Demand3
 pub mod Refusals
+pub mod TableRead
 pub mod Valid
 pub mod Demand1
 pub mod Told

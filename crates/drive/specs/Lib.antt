@@ -12,3 +12,4 @@ pub mod Run
 pub mod Values
 pub mod Bound
 pub mod Told
+pub mod TableRead

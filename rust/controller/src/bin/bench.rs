@@ -1,4 +1,4 @@
-//! The library against the baseline, ordinary Rust over a `&mut` record: three
+//! The library against the baseline, ordinary Rust over a `&mut` record: four
 //! commands, each with tables of three sizes. `tools/bench` has the instructions
 //! counted too.
 
@@ -15,7 +15,7 @@ use reference::rng::Rng;
 const USAGE: &str = "\
 usage: bench                                    time, and the records' sizes
        bench WHO WHAT SPARES BADS TIMES         one kind of work, to count instructions:
-                                                library or baseline; read, write or longest
+                                                library or baseline; read, write, table or longest
        bench calls WHAT SPARES                  how many calls the work has
 ";
 
@@ -24,6 +24,9 @@ const SEED: u64 = 1;
 
 /// The block that is read and written, which is in no list.
 const BLOCK: u32 = 4000;
+
+/// The number of the table.
+const TABLE_IMAGE: u32 = 0xFF_FFFF;
 
 fn main() -> ExitCode {
     let arguments: Vec<String> = env::args().skip(1).collect();
@@ -79,6 +82,8 @@ enum What {
     Read,
     /// A plain write command.
     Write,
+    /// A read of FFFFFF.
+    Table,
     /// The longest read: R is 255 and all fails that may.
     Longest,
 }
@@ -88,6 +93,7 @@ impl What {
         match name {
             "read" => Some(What::Read),
             "write" => Some(What::Write),
+            "table" => Some(What::Table),
             "longest" => Some(What::Longest),
             _ => None,
         }
@@ -98,6 +104,7 @@ impl What {
         match self {
             What::Read => 5 + 1,
             What::Write => 8 + 1,
+            What::Table => 5,
             What::Longest => 5 + longest(spares),
         }
     }
@@ -116,9 +123,9 @@ trait Calls: Clone {
     fn fresh() -> Self;
     fn start(&mut self, buffer: &mut [u8]);
     fn raise(&mut self, buffer: &mut [u8]);
-    fn lower(&mut self, buffer: &mut [u8]);
+    /// Whether a command is finished by it; so of surface.
+    fn lower(&mut self, buffer: &mut [u8]) -> bool;
     fn feed(&mut self, buffer: &mut [u8], bytes: &[u8]);
-    /// Whether a command is finished by it.
     fn surface(&mut self, buffer: &mut [u8], answer: u8, bytes: &[u8]) -> bool;
 }
 
@@ -135,8 +142,8 @@ impl Calls for raw::Drive {
         black_box(unsafe { raw::bv_raise(self, buffer.as_mut_ptr(), buffer.len()) });
     }
 
-    fn lower(&mut self, buffer: &mut [u8]) {
-        black_box(unsafe { raw::bv_lower(self, buffer.as_mut_ptr(), buffer.len(), 0x55) });
+    fn lower(&mut self, buffer: &mut [u8]) -> bool {
+        unsafe { raw::bv_lower(self, buffer.as_mut_ptr(), buffer.len(), 0x55) }.kind == 5
     }
 
     fn feed(&mut self, buffer: &mut [u8], bytes: &[u8]) {
@@ -164,8 +171,8 @@ impl Calls for baseline::Drive {
         black_box(baseline::Drive::raise(self, buffer));
     }
 
-    fn lower(&mut self, buffer: &mut [u8]) {
-        black_box(baseline::Drive::lower(self, buffer, 0x55));
+    fn lower(&mut self, buffer: &mut [u8]) -> bool {
+        baseline::Drive::lower(self, buffer, 0x55) == Answer::Finished
     }
 
     fn feed(&mut self, buffer: &mut [u8], bytes: &[u8]) {
@@ -209,16 +216,17 @@ impl<D: Calls> Work<D> {
         }
     }
 
-    /// All of a handshake before the data or the access.
-    fn begin(&mut self, opcode: u8) {
+    /// All of a handshake before the data or the access; whether the command is
+    /// finished with it.
+    fn begin(&mut self, opcode: u8, number: u32) -> bool {
         let (drive, buffer) = (&mut self.drive, &mut self.buffer[..]);
         drive.raise(buffer);
         drive.lower(buffer);
-        let [_, high, middle, low] = BLOCK.to_be_bytes();
+        let [_, high, middle, low] = number.to_be_bytes();
         let command = [opcode, high, middle, low, 255, 1];
         drive.feed(buffer, &command[..if opcode == 0 { 6 } else { 4 }]);
         drive.raise(buffer);
-        drive.lower(buffer);
+        drive.lower(buffer)
     }
 }
 
@@ -227,10 +235,14 @@ impl<D: Calls> Once for Work<D> {
         if self.what == What::Longest {
             self.drive = self.began.clone();
         }
-        self.begin(u8::from(self.what == What::Write));
+        let mut finished = match self.what {
+            What::Write => self.begin(1, BLOCK),
+            What::Table => self.begin(0, TABLE_IMAGE),
+            What::Read | What::Longest => self.begin(0, BLOCK),
+        };
         let (drive, buffer) = (&mut self.drive, &mut self.buffer[..]);
-        let mut finished = false;
         match self.what {
+            What::Table => {}
             What::Read => finished = drive.surface(buffer, 0, &self.bytes),
             What::Write => {
                 drive.feed(buffer, &self.bytes);
@@ -255,9 +267,10 @@ impl<D: Calls> Once for Work<D> {
 
 const SIZES: [(usize, usize); 3] = [(0, 0), (10, 10), (32, 100)];
 
-const WORKS: [(&str, What, u32); 3] = [
+const WORKS: [(&str, What, u32); 4] = [
     ("read", What::Read, 2000),
     ("write", What::Write, 1500),
+    ("table", What::Table, 1500),
     ("longest", What::Longest, 30),
 ];
 
