@@ -228,9 +228,9 @@ struct bv_reply bv_raise(struct bv_drive *drive, uint8_t *buf, size_t len);
 
 /* The host lowered CMD with `byte` on the bus, after an offer. With BV_GO_ON: after offer 01, 03 or 04
  * bytes are taken (BV_WAIT); after 02 or 06 the command is acted on, and the answer is its first BV_READ
- * or BV_WRITE, or BV_FINISHED where it is over without an access; a read of BV_NUMBER_TABLE is, and the
- * data part then has the bytes of bv_image, whatever it held. With any other byte the command is broken
- * off: status 80 00 00 00, idle, BV_FINISHED. With no offer standing BV_BAD_PLACE. */
+ * or BV_WRITE, or BV_FINISHED where it is over without an access. A read of BV_NUMBER_TABLE is so over, and
+ * with a table the data part then has the bytes of bv_image, whatever it held. With any other byte the
+ * command is broken off: status 80 00 00 00, idle, BV_FINISHED. With no offer standing BV_BAD_PLACE. */
 struct bv_reply bv_lower(struct bv_drive *drive, uint8_t *buf, size_t len, uint8_t byte);
 
 /* The host sent `n` bytes, any number in a call. Command bytes: the first six are kept, later ones are

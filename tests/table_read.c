@@ -2,10 +2,10 @@
  *
  * With empty, half-full and full lists, and over other bytes in every place of the part, the part is then
  * what bv_image gives. The call runs on a stack that was painted before, so that afterwards one can see how
- * much of it the call used, and that nowhere in it stands a copy of the image.
+ * much of it was written, and that nowhere in it stands a copy of the image. Link with -z now, or the dynamic
+ * linker looks for memcpy on that stack.
  *
- * "table_read SPARES BADS" makes one such call, act(), and nothing else after the start: for a counter of
- * instructions. */
+ * "table_read SPARES BADS" makes one read of FFFFFF, for a counter of instructions: act() is to be counted. */
 #define _XOPEN_SOURCE 700
 #include <stdio.h>
 #include <stdlib.h>
@@ -111,7 +111,7 @@ static ucontext_t here, there;
 static uint8_t *frame;
 static struct bv_reply reply;
 
-/* The call that acts on the command. */
+/* The call that acts on the command. What is written below `frame` is the call's and a few bytes of act's own. */
 static __attribute__((noinline)) void act(void)
 {
     frame = __builtin_frame_address(0);
@@ -142,19 +142,27 @@ static void on_painted_stack(void (*work)(void))
 static const uint8_t *deepest(void)
 {
     const uint8_t *at = stack;
-    while (*at == PAINT)
+    while (at < frame && *at == PAINT)
         at++;
     return at;
 }
 
-/* Whether 32 bytes of the image in a row, its zeros left out, stand anywhere in the stack that was used. */
+/* Whether these 32 bytes stand in the stack from there on. */
+static int stand(const uint8_t *row, const uint8_t *from)
+{
+    for (const uint8_t *at = from; at + 32 <= stack + STACK; at++)
+        if (memcmp(at, row, 32) == 0)
+            return 1;
+    return 0;
+}
+
+/* Whether 32 bytes of the image in a row, its zeros left out, stand anywhere in the stack that was written. */
 static int copied(const uint8_t *image, unsigned spares, unsigned bads)
 {
-    enum { ROW = 32 };
-    for (unsigned from = 0; from <= 3 * spares + 3 * bads; from++)
-        for (const uint8_t *at = deepest(); at + ROW <= stack + STACK; at++)
-            if (memcmp(at, image + from, ROW) == 0)
-                return 1;
+    const uint8_t *low = deepest();
+    for (unsigned k = 0; k <= 3 * spares + 3 * bads; k++)
+        if (stand(image + k, low))
+            return 1;
     return 0;
 }
 
@@ -162,7 +170,7 @@ static int copied(const uint8_t *image, unsigned spares, unsigned bads)
 
 enum { PARTS = 5 };
 
-/* Other bytes: each place of the image meets another one than its own. */
+/* What the part holds before: in each place one of them at least is not the image. */
 static void lay_part(uint8_t *part, int which, const uint8_t *image, const uint8_t *other)
 {
     for (int k = 0; k < BV_SECTOR_BYTES; k++) {
@@ -171,30 +179,31 @@ static void lay_part(uint8_t *part, int which, const uint8_t *image, const uint8
     }
 }
 
-/* The image stands in the data part, and bv_image gives the same. */
+/* The command is good, the image stands in the data part, and bv_image gives the same. */
 static void expect_image(const uint8_t *image)
 {
     uint8_t lent[BV_SECTOR_BYTES];
+    EXPECT(is(reply, BV_FINISHED, 0));
+    EXPECT(buffer[0] == 0 && buffer[1] == 0 && (buffer[2] & ~BV_S3_FRESH) == 0 && buffer[3] == 0);
     memset(lent, 0xEE, sizeof lent);
     EXPECT(is(bv_image(&drive, lent, sizeof lent), BV_WAIT, 0));
     EXPECT(memcmp(buffer + BV_DATA, lent, sizeof lent) == 0);
     EXPECT(memcmp(lent, image, sizeof lent) == 0);
 }
 
-/* A drive with lists of these lengths; returns the most stack that a read of FFFFFF used below its caller. */
+/* A drive with lists of these lengths; returns the most stack that a read of FFFFFF wrote to. */
 static size_t try_lists(unsigned spares, unsigned bads)
 {
     uint8_t image[BV_SECTOR_BYTES], other[BV_SECTOR_BYTES], part[BV_SECTOR_BYTES];
     size_t most = 0;
     lay_out(image, spares, bads);
-    lay_out(other, spares ? 0 : 32, bads ? 0 : 100);
+    lay_out(other, spares == BV_SPARES ? 0 : BV_SPARES, bads == BV_BADS ? 0 : BV_BADS);
     start(image);
     for (int which = 0; which < PARTS; which++) {
         lay_part(part, which, image, other);
         fill(part);
         command(BV_OP_READ, BV_NUMBER_TABLE, BV_OFFER_READ);
         on_painted_stack(act);
-        EXPECT(is(reply, BV_FINISHED, 0));
         EXPECT(!copied(image, spares, bads));
         if (most < (size_t)(frame - deepest()))
             most = frame - deepest();
@@ -213,7 +222,6 @@ static void read_once(unsigned spares, unsigned bads)
     start(image);
     command(BV_OP_READ, BV_NUMBER_TABLE, BV_OFFER_READ);
     act();
-    EXPECT(is(reply, BV_FINISHED, 0));
     expect_image(image);
 }
 
@@ -221,14 +229,16 @@ int main(int argc, char **argv)
 {
     static const unsigned lists[][2] = {{0, 0}, {16, 50}, {32, 100}};
     if (argc == 3) {
-        read_once(atoi(argv[1]), atoi(argv[2]));
+        int spares = atoi(argv[1]), bads = atoi(argv[2]);
+        EXPECT(0 <= spares && spares <= BV_SPARES && 0 <= bads && bads <= BV_BADS);
+        read_once(spares, bads);
         return 0;
     }
     for (size_t k = 0; k < sizeof lists / sizeof lists[0]; k++) {
         unsigned spares = lists[k][0], bads = lists[k][1];
         size_t most = try_lists(spares, bads);
-        printf("lists of %u and %u: the image over %d other parts, %zu bytes of stack, no copy in them\n", spares,
-               bads, PARTS, most);
+        printf("lists of %u and %u: the image over %d other parts, %zu bytes of stack written, no copy in them\n",
+               spares, bads, PARTS, most);
     }
     return 0;
 }

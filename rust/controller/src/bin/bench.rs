@@ -123,9 +123,10 @@ trait Calls: Clone {
     fn fresh() -> Self;
     fn start(&mut self, buffer: &mut [u8]);
     fn raise(&mut self, buffer: &mut [u8]);
-    /// Whether a command is finished by it; so of surface.
+    /// Whether a command is finished by it.
     fn lower(&mut self, buffer: &mut [u8]) -> bool;
     fn feed(&mut self, buffer: &mut [u8], bytes: &[u8]);
+    /// Whether a command is finished by it.
     fn surface(&mut self, buffer: &mut [u8], answer: u8, bytes: &[u8]) -> bool;
 }
 
@@ -143,7 +144,7 @@ impl Calls for raw::Drive {
     }
 
     fn lower(&mut self, buffer: &mut [u8]) -> bool {
-        unsafe { raw::bv_lower(self, buffer.as_mut_ptr(), buffer.len(), 0x55) }.kind == 5
+        black_box(unsafe { raw::bv_lower(self, buffer.as_mut_ptr(), buffer.len(), 0x55) }).kind == 5
     }
 
     fn feed(&mut self, buffer: &mut [u8], bytes: &[u8]) {
@@ -172,7 +173,7 @@ impl Calls for baseline::Drive {
     }
 
     fn lower(&mut self, buffer: &mut [u8]) -> bool {
-        baseline::Drive::lower(self, buffer, 0x55) == Answer::Finished
+        black_box(baseline::Drive::lower(self, buffer, 0x55)) == Answer::Finished
     }
 
     fn feed(&mut self, buffer: &mut [u8], bytes: &[u8]) {

@@ -4,6 +4,7 @@
 use super::bench::Bench;
 use super::Stored;
 use crate::controller::{Answer, Code, Offer, GO_ON};
+use crate::drive::Call;
 use crate::geometry::SECTOR_BYTES;
 use crate::images::draft::Draft;
 use crate::rng::Rng;
@@ -21,7 +22,7 @@ const SEED: u64 = 1;
 /// A block that is in no list.
 const BLOCK: u32 = 4000;
 
-/// R and T of the reads, which say nothing to a read of FFFFFF.
+/// R and T of the reads, which a read of FFFFFF does not use.
 const NUMBERS: [(u8, u8); 5] = [(0, 0), (0, 1), (10, 3), (255, 255), (255, 0)];
 
 fn table_read() -> Bench {
@@ -36,6 +37,7 @@ fn table_read() -> Bench {
         over_other_bytes(&mut bench, draft, other);
         over_a_block(&mut bench, draft);
     }
+    in_pieces(&mut bench);
     over_an_older_image(&mut bench);
     under_the_latch(&mut bench);
     not_read(&mut bench);
@@ -47,6 +49,8 @@ fn table_read() -> Bench {
 fn shown(bench: &mut Bench, draft: &Draft) {
     bench.said(Answer::Finished);
     assert_eq!(bench.drive.data(), draft.bytes());
+    let image = bench.drive.call(&Call::Image).image;
+    assert_eq!(image, Some(draft.bytes()));
     bench.table_is(&draft.spares, &draft.bads);
 }
 
@@ -57,7 +61,7 @@ fn fill(bench: &mut Bench, bytes: &[u8]) {
     assert_eq!(bench.drive.data(), bytes);
 }
 
-/// Bytes of which each place of the image meets another one than its own.
+/// What the part holds before: in each place one of them at least is not the image.
 fn others(draft: &Draft, other: &Draft) -> [(&'static str, Vec<u8>); 5] {
     let inverse = draft.bytes().iter().map(|byte| !byte).collect();
     let counting = (0..=u8::MAX).cycle().take(SECTOR_BYTES).collect();
@@ -107,6 +111,25 @@ fn over_a_block(bench: &mut Bench, draft: &Draft) {
     shown(bench, draft);
 }
 
+fn in_pieces(bench: &mut Bench) {
+    bench.note("The command byte by byte, and with bytes after the sixth.");
+    bench.started(&[5], &[6]);
+    for pieces in [
+        &[&[0][..], &[0xFF], &[0xFF], &[0xFF], &[1], &[2]][..],
+        &[&[0, 0xFF], &[0xFF, 0xFF, 1, 2, 0, 0, 17]],
+    ] {
+        fill(bench, &[0x67; SECTOR_BYTES]);
+        bench.ready();
+        for piece in pieces {
+            bench.feed(piece);
+        }
+        bench.raise();
+        bench.said(Answer::Offer(Offer::Read));
+        bench.lower(GO_ON);
+        shown(bench, &Draft::new(&[5], &[6]));
+    }
+}
+
 fn over_an_older_image(bench: &mut Bench) {
     bench.note("A read that brings no byte changes the table under its own older image.");
     bench.started(&[5], &[6]);
@@ -118,7 +141,7 @@ fn over_an_older_image(bench: &mut Bench) {
     }
     bench.finished([0x05, 0, 0, 0]);
     assert_eq!(bench.drive.data(), Draft::new(&[5], &[6]).bytes());
-    bench.note("The store that goes before it is not done, and is not waited for.");
+    bench.note("The store before it times out; the read shows the change all the same.");
     bench.raise();
     bench.said(Answer::Store);
     bench.timeout();
@@ -129,7 +152,7 @@ fn over_an_older_image(bench: &mut Bench) {
     bench.lower(GO_ON);
     bench.finished([0; 4]);
     shown(bench, &Draft::new(&[5], &[6, 70]));
-    bench.note("It is done now, and the image is the same.");
+    bench.note("The store is done now, and the image is the same.");
     bench.read(TABLE_IMAGE, 0, 0);
     bench.finished([0; 4]);
     shown(bench, &Draft::new(&[5], &[6, 70]));
