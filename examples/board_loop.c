@@ -6,6 +6,7 @@
  *       target/staticlib/libbumivondra.a -o target/board_loop
  *   target/board_loop | diff - examples/board_loop.expected
  */
+#include <ctype.h>
 #include <stdio.h>
 #include <stdlib.h>
 #include <string.h>
@@ -90,7 +91,7 @@ struct event {
 
 #define GO {LOWER, BV_GO_ON, {0}, NULL}
 #define UP {RAISE, 0, {0}, NULL}
-#define SAY(op, number, r, t) {COMMAND, 0, {op, 0, (number) >> 8, (number) & 0xFF, r, t}, NULL}
+#define SAY(op, number, r, t) {COMMAND, 0, {op, (number) >> 16, (number) >> 8 & 0xFF, (number) & 0xFF, r, t}, NULL}
 #define SEND(text) {DATA, 0, {0}, text}
 
 static const struct event bus[] = {
@@ -111,6 +112,8 @@ static const struct event bus[] = {
     /* The power fails and comes back: the table on the disk knows where block 17 is. */
     {POWER, 0, {0}, NULL},
     UP, GO, SAY(BV_OP_READ, 17, 10, 3), UP, GO,
+    /* A monitor reads the health block, with no access of the disk. */
+    UP, GO, SAY(BV_OP_READ, BV_NUMBER_HEALTH, 10, 3), UP, GO,
     {END, 0, {0}, NULL},
 };
 
@@ -184,6 +187,15 @@ static struct bv_reply call(const struct event *event)
     }
 }
 
+/* How much of the data part is text, up to 30 bytes. */
+static int text_length(void)
+{
+    int length = 0;
+    while (length < 30 && isprint(buffer[BV_DATA + length]))
+        length++;
+    return length;
+}
+
 /* Shows the host what became of its event. */
 static void show(struct bv_reply reply)
 {
@@ -195,8 +207,8 @@ static void show(struct bv_reply reply)
         printf(" offer %02x\n", reply.value);
         break;
     case BV_FINISHED:
-        printf(" finished, status %02x %02x %02x %02x, data \"%.30s\"\n", buffer[0], buffer[1], buffer[2],
-               buffer[3], (const char *)buffer + BV_DATA);
+        printf(" finished, status %02x %02x %02x %02x, data \"%.*s\"\n", buffer[0], buffer[1], buffer[2],
+               buffer[3], text_length(), (const char *)buffer + BV_DATA);
         break;
     default:
         printf(" refused %u\n", reply.value);
@@ -216,6 +228,9 @@ int main(void)
             reply = access_disk(reply);
         show(reply);
     }
+    const uint8_t *health = buffer + BV_DATA;
+    printf("health: %u spares unused, %u bad blocks, latch %u, unstored %u\n", health[BV_HEALTH_UNUSED],
+           health[BV_HEALTH_BADS], health[BV_HEALTH_LATCH], health[BV_HEALTH_UNSTORED]);
     printf("spares %zu:", drive.nspares);
     for (size_t k = 0; k < drive.nspares; k++) {
         if (drive.spares[k] == BV_DEAD_SPARE)

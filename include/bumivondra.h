@@ -5,7 +5,7 @@
  * answers. docs/BOARD.md has the loop, examples/board_loop.c is one. Usable from C11 and from C++11.
  *
  * WHAT IS PROMISED. For every record, every buffer and every argument a call answers as document 01 with
- * requests 1 and 2 of document 02 defines it, changes the record and the buffer as it defines, reads and
+ * requests 1 to 3 of document 02 defines it, changes the record and the buffer as it defines, reads and
  * writes nothing else, and ends. No call waits, allocates, or keeps a pointer.
  *
  * WHAT THE CALLER OWES, and no call can test:
@@ -53,8 +53,16 @@ enum {
  * and the threshold. */
 enum { BV_OP_READ = 0x00, BV_OP_WRITE = 0x01, BV_OP_WRITE_VERIFY = 0x02 };
 
-/* Numbers of no block with a meaning: the buffer itself, and the table (reads only). */
-enum { BV_NUMBER_BUFFER = 0xFFFFFE, BV_NUMBER_TABLE = 0xFFFFFF };
+/* Numbers of no block with a meaning: the buffer itself, and for reads only the table and the health block. */
+enum { BV_NUMBER_BUFFER = 0xFFFFFE, BV_NUMBER_TABLE = 0xFFFFFF, BV_NUMBER_HEALTH = 0xFFFFFD };
+
+/* What a good read of the health block leaves in the data part, at buf + BV_DATA; all other bytes of it are 0. */
+enum {
+    BV_HEALTH_UNUSED = 0,  /* how many spares are unused: a dead one is used */
+    BV_HEALTH_BADS = 1,    /* how many entries the bad list has */
+    BV_HEALTH_LATCH = 2,   /* 1 after a no settle, until the next start, else 0 */
+    BV_HEALTH_UNSTORED = 3 /* 1 while the table has changes that are not stored, else 0 */
+};
 
 /* The byte with which the host goes on; any other breaks off. */
 enum { BV_GO_ON = 0x55 };
@@ -228,9 +236,10 @@ struct bv_reply bv_raise(struct bv_drive *drive, uint8_t *buf, size_t len);
 
 /* The host lowered CMD with `byte` on the bus, after an offer. With BV_GO_ON: after offer 01, 03 or 04
  * bytes are taken (BV_WAIT); after 02 or 06 the command is acted on, and the answer is its first BV_READ
- * or BV_WRITE, or BV_FINISHED where it is over without an access. A read of BV_NUMBER_TABLE is so over, and
- * with a table the data part then has the bytes of bv_image, whatever it held. With any other byte the
- * command is broken off: status 80 00 00 00, idle, BV_FINISHED. With no offer standing BV_BAD_PLACE. */
+ * or BV_WRITE, or BV_FINISHED where it is over without an access. Reads of BV_NUMBER_TABLE and BV_NUMBER_HEALTH
+ * are so over, and with a table the data part then has the bytes of bv_image, or the health block's, whatever it
+ * held. With any other byte the command is broken off: status 80 00 00 00, idle, BV_FINISHED. With no offer
+ * standing BV_BAD_PLACE. */
 struct bv_reply bv_lower(struct bv_drive *drive, uint8_t *buf, size_t len, uint8_t byte);
 
 /* The host sent `n` bytes, any number in a call. Command bytes: the first six are kept, later ones are

@@ -8,8 +8,6 @@ use borrow.Author.Tests.{eq-eqb, le-leb, ltb-true}
 use borrow.Rule.Slice.PartMut.{putMid, midOf}
 use lib.Dec.{eqb, ltb}
 use lib.ListN.{length, take, drop, length-take, length-drop, drop-of-length-le}
-use Rattle.logic.proofs.Bools.{clash}
-use Rattle.geometry.specs.Geometry.{isBlock}
 use Rattle.table.specs.Tables.{badList}
 use Rattle.image.specs.Images.{imageOf, tableImage, written}
 use Rattle.lists.specs.Lists.{memberOf}
@@ -18,6 +16,7 @@ use Rattle.drive.specs.declared.Line.{Line}
 use Rattle.drive.specs.Words.{withData, opcodeOf, numberOf}
 use Rattle.drive.specs.Handshake.{writes, noNumber, acted}
 use Rattle.records.specs.Turns.{lent}
+use Rattle.drive.proofs.Numbers.{block-left}
 use Rattle.records.proofs.Choices.{Aside, either}
 
 -- all of a buffer from its fourth byte on put anew
@@ -43,12 +42,8 @@ image-put sp bd u n m p q h =
     image-whole sp bd (midOf 4 (length u - 4) u) n m p q k
 
 -- a number that is none of the others is a block
-pub block-left : (op v : ℕ) → (not (isBlock v) && not (eqb v 0xFFFFFE) && not (eqb v 0xFFFFFF && eqb op 0)) ≡ false → eqb v 0xFFFFFE ≡ false → eqb v 0xFFFFFF ≡ false → v < 9728
-block-left op v e f g = ltb-true v 9728 (left (isBlock v) refl)
-  where
-    left : (b : Bool) → isBlock v ≡ b → b ≡ true
-    left true p = refl
-    left false p = let z = rw (p, f, g) at e in clash refl z
+pub number-left : (op v : ℕ) → noNumber op v ≡ false → eqb v 0xFFFFFE ≡ false → eqb v 0xFFFFFF ≡ false → eqb v 0xFFFFFD ≡ false → v < 9728
+number-left op v e f g h = ltb-true v 9728 (block-left op v e f g h)
 
 -- a write command's start leaves the buffer
 pub write-aside : (l : Line) (t : Table) (u v : List ℕ) → Aside v (writes l t u) (writes l t v)
@@ -59,8 +54,8 @@ write-aside l t u v =
 
 -- past all other rules
 pub acts-write :
-    (l : Line) (t : Table) (u : List ℕ) → ltb 532 (l .fed) ≡ false → noNumber (l .command) ≡ false → eqb (numberOf (l .command)) 0xFFFFFE ≡ false
-    → not (l .marks .known) ≡ false → eqb (numberOf (l .command)) 0xFFFFFF ≡ false → eqb (opcodeOf (l .command)) 0x00 ≡ false → l .marks .latch ≡ false
+    (l : Line) (t : Table) (u : List ℕ) → ltb 532 (l .fed) ≡ false → noNumber (opcodeOf (l .command)) (numberOf (l .command)) ≡ false → eqb (numberOf (l .command)) 0xFFFFFE ≡ false
+    → not (l .marks .known) ≡ false → eqb (numberOf (l .command)) 0xFFFFFF ≡ false → eqb (numberOf (l .command)) 0xFFFFFD ≡ false → eqb (opcodeOf (l .command)) 0x00 ≡ false → l .marks .latch ≡ false
     → acted l t u ≡ writes l t u
 unfolding acted
-acts-write l t u a b c d e f g = rw (a, b, c, d, e, f, g)
+acts-write l t u a b c d e f g h = rw (a, b, c, d, e, f, g, h)

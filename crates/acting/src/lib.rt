@@ -1,15 +1,14 @@
 // A command acted on (document 01, "Acting on a command"), and the lower that leads to it.
 ghost use mathlib.Core.Path.{_≡_};
 ghost use mathlib.Core.List.{[]};
-ghost use mathlib.Core.Bool.{cond, not, _&&_};
+ghost use mathlib.Core.Bool.{cond};
 ghost use Prim.Native.Nat.{_≤_, _<_};
 ghost use lib.Dec.{eqb};
 ghost use lib.ListN.{length};
-ghost use Rattle.geometry.specs.Geometry.{isBlock};
 ghost use Rattle.image.specs.Images.{tableImage};
 ghost use Rattle.drive.specs.Words.{numberOf, blockOf, withData};
 ghost use Rattle.drive.specs.declared.Ending.the-variants as ending;
-ghost use Rattle.drive.specs.Handshake.{ends, firstRead, plainWrite, firstAttempt, writes, acted, goesOn, stray, lowered};
+ghost use Rattle.drive.specs.Handshake.{ends, firstRead, plainWrite, firstAttempt, writes, noNumber, health, acted, goesOn, stray, lowered};
 ghost use Rattle.records.specs.Turns.{turnOf, lent};
 use drive::Answer;
 use drive::Change;
@@ -36,11 +35,11 @@ fn number(c: [u8; 6]) -> u32
     broad(c[1]) * 65536 + broad(c[2]) * 256 + broad(c[3])
 }
 
-// Whether a number is neither a block, FFFFFE, nor FFFFFF on a read.
+// Whether a number is neither a block, FFFFFE, nor FFFFFF or FFFFFD on a read.
 fn no_number(op: u8, v: u32) -> bool
-    ensures { λ r. ⌜ r ≡ (not (isBlock v) && not (eqb v 0xFFFFFE) && not (eqb v 0xFFFFFF && eqb op 0)) ⌝ }
+    ensures { λ r. ⌜ r ≡ noNumber op v ⌝ }
 {
-    !(v < 9728) & !(v == 0xFFFFFE) & !((v == 0xFFFFFF) & (op == 0))
+    !(v < 9728) & !(v == 0xFFFFFE) & !(((v == 0xFFFFFF) | (v == 0xFFFFFD)) & (op == 0))
 }
 
 // It ends at once.
@@ -128,6 +127,16 @@ fn give_table<'a>(
     end(l, Ending::Good, buf)
 }
 
+// A read of FFFFFD: the health block, laid into the data part.
+fn give_health(l: Line, n: usize, m: usize, buf: &mut [u8]) -> Turn
+    requires { ⌜ (length (now buf) ≡ 536) × (n ≤ 32) × (m ≤ 100) ⌝ }
+    ensures { λ x. ⌜ (x ≡ turnOf (ends l ending.Good (withData (now (buf .entry)) (health n m (l .marks))))) × (now (buf .exit) ≡ ends l ending.Good (withData (now (buf .entry)) (health n m (l .marks))) .bytes) ⌝ }
+{
+    let marks = l.marks;
+    health::put(n, m, marks, buf);
+    end(l, Ending::Good, buf)
+}
+
 // A block's number as the table has it.
 fn block(v: u32) -> Block
     requires { ⌜ v < 9728 ⌝ }
@@ -159,6 +168,9 @@ fn act<'a>(l: Line, spares: &'a [u16], n: usize, bads: &'a [u16], m: usize, buf:
     }
     if v == 0xFFFFFF {
         return give_table(l, spares, n, bads, m, buf);
+    }
+    if v == 0xFFFFFD {
+        return give_health(l, n, m, buf);
     }
     if op == 0 {
         return first_read(l, block(v), lists::cut(spares, n));

@@ -75,13 +75,14 @@ act-stays : (l : Line) (t : Table) (u : List ℕ) → Stays t (acted l t u)
 unfolding acted writes
 act-stays l t u =
     branch (Stays t) (ltb 532 (l .fed)) (λ e. refl)
-    (λ e. branch (Stays t) (noNumber (l .command)) (λ e. refl)
+    (λ e. branch (Stays t) (noNumber (opcodeOf (l .command)) (numberOf (l .command))) (λ e. refl)
     (λ e. branch (Stays t) (eqb (numberOf (l .command)) 0xFFFFFE) (λ e. refl)
     (λ e. branch (Stays t) (not (l .marks .known)) (λ e. refl)
     (λ e. branch (Stays t) (eqb (numberOf (l .command)) 0xFFFFFF) (λ e. refl)
+    (λ e. branch (Stays t) (eqb (numberOf (l .command)) 0xFFFFFD) (λ e. refl)
     (λ e. branch (Stays t) (eqb (opcodeOf (l .command)) 0x00) (λ e. refl)
     (λ e. branch (Stays t) (l .marks .latch) (λ e. refl)
-    (λ e. branch (Stays t) (eqb (opcodeOf (l .command)) 0x01 && not (memberOf (numberOf (l .command)) (badList t))) (λ e. refl) (λ e. refl))))))))
+    (λ e. branch (Stays t) (eqb (opcodeOf (l .command)) 0x01 && not (memberOf (numberOf (l .command)) (badList t))) (λ e. refl) (λ e. refl)))))))))
 
 go-stays : (o : Offer) (l : Line) (t : Table) (u : List ℕ) → Stays t (goesOn o l t u)
 unfolding goesOn

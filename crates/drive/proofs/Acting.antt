@@ -29,6 +29,7 @@ use Rattle.drive.specs.Calls.{lower}
 use Rattle.drive.specs.History.{Bytes, Sectors, Where, at, Entry, History, padded, next, heard, learns, acts, underway, touches, touchesFirst, reports, moves, good, hasWritten}
 use Rattle.drive.specs.Run.{entryOf}
 use Rattle.drive.proofs.Parts.{Cmd}
+use Rattle.drive.proofs.Numbers.{block-left}
 use Rattle.drive.proofs.Statuses.{fails, isMove, good-is, moves-is}
 use Rattle.drive.proofs.Sim.{Ln, W, Hs, Blocky, placeOf, Books, Quiet, Ground, resting, Bound, Spot, rereads, writing, trying, at-rest, at-work, Good, ev}
 use Rattle.drive.proofs.Books.{books-weaken}
@@ -115,15 +116,6 @@ module _ (start σ : Sectors) (t : Table) (mk : Marks) (pl : Block → Where) (c
     unfolding writes
     go-block op = branch G₀ (eqb (opcodeOf c) 0x01 && not (memberOf (numberOf c) (badList t))) (λ e. go-write op) (λ e. go-try op)
 
-  -- a number that is none of the others is a block
-  block-left : noNumber c ≡ false → eqb (numberOf c) 0xFFFFFE ≡ false → eqb (numberOf c) 0xFFFFFF ≡ false → isBlock (numberOf c) ≡ true
-  unfolding noNumber
-  block-left e f g = left (isBlock (numberOf c)) refl
-    where
-      left : (b : Bool) → isBlock (numberOf c) ≡ b → b ≡ true
-      left true p = refl
-      left false p = let z = rw (p, f, g) at e in clash refl z
-
   not-block : (m : ℕ) → isBlock m ≡ false → eqb (numberOf c) m ≡ true → isBlock (numberOf c) ≡ false
   not-block m e p = rw (eqb-true (numberOf c) m p) e
 
@@ -131,9 +123,10 @@ module _ (start σ : Sectors) (t : Table) (mk : Marks) (pl : Block → Where) (c
   unfolding acted
   acts-well =
       branch G₀ (ltb 532 f) (λ e0. end-failed ending.Overrun refl refl)
-      (λ e0. branch G₀ (noNumber c) (λ e1. end-failed ending.NoBlock refl refl)
+      (λ e0. branch G₀ (noNumber (opcodeOf c) (numberOf c)) (λ e1. end-failed ending.NoBlock refl refl)
       (λ e1. branch G₀ (eqb (numberOf c) 0xFFFFFE) (λ e2. end-no-block (not-block 0xFFFFFE refl e2) ending.Good u)
       (λ e2. branch G₀ (not (mk .known)) (λ e3. end-failed (ending.NoTable (not (eqb (opcodeOf c) 0x00))) refl refl)
       (λ e3. branch G₀ (eqb (numberOf c) 0xFFFFFF) (λ e4. end-no-block (not-block 0xFFFFFF refl e4) ending.Good _)
-      (λ e4. branch G₀ (eqb (opcodeOf c) 0x00) (λ e5. go-read (not-false (mk .known) e3) (block-left e1 e2 e4) e5)
-      (λ e5. branch G₀ (mk .latch) (λ e6. end-failed ending.Latched refl refl) (λ e6. go-block (not-false (mk .known) e3) (block-left e1 e2 e4) e5)))))))
+      (λ e4. branch G₀ (eqb (numberOf c) 0xFFFFFD) (λ e5. end-no-block (not-block 0xFFFFFD refl e5) ending.Good _)
+      (λ e5. branch G₀ (eqb (opcodeOf c) 0x00) (λ e6. go-read (not-false (mk .known) e3) (block-left _ _ e1 e2 e4 e5) e6)
+      (λ e6. branch G₀ (mk .latch) (λ e7. end-failed ending.Latched refl refl) (λ e7. go-block (not-false (mk .known) e3) (block-left _ _ e1 e2 e4 e5) e6))))))))

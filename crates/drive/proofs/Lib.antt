@@ -3,12 +3,14 @@ pub mod Statuses
 pub mod Sim
 pub mod Books
 pub mod Entries
+pub mod Numbers
 pub mod Acting
 pub mod Rest
 pub mod Busy
 pub mod Demand3
 pub mod Refusals
 pub mod TableRead
+pub mod HealthRead
 pub mod Valid
 pub mod Demand1
 pub mod Told

@@ -87,11 +87,12 @@ module _ (own : Bool) (l : Line) (u : List ℕ) where
     unfolding acted
     acting =
         branch P (ltb 532 (l .fed)) (λ e. no)
-        (λ e. branch P (noNumber (l .command)) (λ e. no)
+        (λ e. branch P (noNumber (opcodeOf (l .command)) (numberOf (l .command))) (λ e. no)
         (λ e. branch P (eqb (numberOf (l .command)) 0xFFFFFE) (λ e. no)
         (λ e. branch P (not (l .marks .known)) (λ e. no)
         (λ e. branch P (eqb (numberOf (l .command)) 0xFFFFFF) (λ e. no)
-        (λ e. branch P (eqb (opcodeOf (l .command)) 0x00) (λ e. no) (λ e. branch P (l .marks .latch) (λ e. no) (λ e. writing)))))))
+        (λ e. branch P (eqb (numberOf (l .command)) 0xFFFFFD) (λ e. no)
+        (λ e. branch P (eqb (opcodeOf (l .command)) 0x00) (λ e. no) (λ e. branch P (l .marks .latch) (λ e. no) (λ e. writing))))))))
 
     going : (o : Offer) → P (goesOn o l t u)
     unfolding goesOn

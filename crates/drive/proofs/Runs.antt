@@ -19,7 +19,7 @@ use Rattle.drive.specs.declared.Answer.the-variants as answer
 use Rattle.drive.specs.Words.{response, codeOf, dataOf, withData, opcodeOf, numberOf, ending1, ending2, ending3, statusOf}
 use Rattle.drive.specs.Records.{retryOk, trialOk, phaseOk, lineOk, recordOk}
 use Rattle.drive.specs.Results.{Out}
-use Rattle.drive.specs.Handshake.{raisedIdle, commandOffer, raised, writes, noNumber, acted, goesOn, lowered, fedTo, rested}
+use Rattle.drive.specs.Handshake.{raisedIdle, commandOffer, raised, writes, noNumber, health, acted, goesOn, lowered, fedTo, rested}
 use Rattle.drive.specs.Retries.{failed, goesOnReading, afterRead}
 use Rattle.drive.specs.Sparing.{nextAttempt, missed, brokenOff, verified, tried, checked}
 use Rattle.drive.specs.Access.{toRead, toWrite, startAnswered, storeAnswered, keptData, lost, settled, reads, readAnswered, writeAnswered, answered}
@@ -177,7 +177,7 @@ happens : (old : Drive) (r : Run) → isLawful (from old r) (calls r) ≡ true �
     → history old r .place key ≡ r .place
     → history old r .candidates key ≡ r .candidates
     → Happens old r
-unfolding homeOf indexOf memberOf entryOk entriesOk listsOk sectorOf listed killedNext withBad removed withoutBad wide triple triples listPart framedPart imageOf narrow entryAt entriesFrom framed wellFormed tableOf over same allAre dataOf withData opcodeOf numberOf ending1 ending2 ending3 statusOf retryOk trialOk phaseOk lineOk recordOk raisedIdle commandOffer raised writes noNumber acted goesOn lowered fedTo rested failed goesOnReading afterRead nextAttempt missed brokenOff verified tried checked toRead toWrite startAnswered storeAnswered keptData lost settled reads readAnswered writeAnswered answered raiseOf lowerOf feedOf surfaceOf resetOf startOf stepOf padded bit learns acts underway reports good moves isRead bytesOf touches touchesFirst hasWritten placeNext candidatesNext heard next
+unfolding homeOf indexOf memberOf entryOk entriesOk listsOk sectorOf listed killedNext withBad removed withoutBad wide triple triples listPart framedPart imageOf narrow entryAt entriesFrom framed wellFormed tableOf over same allAre dataOf withData opcodeOf numberOf ending1 ending2 ending3 statusOf retryOk trialOk phaseOk lineOk recordOk raisedIdle commandOffer raised writes noNumber health acted goesOn lowered fedTo rested failed goesOnReading afterRead nextAttempt missed brokenOff verified tried checked toRead toWrite startAnswered storeAnswered keptData lost settled reads readAnswered writeAnswered answered raiseOf lowerOf feedOf surfaceOf resetOf startOf stepOf padded bit learns acts underway reports good moves isRead bytesOf touches touchesFirst hasWritten placeNext candidatesNext heard next
 happens old r l s d p c = record { lawful = lawful-by-test (from old r) (calls r) l; says = s; part = d; place = p; candidates = c }
 
 -- so the theorem speaks of it: its history allows the whole list
@@ -241,6 +241,13 @@ asksWrite op n x =
 -- a read of the table's image, with status 3 of its finish
 abbrev asksTable : ℕ → List Turn
 asksTable status3 = asksRead 0xFFFFFF 0 0 ++ (go ⇒ finished 0x00 0x00 status3 0 ∷ [])
+
+-- a read of FFFFFD, with the same, and the figures that it shows
+abbrev asksHealth : ℕ → List Turn
+asksHealth status3 = asksRead 0xFFFFFD 255 0 ++ (go ⇒ finished 0x00 0x00 status3 0 ∷ [])
+
+abbrev figures : ℕ → ℕ → ℕ → ℕ → Bytes
+figures unused bads latch unstored = unused ∷ bads ∷ latch ∷ unstored ∷ replicate 528 0
 
 -- THE RUNS
 
@@ -572,6 +579,139 @@ brokenOffBeforeTheRaise =
 pub before-that-raise-nothing-is-zeroed : (old : Drive) → Happens old brokenOffBeforeTheRaise
 unfolding happens
 before-that-raise-nothing-is-zeroed old = happens old brokenOffBeforeTheRaise refl refl refl refl refl
+
+-- THE HEALTH BLOCK, after a read that left sevens in the data part. Two spares are used, one of them dead, and three blocks are bad.
+abbrev healthOfLists : Run
+healthOfLists =
+    record {
+      sectors = disk (dead ∷ 20 ∷ []) (5 ∷ 6 ∷ 7 ∷ []);
+      turns =
+          found (dead ∷ 20 ∷ []) (5 ∷ 6 ∷ 7 ∷ [])
+          ++ opens ++ asksRead 17 2 2 ++ (go ⇒ read 17 ∷ gives 7 ⇒ finished 0x00 0x00 0x80 0 ∷ [])
+          ++ opens ++ asksHealth 0x00;
+      part = figures 30 3 0 0;
+      place = sector 17;
+      candidates = bytes 7 ∷ [];
+    }
+
+pub the-health-block-counts-both-lists : (old : Drive) → Happens old healthOfLists
+unfolding happens
+the-health-block-counts-both-lists old = happens old healthOfLists refl refl refl refl refl
+
+-- It is the first finish after the start, and then no more.
+abbrev healthFirst : Run
+healthFirst =
+    record {
+      sectors = disk [] [];
+      turns = found [] [] ++ opens ++ asksHealth 0x80 ++ opens ++ asksHealth 0x00;
+      part = figures 32 0 0 0;
+      place = sector 17;
+      candidates = bytes 7 ∷ [];
+    }
+
+pub the-health-block-shows-the-first-finish-once : (old : Drive) → Happens old healthFirst
+unfolding happens
+the-health-block-shows-the-first-finish-once old = happens old healthFirst refl refl refl refl refl
+
+-- A read fails, so its block is bad; the store times out.
+abbrev healthUnstored : Run
+healthUnstored =
+    record {
+      sectors = disk [] [];
+      turns = found [] [] ++ elevenTimeouts ++ (raise ⇒ store ∷ timesOut ⇒ offer 0x01 ∷ []) ++ asksHealth 0x00;
+      part = figures 32 1 0 1;
+      place = sector 17;
+      candidates = bytes 7 ∷ [];
+    }
+
+pub after-a-failed-store-the-health-block-shows-the-mark : (old : Drive) → Happens old healthUnstored
+unfolding happens
+after-a-failed-store-the-health-block-shows-the-mark old = happens old healthUnstored refl refl refl refl refl
+
+-- The same where the store is done.
+abbrev healthStored : Run
+healthStored =
+    record {
+      sectors = disk [] [];
+      turns = found [] [] ++ elevenTimeouts ++ stores ++ asksHealth 0x00;
+      part = figures 32 1 0 0;
+      place = sector 17;
+      candidates = bytes 7 ∷ [];
+    }
+
+pub after-a-done-store-the-health-block-shows-no-mark : (old : Drive) → Happens old healthStored
+unfolding happens
+after-a-done-store-the-health-block-shows-no-mark old = happens old healthStored refl refl refl refl refl
+
+-- Answer 3 to a read latches, and changes no entry.
+abbrev healthUnsettled : Run
+healthUnsettled =
+    record {
+      sectors = disk [] [];
+      turns = found [] [] ++ opens ++ asksRead 17 2 2 ++ (go ⇒ read 17 ∷ unsettled ⇒ finished 0x11 0x00 0x80 0 ∷ []) ++ opens ++ asksHealth 0x00;
+      part = figures 32 0 1 0;
+      place = sector 17;
+      candidates = bytes 7 ∷ [];
+    }
+
+pub the-health-block-shows-a-latch-with-nothing-unstored : (old : Drive) → Happens old healthUnsettled
+unfolding happens
+the-health-block-shows-a-latch-with-nothing-unstored old = happens old healthUnsettled refl refl refl refl refl
+
+-- Answer 3 kills the spare under trial, and under the latch that is not stored.
+abbrev healthLatched : Run
+healthLatched =
+    record {
+      sectors = disk [] [];
+      turns =
+          found [] [] ++ opens ++ asksWrite 2 17 (bytes 1)
+          ++ (go ⇒ write 17 ∷ timesOut ⇒ write 17 ∷ timesOut ⇒ write 4928 ∷ unsettled ⇒ finished 0x15 0x00 0x80 0 ∷ [])
+          ++ opens ++ asksHealth 0x00;
+      part = figures 31 0 1 1;
+      place = sector 17;
+      candidates = bytes 1 ∷ bytes 7 ∷ [];
+    }
+
+pub the-health-block-shows-a-latch-and-the-mark : (old : Drive) → Happens old healthLatched
+unfolding happens
+the-health-block-shows-a-latch-and-the-mark old = happens old healthLatched refl refl refl refl refl
+
+-- With no table a read of FFFFFD fails as any read does, and leaves the part; a write to it is an invalid number all the same.
+abbrev healthUnknown : Run
+healthUnknown =
+    record {
+      sectors = λ s. held (bytes 7);
+      turns =
+          (unsettled ⇒ wait ∷ [])
+          ++ opens ++ asksWrite 1 0xFFFFFD (bytes 1) ++ (go ⇒ finished 0x01 0x00 0xC0 0 ∷ [])
+          ++ opens ++ asksRead 0xFFFFFD 2 2 ++ (go ⇒ finished 0x01 0x08 0x00 0 ∷ []);
+      part = bytes 1;
+      place = nowhere;
+      candidates = [];
+    }
+
+pub with-no-table-there-is-no-health-block : (old : Drive) → Happens old healthUnknown
+unfolding happens
+with-no-table-there-is-no-health-block old = happens old healthUnknown refl refl refl refl refl
+
+-- Neither write to FFFFFD is good, and with 533 bytes fed it is those that it fails for.
+abbrev healthWritten : Run
+healthWritten =
+    record {
+      sectors = disk [] [];
+      turns =
+          found [] []
+          ++ opens ++ asksWrite 1 0xFFFFFD (bytes 1) ++ (go ⇒ finished 0x01 0x00 0xC0 0 ∷ [])
+          ++ opens ++ asksWrite 2 0xFFFFFD (replicate 533 2) ++ (go ⇒ finished 0x41 0x00 0x00 0 ∷ [])
+          ++ opens ++ asksWrite 2 0xFFFFFD (bytes 3) ++ (go ⇒ finished 0x01 0x00 0x40 0 ∷ []);
+      part = bytes 3;
+      place = sector 17;
+      candidates = bytes 7 ∷ [];
+    }
+
+pub a-write-to-FFFFFD-is-an-invalid-number : (old : Drive) → Happens old healthWritten
+unfolding happens
+a-write-to-FFFFFD-is-an-invalid-number old = happens old healthWritten refl refl refl refl refl
 
 -- Calls out of place, answers that are none and bytes of a wrong length stand among the calls of one write.
 abbrev refusedAmong : Run

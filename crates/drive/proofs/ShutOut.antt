@@ -68,13 +68,14 @@ pub needs-access : (l : Line) (t : Table) (u : List ℕ) → isBlock (numberOf (
 unfolding acted writes
 needs-access l t u i =
     branch N (ltb 532 (l .fed)) (λ e. bad-finish ending.Overrun clean _ u refl)
-    (λ e. branch N (noNumber (l .command)) (λ e. bad-finish ending.NoBlock clean _ u refl)
+    (λ e. branch N (noNumber (opcodeOf (l .command)) (numberOf (l .command))) (λ e. bad-finish ending.NoBlock clean _ u refl)
     (λ e. branch N (eqb (numberOf (l .command)) 0xFFFFFE) (λ e. λ h. not-block 0xFFFFFE refl e)
     (λ e. branch N (not (l .marks .known)) (λ e. bad-finish (ending.NoTable (not (eqb (opcodeOf (l .command)) 0x00))) clean _ u refl)
     (λ e. branch N (eqb (numberOf (l .command)) 0xFFFFFF) (λ e. λ h. not-block 0xFFFFFF refl e)
+    (λ e. branch N (eqb (numberOf (l .command)) 0xFFFFFD) (λ e. λ h. not-block 0xFFFFFD refl e)
     (λ e. branch N (eqb (opcodeOf (l .command)) 0x00) (λ e. λ h. clash h refl)
     (λ e. branch N (l .marks .latch) (λ e. bad-finish ending.Latched clean _ u refl)
-    (λ e. branch N (eqb (opcodeOf (l .command)) 0x01 && not (memberOf (numberOf (l .command)) (badList t))) (λ e. λ h. clash h refl) (λ e. λ h. clash h refl))))))))
+    (λ e. branch N (eqb (opcodeOf (l .command)) 0x01 && not (memberOf (numberOf (l .command)) (badList t))) (λ e. λ h. clash h refl) (λ e. λ h. clash h refl)))))))))
   where
     N : Result → Type 0
     N x = Fine x ≡ true → ⊥
@@ -405,7 +406,7 @@ module _ (t : Table) (mk : Marks) (c u bs : List ℕ) (n f : ℕ)
   abbrev drive₀ : Drive
   drive₀ = record { table = t; line = line₀ }
 
-  number-is : noNumber c ≡ false
+  number-is : noNumber (opcodeOf c) (numberOf c) ≡ false
   unfolding noNumber
   number-is = rw i
 
@@ -414,7 +415,7 @@ module _ (t : Table) (mk : Marks) (c u bs : List ℕ) (n f : ℕ)
 
   acts-read : acted line₀ t u ≡ firstRead line₀ (blockOf c) (spareList t) u
   unfolding acted
-  acts-read = rw (le-ltb 532 f few, number-is, not-this 0xFFFFFE refl, kn, not-this 0xFFFFFF refl, eq-eqb (opcodeOf c) 0 op)
+  acts-read = rw (le-ltb 532 f few, number-is, not-this 0xFFFFFE refl, kn, not-this 0xFFFFFF refl, not-this 0xFFFFFD refl, eq-eqb (opcodeOf c) 0 op)
 
   -- the lower asks for the block's sector,
   pub asks-for-it : lowerOf drive₀ u 0x55 ≡ outOf t [] (firstRead line₀ (blockOf c) (spareList t) u)
@@ -459,10 +460,11 @@ unfolding acted writes noNumber
 acts-alike p p' m c c' n n' f t u eo en er et =
     rw (eo, en)
     (alike-both (ltb 532 f) (λ q. alike refl refl refl refl refl)
-    (λ q. alike-both (noNumber c') (λ q. alike refl refl refl refl refl)
+    (λ q. alike-both (noNumber (opcodeOf c') (numberOf c')) (λ q. alike refl refl refl refl refl)
     (λ q. alike-both (eqb (numberOf c') 0xFFFFFE) (λ q. alike refl refl refl refl refl)
     (λ q. alike-both (not (m .known)) (λ q. alike refl refl refl refl refl)
     (λ q. alike-both (eqb (numberOf c') 0xFFFFFF) (λ q. alike refl refl refl refl refl)
+    (λ q. alike-both (eqb (numberOf c') 0xFFFFFD) (λ q. alike refl refl refl refl refl)
     (λ q. alike-both (eqb (opcodeOf c') 0x00) (λ q. read-alike p p' m c c' n n' f (blockOf c') (spareList t) u er et)
     (λ q. alike-both (m .latch) (λ q. alike refl refl refl refl refl)
-    (λ q. alike-both (eqb (opcodeOf c') 0x01 && not (memberOf (numberOf c') (badList t))) (λ q. alike refl refl refl refl refl) (λ q. alike refl refl refl refl refl)))))))))
+    (λ q. alike-both (eqb (opcodeOf c') 0x01 && not (memberOf (numberOf c') (badList t))) (λ q. alike refl refl refl refl refl) (λ q. alike refl refl refl refl refl))))))))))

@@ -46,6 +46,7 @@ use Rattle.drive.specs.Sparing.{onSpare, once, nextAttempt, missed, brok
 use Rattle.drive.specs.Access.{toRead, toWrite, startAnswered, storeAnswered, lost, settled, reads, readAnswered, writeAnswered, answered}
 use Rattle.drive.specs.Calls.{Call, raise, lower, feed, surface, reset, raiseOf, lowerOf, feedOf, surfaceOf, resetOf, stepOf, started, startOf}
 use Rattle.drive.specs.Values.{Bytewise, Typed, TypedCall, TypedCalls, NoCode1, Code1Never}
+use Rattle.drive.proofs.Numbers.{block-left}
 use Rattle.drive.proofs.Rest.{ruled, loads}
 use Rattle.drive.proofs.Busy.{killed-count}
 use Rattle.drive.proofs.Refusals.{code-1-only}
@@ -211,24 +212,17 @@ module _ (t : Table) (l : Line) (f : Fine t l) where
           (λ e. to (l .marks) _ (and-true (l .marks .known) _ kn at-sector))
           (λ e. to (l .marks) _ (and-true (l .marks .known) _ kn (trial-ok (t .nspares) _ (record { block = i; sector = at-sector; few = omega arith; spot = refl }))))
 
-    block-left : noNumber (l .command) ≡ false → eqb (numberOf (l .command)) 0xFFFFFE ≡ false → eqb (numberOf (l .command)) 0xFFFFFF ≡ false → isBlock (numberOf (l .command)) ≡ true
-    unfolding noNumber
-    block-left e g h = left (isBlock (numberOf (l .command))) refl
-      where
-        left : (b : Bool) → isBlock (numberOf (l .command)) ≡ b → b ≡ true
-        left true p = refl
-        left false p = let z = rw (p, g, h) at e in clash refl z
-
     acts : Ok (acted l t u)
     unfolding acted
     acts =
         branch Ok (ltb 532 (l .fed)) (λ e0. idle-again _)
-        (λ e0. branch Ok (noNumber (l .command)) (λ e1. idle-again _)
+        (λ e0. branch Ok (noNumber (opcodeOf (l .command)) (numberOf (l .command))) (λ e1. idle-again _)
         (λ e1. branch Ok (eqb (numberOf (l .command)) 0xFFFFFE) (λ e2. idle-again _)
         (λ e2. branch Ok (not (l .marks .known)) (λ e3. idle-again _)
         (λ e3. branch Ok (eqb (numberOf (l .command)) 0xFFFFFF) (λ e4. idle-again _)
-        (λ e4. branch Ok (eqb (opcodeOf (l .command)) 0x00) (λ e5. reads-first (not-false (l .marks .known) e3) (block-left e1 e2 e4))
-        (λ e5. branch Ok (l .marks .latch) (λ e6. idle-again _) (λ e6. writes-well (not-false (l .marks .known) e3) (block-left e1 e2 e4))))))))
+        (λ e4. branch Ok (eqb (numberOf (l .command)) 0xFFFFFD) (λ e5. idle-again _)
+        (λ e5. branch Ok (eqb (opcodeOf (l .command)) 0x00) (λ e6. reads-first (not-false (l .marks .known) e3) (block-left _ _ e1 e2 e4 e5))
+        (λ e6. branch Ok (l .marks .latch) (λ e7. idle-again _) (λ e7. writes-well (not-false (l .marks .known) e3) (block-left _ _ e1 e2 e4 e5)))))))))
 
     goes : (o : Offer) → Ok (goesOn o l t u)
     unfolding goesOn phaseOk

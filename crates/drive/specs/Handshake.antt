@@ -1,4 +1,4 @@
--- Document 01, "Calls" and "Acting on a command", with request 1 of document 02: raise, lower, feed and reset.
+-- Document 01, "Calls" and "Acting on a command", with requests 1 and 3 of document 02: raise, lower, feed and reset.
 use mathlib.Core.Bool.{Bool, true, false, cond, not, _&&_, _||_}
 use mathlib.Core.List.{List, [], _∷_, _++_}
 use Prim.Native.Nat.{ℕ, _+_, _-_, min}
@@ -106,21 +106,27 @@ writes l t u =
     (plainWrite l (blockOf (l .command)) (spareList t) u)
     (firstAttempt l (blockOf (l .command)) (spareList t) u)
 
--- "number neither a block, FFFFFE, nor FFFFFF on a read"
-unfoldable pub noNumber : List ℕ → Bool
-noNumber c =
-    not (isBlock (numberOf c)) && not (eqb (numberOf c) 0xFFFFFE) && not (eqb (numberOf c) 0xFFFFFF && eqb (opcodeOf c) 0x00)
+-- "number neither a block, FFFFFE, nor FFFFFF on a read"; by request 3 of document 02 nor FFFFFD on a read
+unfoldable pub noNumber : ℕ → ℕ → Bool
+noNumber op v = not (isBlock v) && not (eqb v 0xFFFFFE) && not ((eqb v 0xFFFFFF || eqb v 0xFFFFFD) && eqb op 0x00)
 
--- "First that applies": more than 532 data bytes; no such number; FFFFFE; no table; FFFFFF; a write under the latch.
+-- Document 02, request 3: "byte 0 unused spares, byte 1 bad entries, byte 2 one under the latch else 0, byte 3 one with
+-- unstored changes else 0, then zeros". Given are the counts of the two lists; a dead spare stands in its list, so it is used.
+unfoldable pub health : ℕ → ℕ → Marks → List ℕ
+health spares bads m = (32 - spares) ∷ bads ∷ cond (m .latch) 1 0 ∷ cond (m .changed) 1 0 ∷ replicate 528 0x00
+
+-- "First that applies": more than 532 data bytes; no such number; FFFFFE; no table; FFFFFF, and beside it FFFFFD; a write
+-- under the latch.
 unfoldable pub acted : Line → Table → List ℕ → Result
 acted l t u =
     cond (ltb 532 (l .fed)) (ends l ending.Overrun u)
-    (cond (noNumber (l .command)) (ends l ending.NoBlock u)
+    (cond (noNumber (opcodeOf (l .command)) (numberOf (l .command))) (ends l ending.NoBlock u)
     (cond (eqb (numberOf (l .command)) 0xFFFFFE) (ends l ending.Good u)
     (cond (not (l .marks .known)) (ends l (ending.NoTable (not (eqb (opcodeOf (l .command)) 0x00))) u)
     (cond (eqb (numberOf (l .command)) 0xFFFFFF) (ends l ending.Good (withData u (tableImage t)))
+    (cond (eqb (numberOf (l .command)) 0xFFFFFD) (ends l ending.Good (withData u (health (t .nspares) (t .nbads) (l .marks))))
     (cond (eqb (opcodeOf (l .command)) 0x00) (firstRead l (blockOf (l .command)) (spareList t) u)
-    (cond (l .marks .latch) (ends l ending.Latched u) (writes l t u)))))))
+    (cond (l .marks .latch) (ends l ending.Latched u) (writes l t u))))))))
 
 -- LOWER
 

@@ -12,6 +12,7 @@ const FIRST_SPARE: u32 = 4928;
 const DEAD: u16 = 0xFFFE;
 const RAM: u32 = 0xFF_FFFE;
 const TABLE_IMAGE: u32 = 0xFF_FFFF;
+const HEALTH: u32 = 0xFF_FFFD;
 
 /// What a command has met.
 #[derive(Clone, Copy, Debug, Default)]
@@ -305,45 +306,51 @@ impl Drive {
 
     fn act(&mut self, buffer: &mut [u8], offer: Offer) -> Answer {
         let reads = offer == Offer::Read;
-        let [opcode, high, middle, low, rereads, threshold] = self.command;
+        let [_, high, middle, low, ..] = self.command;
         let number = u32::from_be_bytes([0, high, middle, low]);
-        let block = u16::try_from(number).ok().filter(|&block| block < BLOCKS);
         if !reads && self.fed > SECTOR_BYTES {
             return self.finish(buffer, [0x41, 0, 0, 0]);
         }
-        if block.is_none() && number != RAM && !(number == TABLE_IMAGE && reads) {
-            return self.finish(buffer, [0x01, 0, 0x40, 0]);
-        }
-        if number == RAM {
-            return self.finish(buffer, [0; STATUS]);
+        match number {
+            RAM => return self.finish(buffer, [0; STATUS]),
+            _ if number < u32::from(BLOCKS) => {}
+            TABLE_IMAGE | HEALTH if reads => {}
+            _ => return self.finish(buffer, [0x01, 0, 0x40, 0]),
         }
         if !self.known {
             let one = if reads { 0x01 } else { 0x41 };
             return self.finish(buffer, [one, 0x08, 0, 0]);
         }
-        let Some(block) = block else {
-            self.write_image(&mut buffer[STATUS..]);
-            return self.finish(buffer, [0; STATUS]);
-        };
-        if reads {
-            let sector = self.sector(block);
-            self.phase = Phase::Reading(Read {
-                block,
-                sector,
-                first: true,
-                left: rereads,
-                spent: 0,
-                threshold,
-                good: false,
-                seen: Seen::default(),
-            });
-            return Answer::Read(Sector(sector));
+        // The others are blocks, whose numbers fit.
+        match number {
+            TABLE_IMAGE => self.write_image(&mut buffer[STATUS..]),
+            HEALTH => self.write_health(&mut buffer[STATUS..]),
+            _ if reads => return self.begin_read(number as u16),
+            _ if self.latch => return self.finish(buffer, [0x11, 0, 0, 0]),
+            _ => return self.begin_write(number as u16),
         }
-        if self.latch {
-            return self.finish(buffer, [0x11, 0, 0, 0]);
-        }
+        self.finish(buffer, [0; STATUS])
+    }
+
+    fn begin_read(&mut self, block: u16) -> Answer {
+        let [.., rereads, threshold] = self.command;
         let sector = self.sector(block);
-        if opcode == 2 || self.bad_at(block).is_some() {
+        self.phase = Phase::Reading(Read {
+            block,
+            sector,
+            first: true,
+            left: rereads,
+            spent: 0,
+            threshold,
+            good: false,
+            seen: Seen::default(),
+        });
+        Answer::Read(Sector(sector))
+    }
+
+    fn begin_write(&mut self, block: u16) -> Answer {
+        let sector = self.sector(block);
+        if self.command[0] == 2 || self.bad_at(block).is_some() {
             return self.attempt(Trial {
                 block,
                 sector,
@@ -633,6 +640,16 @@ impl Drive {
             image[at..at + 3].fill(0xFF);
             at += 3;
         }
+    }
+
+    /// Writes the health block into 532 bytes.
+    fn write_health(&self, block: &mut [u8]) {
+        block.fill(0);
+        // Both counts fit in a byte, as above.
+        block[0] = (SPARES - self.nspares) as u8;
+        block[1] = self.nbads as u8;
+        block[2] = u8::from(self.latch);
+        block[3] = u8::from(self.changed);
     }
 
     /// Takes the table of an image if it is well formed.

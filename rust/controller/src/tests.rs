@@ -22,10 +22,15 @@ fn image(spares: &[u32], bads: &[u32]) -> Vec<u8> {
 
 /// A drive that has started with an empty table.
 fn started() -> (Drive, Vec<u8>) {
+    started_with(&image(&[], &[]))
+}
+
+/// A drive that has started with the table of this image.
+fn started_with(image: &[u8]) -> (Drive, Vec<u8>) {
     let (mut drive, mut buffer) = (Drive::new(), vec![7; BUFFER]);
     assert_eq!(drive.start(&mut buffer), Answer::Read(TABLE));
     assert_eq!(buffer, vec![0; BUFFER]);
-    let read = drive.surface(&mut buffer, surface::GOOD, &image(&[], &[]));
+    let read = drive.surface(&mut buffer, surface::GOOD, image);
     assert_eq!(read, Answer::Wait);
     (drive, buffer)
 }
@@ -114,6 +119,92 @@ fn short_data_ends_in_zeros() {
         let done = drive.surface(&mut buffer, surface::GOOD, &wanted);
         assert_eq!(done, Answer::Finished);
         assert_eq!(buffer[..4], [0; 4]);
+    }
+}
+
+/// Command bytes of a read of FFFFFD.
+const READ_HEALTH: [u8; 6] = [0, 0xFF, 0xFF, 0xFD, 10, 3];
+
+/// The buffer after a good read of FFFFFD that was not the first finish.
+fn healthy(first: [u8; 4]) -> Vec<u8> {
+    let mut buffer = vec![0; BUFFER];
+    buffer[4..8].copy_from_slice(&first);
+    buffer
+}
+
+#[test]
+fn the_health_block_whatever_the_part_held() {
+    let dead = 0xFF_FFFE;
+    let (spares, bads): (Vec<u32>, Vec<u32>) = ((0..32).collect(), (50..150).collect());
+    let count: Vec<u8> = (0..=255).cycle().take(SECTOR_BYTES).collect();
+    for (spares, bads, first) in [
+        (&[][..], &[][..], [32, 0, 0, 0]),
+        (&[dead, 17, dead], &[17], [29, 1, 0, 0]),
+        (&spares[..16], &bads[..50], [16, 50, 0, 0]),
+        (&spares, &bads, [0, 100, 0, 0]),
+        (&[dead; 32], &[], [0, 0, 0, 0]),
+    ] {
+        let table = image(spares, bads);
+        let parts = [
+            &[0xFF; SECTOR_BYTES][..],
+            &[0; SECTOR_BYTES],
+            &count,
+            &table,
+        ];
+        for part in parts {
+            let (mut drive, mut buffer) = started_with(&table);
+            let done = command(&mut drive, &mut buffer, &[1, 0xFF, 0xFF, 0xFE], part);
+            assert_eq!((done, &buffer[4..]), (Answer::Finished, part));
+            let done = command(&mut drive, &mut buffer, &READ_HEALTH, &[]);
+            assert_eq!((done, buffer), (Answer::Finished, healthy(first)));
+        }
+    }
+}
+
+#[test]
+fn the_health_block_shows_mark_and_latch() {
+    let (mut drive, mut buffer) = started();
+    // Eleven timeouts enter block 17 in the bad list.
+    command(&mut drive, &mut buffer, &[0, 0, 0, 17, 0, 1], &[]);
+    for _ in 0..11 {
+        drive.surface(&mut buffer, surface::TIMEOUT, &[]);
+    }
+    assert_eq!(buffer[..4], [0x05, 0, 0x80, 0]);
+    for (answer, mark) in [
+        (surface::TIMEOUT, 1),
+        (surface::NO_SETTLE, 1),
+        (surface::GOOD, 0),
+    ] {
+        assert_eq!(drive.raise(&mut buffer), Answer::Store);
+        let offer = drive.surface(&mut buffer, answer, &[]);
+        assert_eq!(offer, Answer::Offer(Offer::Command));
+        drive.lower(&mut buffer, GO_ON);
+        drive.feed(&mut buffer, &READ_HEALTH);
+        drive.raise(&mut buffer);
+        assert_eq!(drive.lower(&mut buffer, GO_ON), Answer::Finished);
+        assert_eq!(buffer, healthy([32, 1, 0, mark]));
+    }
+    command(&mut drive, &mut buffer, &[0, 0, 0, 18, 0, 1], &[]);
+    drive.surface(&mut buffer, surface::NO_SETTLE, &[]);
+    assert_eq!(buffer[..4], [0x11, 0, 0, 0]);
+    let done = command(&mut drive, &mut buffer, &READ_HEALTH, &[]);
+    assert_eq!((done, buffer), (Answer::Finished, healthy([32, 1, 1, 0])));
+}
+
+#[test]
+fn the_health_block_without_a_table_and_on_writes() {
+    let (mut drive, mut buffer) = (Drive::new(), vec![0; BUFFER]);
+    buffer[4..].fill(0xEE);
+    let done = command(&mut drive, &mut buffer, &READ_HEALTH, &[]);
+    assert_eq!((done, &buffer[..4]), (Answer::Finished, &[1, 8, 0, 0][..]));
+    assert_eq!(buffer[4..], [0xEE; SECTOR_BYTES]);
+    for opcode in [1, 2] {
+        for (count, status) in [(532, [0x01, 0, 0x40, 0]), (533, [0x41, 0, 0, 0])] {
+            let bytes = [opcode, 0xFF, 0xFF, 0xFD];
+            let done = command(&mut drive, &mut buffer, &bytes, &vec![0x5A; count]);
+            assert_eq!((done, &buffer[..4]), (Answer::Finished, &status[..]));
+            assert_eq!(buffer[4..], [0x5A; SECTOR_BYTES]);
+        }
     }
 }
 

@@ -93,5 +93,5 @@ fn stored_scripts() {
             count += 1;
         }
     }
-    assert!(count >= 57, "only {count} scripts were found");
+    assert!(count >= 58, "only {count} scripts were found");
 }

@@ -59,7 +59,7 @@ impl fmt::Display for Broken {
 }
 
 /// What the ledger keeps for a block.
-#[derive(Clone, Debug, Default)]
+#[derive(Clone, Debug, Default, PartialEq, Eq)]
 struct Page {
     sector: Option<Sector>,
     /// What this sector held as the list began is a candidate.

@@ -5,6 +5,7 @@ mod bench;
 mod commands;
 mod errors;
 mod handshake;
+mod health;
 mod host;
 mod moves;
 mod reads;
@@ -49,6 +50,7 @@ pub fn all() -> Vec<Stored> {
         starts::all(),
         stores::all(),
         table_read::all(),
+        health::all(),
         reads::all(),
         moves::all(),
         settle::all(),
@@ -107,7 +109,7 @@ mod tests {
                 together += size;
             }
         }
-        assert!(together < 480_000, "{together} bytes");
+        assert!(together < 540_000, "{together} bytes");
     }
 
     #[test]

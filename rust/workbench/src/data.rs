@@ -4,7 +4,7 @@ use std::path::Path;
 
 use reference::geometry::SECTOR_BYTES;
 
-use crate::files;
+use crate::{files, health};
 
 /// The blocks of a line, first to last.
 #[derive(Clone, Copy, Debug, PartialEq, Eq)]
@@ -34,6 +34,7 @@ impl Blocks {
     /// As a plan has them.
     pub fn name(self) -> String {
         match self.first {
+            health::NUMBER => String::from("$FFFFFD (the health block)"),
             0xFF_FFFE => String::from("$FFFFFE (the buffer)"),
             0xFF_FFFF => String::from("$FFFFFF (the table)"),
             first if first == self.last => first.to_string(),
@@ -130,5 +131,7 @@ mod tests {
         assert_eq!(Blocks::one(17).name(), "17");
         assert_eq!(Blocks { first: 0, last: 39 }.name(), "0..39");
         assert_eq!(Blocks::one(0xFF_FFFF).name(), "$FFFFFF (the table)");
+        assert_eq!(Blocks::one(0xFF_FFFD).name(), "$FFFFFD (the health block)");
+        assert_eq!(Blocks::one(0xFF_FFFC).name(), "16777212");
     }
 }

@@ -4,14 +4,16 @@
 //! `surface` answers an access by the two. `board` puts them under the proved
 //! controller, with `history` beside it, and `host` makes the host's commands.
 //! `plan` reads a line of a plan, with its `data`, and `run` does it; `traffic` makes
-//! random commands. `show`, `status` and `summary` say what happened, `progress` how
-//! far a long line is, and `picture` draws it. `image_files` brings images on a
-//! platter and takes them off; `files` reads and writes all files.
+//! random commands. `health` has the figures of the health block. `show`, `status` and
+//! `summary` say what happened, `progress` how far a long line is, and `picture` draws
+//! it. `image_files` brings images on a platter and takes them off; `files` reads and
+//! writes all files.
 
 pub mod board;
 pub mod data;
 pub mod faults;
 pub mod files;
+pub mod health;
 pub mod history;
 pub mod host;
 pub mod image_files;

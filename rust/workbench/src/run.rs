@@ -2,6 +2,7 @@
 
 mod blocks;
 mod expect;
+mod health;
 #[cfg(test)]
 mod tests;
 mod traffic;
@@ -157,6 +158,7 @@ impl<W: Write> Run<W> {
             Line::Lower(byte) => self.single(&format!("lower {byte:02x}"), |h| h.lower(byte)),
             Line::Table => self.table(),
             Line::Dump(number) => self.dump(number),
+            Line::Health => self.health(),
             Line::Read { blocks, retry, to } => self.read(blocks, retry, to.as_deref()),
             Line::Write {
                 blocks,

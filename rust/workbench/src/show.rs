@@ -4,6 +4,7 @@ use controller::{Code, Offer};
 use reference::geometry::{spare, SPARES};
 
 use crate::board::{Accessed, Purpose};
+use crate::health::Health;
 use crate::host::{Change, End, Report};
 use crate::picture::{Mark, Outcome};
 use crate::{status, surface};
@@ -12,6 +13,14 @@ use crate::{status, surface};
 pub fn count(number: u64, one: &str, more: &str) -> String {
     let word = if number == 1 { one } else { more };
     format!("{number} {word}")
+}
+
+/// So many of a thing, or that there is none.
+pub fn count_or_no(number: u64, one: &str, more: &str) -> String {
+    match number {
+        0 => format!("no {one}"),
+        _ => count(number, one, more),
+    }
 }
 
 /// A store in words, then so many accesses and faults of each kind.
@@ -58,6 +67,16 @@ pub fn command(report: &Report) -> String {
     let bad = report.changes.iter().filter_map(bad_change);
     words.extend(bad.map(String::from));
     words.extend(at_spare(report));
+    words.join(", ")
+}
+
+/// A good read of the health block: its figures in the place of "no access, good".
+pub fn health(report: &Report, health: Health) -> String {
+    let mut words = folded(&report.accesses);
+    words.push(health.words());
+    if let End::Finished(bytes) = report.end {
+        words.extend(status::words(bytes).into_iter().map(String::from));
+    }
     words.join(", ")
 }
 
@@ -281,6 +300,22 @@ mod tests {
         );
         let accesses = vec![done(Purpose::Store, 2)];
         assert_eq!(folded(&accesses), ["table not stored (timeout)"]);
+    }
+
+    #[test]
+    fn figures_keep_a_store_and_the_bits() {
+        let figures = Health {
+            unused: 31,
+            bads: 1,
+            latch: false,
+            unstored: true,
+        };
+        let stored = report(vec![done(Purpose::Store, 2)], [0, 0, 0x80, 0]);
+        assert_eq!(
+            health(&stored, figures),
+            "table not stored (timeout), 31 spares unused, 1 bad block, no latch, \
+             unstored changes, first since start or reset"
+        );
     }
 
     #[test]

@@ -4,7 +4,7 @@ use reference::geometry::BLOCKS;
 use reference::image::{Spare, Table};
 
 use crate::host::Host;
-use crate::show::{count, ranges, spare_name};
+use crate::show::{count, count_or_no, ranges, spare_name};
 
 /// The lists of a table, a line for each entry of the spare list.
 pub fn table_lines(table: &Table) -> Vec<String> {
@@ -33,10 +33,8 @@ pub fn table_counts(table: &Table, stored: bool) -> String {
     if dead > 0 {
         words.push(format!("{dead} of them dead"));
     }
-    words.push(match table.bads().len() {
-        0 => String::from("no bad block"),
-        bads => count(bads as u64, "bad block", "bad blocks"),
-    });
+    let bads = table.bads().len() as u64;
+    words.push(count_or_no(bads, "bad block", "bad blocks"));
     if !stored {
         words.push(String::from("not stored yet"));
     }

@@ -38,3 +38,10 @@ fn the_guide_shows_the_first_plan() {
     assert_eq!(output.len(), 15);
     agree(&output, include_str!("../../../plans/first.expected"));
 }
+
+#[test]
+fn the_guide_shows_lines_of_health() {
+    let lines = shown(GUIDE, "lines of `plans/health.plan`:\n");
+    assert_eq!(lines.len(), 4);
+    agree(&lines, include_str!("../../../plans/health.expected"));
+}

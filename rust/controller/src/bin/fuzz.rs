@@ -180,7 +180,9 @@ fn fitting(beside: &Beside, rng: &mut Rng) -> Call {
 }
 
 fn command(rng: &mut Rng) -> Call {
-    let number: u32 = rng.pick(&[0, 17, 4927, 4928, 9727, 9728, 0xFF_FFFE, 0xFF_FFFF]);
+    let number: u32 = rng.pick(&[
+        0, 17, 4927, 4928, 9727, 9728, 0xFF_FFFC, 0xFF_FFFD, 0xFF_FFFE, 0xFF_FFFF,
+    ]);
     let [_, high, middle, low] = number.to_be_bytes();
     let mut bytes = vec![rng.below(4) as u8, high, middle, low];
     bytes.extend([

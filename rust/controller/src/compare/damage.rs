@@ -56,9 +56,16 @@ fn sound(rng: &mut Rng) -> raw::Drive {
         latch: u8::from(rng.one_in(4)),
         fresh: mark(rng),
     };
-    let [_, high, middle, low] = rng
-        .pick(&[17, 9727, 9728, 0xFF_FFFE, 0xFF_FFFF, u32::from(block(0))])
-        .to_be_bytes();
+    let number = rng.pick(&[
+        17,
+        9727,
+        9728,
+        0xFF_FFFD,
+        0xFF_FFFE,
+        0xFF_FFFF,
+        u32::from(block(0)),
+    ]);
+    let [_, high, middle, low] = number.to_be_bytes();
     drive.command = [
         rng.below(4) as u8,
         high,
@@ -226,7 +233,7 @@ const COUNTS: [fn(&mut raw::Drive) -> &mut usize; 4] = [
 /// values, another number to each one near a bound.
 pub fn sweep() -> Vec<raw::Drive> {
     let mut records = Vec::new();
-    for sound in (0..10).flat_map(specimens) {
+    for sound in (0..10).flat_map(specimens).chain([health_read()]) {
         let mut with = |change: &dyn Fn(&mut raw::Drive)| {
             let mut drive = sound;
             change(&mut drive);
@@ -258,6 +265,15 @@ pub fn sweep() -> Vec<raw::Drive> {
         }
     }
     records
+}
+
+/// At offer 02 of a read of FFFFFD, which shows counts and flags.
+fn health_read() -> raw::Drive {
+    let [offer_02, _] = specimens(kind::OFFER);
+    raw::Drive {
+        command: [0, 0xFF, 0xFF, 0xFD, 2, 1],
+        ..offer_02
+    }
 }
 
 /// Two sound records of a kind: for kinds with attempts on the present sector and

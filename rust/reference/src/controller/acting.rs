@@ -6,7 +6,7 @@ use super::{
     Step, WriteOutcome, STATUS,
 };
 use crate::coverage::met;
-use crate::geometry::{spare, Block, Sector, SECTOR_BYTES};
+use crate::geometry::{spare, Block, Sector, SECTOR_BYTES, SPARES};
 use crate::image::{DEAD, MOST_BADS};
 
 /// The number that reads and writes the buffer.
@@ -14,6 +14,9 @@ pub const RAM: u32 = 0xFF_FFFE;
 
 /// The number that reads the table.
 pub const TABLE_IMAGE: u32 = 0xFF_FFFF;
+
+/// The number that reads the health block (document 02, request 3).
+pub const HEALTH: u32 = 0xFF_FFFD;
 
 /// What the further reads may cost.
 const BUDGET: u32 = 90;
@@ -96,27 +99,69 @@ impl Order {
         self.command != Command::Read
     }
 
-    /// It asks for the table.
-    fn reads_table(self) -> bool {
-        self.number == TABLE_IMAGE && !self.writes()
+    /// What its number stands for.
+    fn target(self) -> Target {
+        match self.number {
+            RAM => Target::Ram,
+            TABLE_IMAGE if !self.writes() => Target::TableImage,
+            HEALTH if !self.writes() => Target::Health,
+            number => Block::new(number).map_or(Target::Nothing, Target::Block),
+        }
     }
 }
 
+/// What the number of a command stands for.
+#[derive(Clone, Copy, Debug)]
+enum Target {
+    Block(Block),
+    /// The buffer.
+    Ram,
+    /// The image of the table, which is only read.
+    TableImage,
+    /// The health block, which is only read.
+    Health,
+    /// The number is invalid.
+    Nothing,
+}
+
 impl Record {
-    /// The host went on after offer 02 or 06.
+    /// The host went on after offer 02 or 06: the first rule that applies.
     pub(super) fn act(&mut self, buffer: &mut [u8], offer: Offer) -> Answer {
         let order = Order::new(offer, &self.command);
-        if let Some(status) = self.at_once(order) {
-            return self.finish(buffer, status);
+        if order.writes() && self.data_count > SECTOR_BYTES {
+            let kind = order.command.name();
+            met(&format!("act.too-much.{kind}.{}", self.number_name()));
+            return self.finish(buffer, [one::ABORTED | one::FAILED, 0, 0, 0]);
         }
-        match Block::new(order.number) {
-            Some(block) => self.begin(order, block),
-            None => {
-                // FFFFFF on a read is all that is left.
+        match order.target() {
+            Target::Nothing => {
+                met(&invalid_name(order));
+                self.finish(buffer, [one::FAILED, 0, three::NUMBER, 0])
+            }
+            Target::Ram => {
+                met(&self.ram_name(order));
+                self.finish(buffer, [0; STATUS])
+            }
+            target if !self.known => {
+                met(&no_table_name(order, target));
+                let aborted = if order.writes() { one::ABORTED } else { 0 };
+                self.finish(buffer, [one::FAILED | aborted, two::NO_TABLE, 0, 0])
+            }
+            Target::TableImage => {
                 met("act.ffffff");
                 data_mut(buffer).copy_from_slice(&self.table_image());
                 self.finish(buffer, [0; STATUS])
             }
+            Target::Health => {
+                self.met_health();
+                data_mut(buffer).copy_from_slice(&self.health());
+                self.finish(buffer, [0; STATUS])
+            }
+            Target::Block(_) if order.writes() && self.latch => {
+                met(&self.latch_name(order));
+                self.finish(buffer, [one::NO_SETTLE | one::FAILED, 0, 0, 0])
+            }
+            Target::Block(block) => self.begin(order, block),
         }
     }
 
@@ -133,52 +178,42 @@ impl Record {
         }
     }
 
-    /// The status of a command that is over before any access, and before the
-    /// table is put in the data part.
-    fn at_once(&self, order: Order) -> Option<[u8; STATUS]> {
-        let Order {
-            command, number, ..
-        } = order;
-        let kind = command.name();
-        let block = Block::new(number);
+    fn ram_name(&self, order: Order) -> String {
+        let state = match (self.known, self.latch) {
+            (false, _) => "no-table",
+            (true, true) => "latch",
+            (true, false) => "plain",
+        };
+        format!("act.fffffe.{}.{state}", order.command.name())
+    }
 
-        if order.writes() && self.data_count > SECTOR_BYTES {
-            met(&format!("act.too-much.{kind}.{}", self.number_name()));
-            return Some([one::ABORTED | one::FAILED, 0, 0, 0]);
+    fn latch_name(&self, order: Order) -> String {
+        let listed = self.is_bad(order.number);
+        let what = if listed { "listed" } else { "plain" };
+        format!("act.latch.{}.{what}", order.command.name())
+    }
+
+    /// Counts what a health block shows.
+    fn met_health(&self) {
+        met(match (self.changed, self.latch) {
+            (false, false) => "act.fffffd.unchanged",
+            (true, false) => "act.fffffd.changed",
+            (false, true) => "act.fffffd.latch",
+            (true, true) => "act.fffffd.changed-under-latch",
+        });
+        met(match self.spares.len() {
+            0 => "act.fffffd.spares.none",
+            SPARES => "act.fffffd.spares.full",
+            _ => "act.fffffd.spares.some",
+        });
+        if self.spares.contains(&DEAD) {
+            met("act.fffffd.spares.dead");
         }
-        if block.is_none() && number != RAM && !order.reads_table() {
-            let what = match number {
-                TABLE_IMAGE => "ffffff",
-                9728 => "9728",
-                0x00_FFFE => "00fffe",
-                0xFF_FFFD => "fffffd",
-                _ => "other",
-            };
-            met(&format!("act.invalid.{kind}.{what}"));
-            return Some([one::FAILED, 0, three::NUMBER, 0]);
-        }
-        if number == RAM {
-            let state = match (self.known, self.latch) {
-                (false, _) => "no-table",
-                (true, true) => "latch",
-                (true, false) => "plain",
-            };
-            met(&format!("act.fffffe.{kind}.{state}"));
-            return Some([0; STATUS]);
-        }
-        if !self.known {
-            let what = if order.reads_table() { "ffffff" } else { kind };
-            met(&format!("act.no-table.{what}"));
-            let aborted = if order.writes() { one::ABORTED } else { 0 };
-            return Some([one::FAILED | aborted, two::NO_TABLE, 0, 0]);
-        }
-        if order.writes() && self.latch {
-            let listed = self.is_bad(number);
-            let what = if listed { "listed" } else { "plain" };
-            met(&format!("act.latch.{kind}.{what}"));
-            return Some([one::NO_SETTLE | one::FAILED, 0, 0, 0]);
-        }
-        None
+        met(match self.bads.len() {
+            0 => "act.fffffd.bads.none",
+            MOST_BADS => "act.fffffd.bads.full",
+            _ => "act.fffffd.bads.some",
+        });
     }
 
     /// Asks for the first access of a command.
@@ -573,6 +608,27 @@ impl Record {
         self.rest();
         Answer::Finished
     }
+}
+
+fn invalid_name(order: Order) -> String {
+    let what = match order.number {
+        TABLE_IMAGE => "ffffff",
+        HEALTH => "fffffd",
+        0xFF_FFFC => "fffffc",
+        0x00_FFFE => "00fffe",
+        9728 => "9728",
+        _ => "other",
+    };
+    format!("act.invalid.{}.{what}", order.command.name())
+}
+
+fn no_table_name(order: Order, target: Target) -> String {
+    let what = match target {
+        Target::TableImage => "ffffff",
+        Target::Health => "fffffd",
+        _ => order.command.name(),
+    };
+    format!("act.no-table.{what}")
 }
 
 fn read_name(stage: Stage, outcome: ReadOutcome) -> String {

@@ -4,7 +4,7 @@
 //! hold any; `valid` is the test of code 1, and behind it they are in range.
 
 use super::{MOST_COMMAND, MOST_DATA, MOST_START_READS};
-use crate::geometry::{home, spare, Block, Sector, SPARES};
+use crate::geometry::{home, spare, Block, Sector, SECTOR_BYTES, SPARES};
 use crate::image::{self, Spare, Table, DEAD};
 
 /// What the controller offers to do next.
@@ -275,6 +275,18 @@ impl Record {
     /// The image of the lists, which are well formed.
     pub(super) fn table_image(&self) -> [u8; image::LENGTH] {
         image::write(&self.table().expect("code 1 tested the lists"))
+    }
+
+    /// The health block: unused spares, bad entries, latch, unstored mark, then
+    /// zeros (document 02, request 3). A dead spare is a used one.
+    pub(super) fn health(&self) -> [u8; SECTOR_BYTES] {
+        let mut block = [0; SECTOR_BYTES];
+        // Code 1 tested the lists, so both counts fit in a byte.
+        block[0] = (SPARES - self.spares.len()) as u8;
+        block[1] = self.bads.len() as u8;
+        block[2] = u8::from(self.latch);
+        block[3] = u8::from(self.changed);
+        block
     }
 
     /// The next unused spare.

@@ -1,5 +1,6 @@
-//! Hand-computed cases from document 01, and from request 1 of document 02.
+//! Hand-computed cases from document 01, and from requests 1 and 3 of document 02.
 
+mod health;
 mod short_data;
 
 use super::*;
@@ -275,7 +276,7 @@ fn acting_in_order() {
     write(&mut drive, 1, DEAD, &GOOD);
     assert_eq!(drive.status(), [0; 4]);
     assert_eq!(drive.data(), GOOD);
-    for number in [5, 0xFF_FFFF] {
+    for number in [5, 0xFF_FFFD, 0xFF_FFFF] {
         command(&mut drive, number, 0, 0);
         assert_eq!(drive.status(), [0x01, 0x08, 0, 0], "{number}");
         assert_eq!(drive.data(), GOOD);

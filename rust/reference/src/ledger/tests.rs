@@ -382,6 +382,51 @@ fn numbers_of_no_block_have_no_rule() {
 }
 
 #[test]
+fn the_health_block_is_ignored() {
+    // Block 5 has two candidates and block 7 a spare.
+    let mut list = List::with(&[7]);
+    list.write(5, 5, &NEW, FAILED);
+    let before = list.ledger.clone();
+    // Whatever the status and the bytes.
+    for status in [GOOD, [0, 0, 0x80, 0], [0, 0x04, 0, 0], [0x01, 0x08, 0, 0]] {
+        for data in [OLD, NEW, [0; 532]] {
+            list.command(&[0, 0xFF, 0xFF, 0xFD, 0, 0]);
+            list.buffer[..STATUS].copy_from_slice(&status);
+            list.buffer[STATUS..].copy_from_slice(&data);
+            list.call(Call::Lower(0x55), Answer::Finished);
+        }
+    }
+    list.allowed();
+    assert_eq!(list.ledger.good_reads(), 0);
+    assert!(list.ledger.pages == before.pages && list.ledger.owners == before.owners);
+    // Either candidate may still come, and no other bytes.
+    for (read, allowed) in [(OLD, true), (NEW, true), ([0; 532], false)] {
+        let mut list = List {
+            ledger: list.ledger.clone(),
+            buffer: list.buffer.clone(),
+        };
+        list.read(5, 5, GOOD, &read);
+        assert_eq!(list.ledger.verdict().is_ok(), allowed);
+    }
+}
+
+#[test]
+fn writes_to_the_health_block_are_ignored() {
+    // Even if they were reported good.
+    let mut list = List::with(&[]);
+    let before = list.ledger.pages.clone();
+    for opcode in [1, 2] {
+        list.command(&[opcode, 0xFF, 0xFF, 0xFD]);
+        list.call(Call::Lower(0x55), Answer::Wait);
+        list.call(Call::Feed(NEW.to_vec()), Answer::Wait);
+        list.call(Call::Raise, Answer::Offer(Offer::Act));
+        list.call(Call::Lower(0x55), Answer::Finished);
+    }
+    list.allowed();
+    assert!(list.ledger.pages == before);
+}
+
+#[test]
 fn the_table_is_taken_when_it_comes() {
     let mut list = List::begun();
     list.call(Call::Surface(2, vec![]), Answer::Read(TABLE));

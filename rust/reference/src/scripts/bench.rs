@@ -376,6 +376,14 @@ impl Bench {
         self.send(1, number, &[data])
     }
 
+    /// A write to FFFFFE brings these bytes into the data part.
+    #[track_caller]
+    pub fn fill(&mut self, bytes: &[u8]) {
+        self.write(0xFF_FFFE, bytes);
+        self.said(Answer::Finished);
+        assert_eq!(self.drive.data(), bytes);
+    }
+
     /// From idle to the first access of a write/verify, or its finish.
     pub fn verify(&mut self, number: u32, data: &[u8]) -> Answer {
         self.send(2, number, &[data])

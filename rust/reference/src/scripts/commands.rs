@@ -88,20 +88,22 @@ fn clean() -> Bench {
 }
 
 fn numbers() -> Bench {
-    let mut bench = Bench::new("Numbers of no block, and the two that are more than a block.");
+    let mut bench = Bench::new("Numbers of no block, and the three that are more than a block.");
     bench.started(&[17, 0xFF_FFFE], &[600, 0, 9727]);
     bench.write(0xFF_FFFE, &[0x21; 532]);
     bench.finished([0, 0, 0x80, 0]);
     let invalid = [
         9728, 9729, 0x00_FFFE, 0x00_FFFF, 0x01_0000, 0x01_0011, 0x01_25FF, 0x80_0000, 0xFF_0000,
-        0xFF_FEFF, 0xFF_FFFD,
+        0xFF_FEFF, 0xFF_FFFC,
     ];
     for number in invalid {
         bench.read(number, 1, 1);
         bench.finished([0x01, 0, 0x40, 0]);
         bench.holds(0x21);
     }
-    for number in [9728, 0x00_FFFE, 0x00_FFFF, 0x01_0011, 0xFF_FFFD, 0xFF_FFFF] {
+    for number in [
+        9728, 0x00_FFFE, 0x00_FFFF, 0x01_0011, 0xFF_FFFC, 0xFF_FFFD, 0xFF_FFFF,
+    ] {
         bench.write(number, &[0x22; 532]);
         bench.finished([0x01, 0, 0x40, 0]);
         bench.verify(number, &[0x23; 532]);
@@ -118,6 +120,10 @@ fn numbers() -> Bench {
     bench.finished([0; 4]);
     bench.read(0xFF_FFFE, 0, 0);
     assert_eq!(bench.drive.data()[9..11], [0x25, 0]);
+    bench.note("FFFFFD: the health block, on reads alone.");
+    bench.read(0xFF_FFFD, 1, 1);
+    bench.finished([0; 4]);
+    assert_eq!(bench.drive.data()[..5], [30, 3, 0, 0, 0]);
     bench.note("FFFFFF: the table, as it stands in the record.");
     bench.read(0xFF_FFFF, 0, 0);
     bench.finished([0; 4]);

@@ -61,7 +61,7 @@ const LAST: Stage = Stage::Further { spent: 89 };
 const FAVOURITES: [u32; 12] = [0, 1, 17, 18, 255, 256, 4927, 4928, 4960, 9000, 9726, 9727];
 
 const NO_BLOCKS: [u32; 8] = [
-    9728, 0x00_FFFE, 0x00_FFFF, 0x01_0011, 0x80_0000, 0xFF_0000, 0xFF_FFFD, 0xFF_FFFC,
+    9728, 0x00_FFFE, 0x00_FFFF, 0x01_0011, 0x80_0000, 0xFF_0000, 0xFF_FFFB, 0xFF_FFFC,
 ];
 
 struct Host {
@@ -236,6 +236,7 @@ impl Host {
             2 => rng.pick(&NO_BLOCKS),
             3 => rng.below(BLOCKS),
             4..=10 => rng.pick(&FAVOURITES),
+            11 => 0xFF_FFFD,
             _ => self.last_number,
         }
     }

@@ -249,9 +249,7 @@ fn no_table(bench: &mut Bench) {
         (1, RAM, 531, [0; 4]),
         (2, 9728, 1, INVALID),
     ] {
-        bench.write(RAM, &[OTHER; SECTOR_BYTES]);
-        bench.said(Answer::Finished);
-        bench.holds(OTHER);
+        bench.fill(&[OTHER; SECTOR_BYTES]);
         bench.send(opcode, number, &[&vec![0x4A; count]]);
         bench.finished(status);
         shows(bench, 0x4A, count, 0);

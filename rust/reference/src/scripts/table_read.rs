@@ -54,13 +54,6 @@ fn shown(bench: &mut Bench, draft: &Draft) {
     bench.table_is(&draft.spares, &draft.bads);
 }
 
-/// A write to FFFFFE brings these bytes into the data part.
-fn fill(bench: &mut Bench, bytes: &[u8]) {
-    bench.write(RAM, bytes);
-    bench.said(Answer::Finished);
-    assert_eq!(bench.drive.data(), bytes);
-}
-
 /// What the part holds before: in each place one of them at least is not the image.
 fn others(draft: &Draft, other: &Draft) -> [(&'static str, Vec<u8>); 5] {
     let inverse = draft.bytes().iter().map(|byte| !byte).collect();
@@ -83,7 +76,7 @@ fn over_other_bytes(bench: &mut Bench, draft: &Draft, other: &Draft) {
     shown(bench, draft);
     for ((words, bytes), (rereads, threshold)) in others(draft, other).iter().zip(NUMBERS) {
         bench.note(&format!("The part holds {words}."));
-        fill(bench, bytes);
+        bench.fill(bytes);
         bench.read(TABLE_IMAGE, rereads, threshold);
         bench.finished([0; 4]);
         shown(bench, draft);
@@ -118,7 +111,7 @@ fn in_pieces(bench: &mut Bench) {
         &[&[0][..], &[0xFF], &[0xFF], &[0xFF], &[1], &[2]][..],
         &[&[0, 0xFF], &[0xFF, 0xFF, 1, 2, 0, 0, 17]],
     ] {
-        fill(bench, &[0x67; SECTOR_BYTES]);
+        bench.fill(&[0x67; SECTOR_BYTES]);
         bench.ready();
         for piece in pieces {
             bench.feed(piece);
@@ -167,7 +160,7 @@ fn over_an_older_image(bench: &mut Bench) {
 
 fn under_the_latch(bench: &mut Bench) {
     bench.note("Under the latch, with a change that no store will take.");
-    fill(bench, &[0x64; SECTOR_BYTES]);
+    bench.fill(&[0x64; SECTOR_BYTES]);
     bench.read(BLOCK, 0, 1);
     bench.no_settle();
     bench.finished([0x11, 0, 0, 0]);
@@ -186,13 +179,13 @@ fn under_the_latch(bench: &mut Bench) {
 fn not_read(bench: &mut Bench) {
     bench.note("Broken off at offer 02 the part stays, and so it does with no table.");
     bench.started(&[5], &[6]);
-    fill(bench, &[0x65; SECTOR_BYTES]);
+    bench.fill(&[0x65; SECTOR_BYTES]);
     bench.command(&[0, 0xFF, 0xFF, 0xFF, 0, 0]);
     bench.lower(0x54);
     bench.finished([0x80, 0, 0, 0]);
     bench.holds(0x65);
     bench.started_without_table();
-    fill(bench, &[0x66; SECTOR_BYTES]);
+    bench.fill(&[0x66; SECTOR_BYTES]);
     bench.read(TABLE_IMAGE, 0, 0);
     bench.finished([0x01, 0x08, 0, 0]);
     bench.holds(0x66);

@@ -183,13 +183,15 @@ fn card(moments: &[&Moment]) -> Card {
     }
 }
 
-/// "read 17" for one command, "40 writes, blocks 0–39" for more.
+/// "read 17" for one command, "40 writes, blocks 0–39" for more, and
+/// "health, 2 times" for more of one that has no number.
 fn label(moments: &[&Moment]) -> String {
     let (verb, rest) = split(&moments[0].command);
     let counts = counted(moments.len(), verb);
     match (moments, block_range(moments)) {
         ([one], _) => shorten(&one.command, 60),
         (_, Some((first, last))) => format!("{counts}, blocks {first}–{last}"),
+        _ if rest.is_empty() => format!("{verb}, {} times", moments.len()),
         _ if moments.iter().all(|next| split(&next.command).1 == rest) => {
             shorten(&format!("{counts} {rest}"), 60)
         }
@@ -473,6 +475,20 @@ mod tests {
             two(moment("read 2", &[Read], Outcome::Failed)),
             ["read 1", "read 2"]
         );
+    }
+
+    #[test]
+    fn reads_of_the_health_block() {
+        let health = moment("health", &[], Outcome::Good);
+        let svg = drawn(&[heading("Monday"), health.clone()]);
+        assert!(svg.contains("<title>health: 0 accesses, 0 errors, good</title>"));
+        assert!(svg.contains(">no access</text>"));
+        assert_eq!(
+            labels(&[health.clone(), health.clone()]),
+            ["health, 2 times"]
+        );
+        let stored = moment("health", &[Store], Outcome::Good);
+        assert_eq!(labels(&[stored, health]), ["health", "health"]);
     }
 
     #[test]

@@ -46,6 +46,10 @@ fn reads() {
     let table = read(0xFF_FFFF, 0xFF_FFFF, 10, 3, None);
     assert_eq!(parse("read $FFFFFF"), Ok(table.clone()));
     assert_eq!(parse("read 0xffffff"), Ok(table));
+    assert_eq!(parse(" health\t\r\n"), Ok(Line::Health));
+    let health = read(0xFF_FFFD, 0xFF_FFFD, 10, 3, None);
+    assert_eq!(parse("read $FFFFFD"), Ok(health));
+    assert_eq!(parse("dump $FFFFFD"), Ok(Line::Dump(0xFF_FFFD)));
 }
 
 #[test]
@@ -128,7 +132,7 @@ fn expectations_and_traffic() {
 }
 
 /// Lines with a fault in them, and a part of what is said of each.
-const WRONG: [(&str, &str); 40] = [
+const WRONG: [(&str, &str); 42] = [
     ("red 17", "\"red\" begins no line of a plan"),
     ("Start", "\"Start\" begins no line"),
     ("start now", "\"now\" is too much"),
@@ -162,6 +166,8 @@ const WRONG: [(&str, &str); 40] = [
     ("compare 17 with nothing", "can be written, not compared"),
     ("compare 17 \"a\"", "R is a number"),
     ("compare 17 10 3", "\"with\" and the data are missing"),
+    ("health 3", "\"3\" is too much"),
+    ("healthy", "\"healthy\" begins no line of a plan"),
     ("lower 5", "a byte is two hex digits, not \"5\""),
     ("traffic 0", "the number of commands is 1 at least"),
     ("traffic 5 blocks $FFFFFF", "a block is 9727 at most"),
@@ -225,7 +231,7 @@ fn guide_examples() -> Vec<&'static str> {
 #[test]
 fn the_examples_of_help_and_guide_are_lines() {
     let (help, guide) = (help_examples(), guide_examples());
-    assert_eq!((help.len(), guide.len()), (21, 21));
+    assert_eq!((help.len(), guide.len()), (22, 22));
     for line in help.into_iter().chain(guide) {
         assert!(parse(line).is_ok(), "{line}: {:?}", parse(line));
     }

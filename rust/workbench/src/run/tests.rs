@@ -58,6 +58,8 @@ fn a_host_needs_a_start() {
     let (ended, number, _) = played("say hello\n\n# no\nread 17\n", Settings::default());
     assert!(ended.is_err_and(|message| message.contains("the drive is not started yet")));
     assert_eq!(number, 4);
+    let (ended, _, _) = played("health\nstart\n", Settings::default());
+    assert!(ended.is_err_and(|message| message.contains("the drive is not started yet")));
 }
 
 #[test]
@@ -159,6 +161,160 @@ fn equal_commands_are_one_line_and_a_trace_has_all() {
     assert!(out.contains(part), "{out}");
 }
 
+/// The lines of `health` in an output.
+fn health_lines(out: &str) -> Vec<&str> {
+    let health = |line: &&str| line.starts_with("health:");
+    out.lines().filter(health).collect()
+}
+
+#[test]
+fn health_counts_spares() {
+    let plan = "start\nhealth\nexpect good accesses 0 status 00 00 80 00\n\
+                fault sector 3..4 writes all unreadable\n\
+                fault sector 4928..4957 writes all timeout\nwrite-verify 3 \"one\"\nhealth\n\
+                expect good stored accesses 0 status 00 00 00 00\nwrite-verify 4 \"one\"\nhealth\nhealth\n";
+    let (ended, _, out) = played(plan, Settings::default());
+    assert_eq!(ended, Ok(true), "{out}");
+    assert_eq!(
+        health_lines(&out),
+        [
+            "health: 32 spares unused, no bad block, no latch, no unstored changes, \
+             first since start or reset",
+            "health: table stored, 1 spare unused, no bad block, no latch, no unstored changes",
+            "health: table stored, no spare unused, no bad block, no latch, no unstored changes",
+            "health: no spare unused, no bad block, no latch, no unstored changes",
+        ]
+    );
+    assert!(out.contains("  6 of 6 expectations met\n"), "{out}");
+}
+
+#[test]
+fn health_after_stores_that_fail() {
+    let plan = "start\nfault sector 3 reads all crc\nread 3 0 1\n\
+                fault sector 4960 writes in-turn timeout no-settle\nhealth\nhealth\nhealth\n";
+    let (ended, _, out) = played(plan, Settings::default());
+    assert_eq!(ended, Ok(true), "{out}");
+    assert_eq!(
+        health_lines(&out),
+        [
+            "health: table not stored (timeout), 32 spares unused, 1 bad block, no latch, unstored changes",
+            "health: table not stored (no settle), 32 spares unused, 1 bad block, no latch, unstored changes",
+            "health: table stored, 32 spares unused, 1 bad block, no latch, no unstored changes",
+        ]
+    );
+}
+
+#[test]
+fn health_under_the_latch() {
+    let plan = "start\nfault sector 3 reads next 1 no-settle\nread 3\nhealth\n\
+                fault sector 4..5 reads all crc\nread 4..5 0 1\nhealth\n";
+    let (ended, _, out) = played(plan, Settings::default());
+    assert_eq!(ended, Ok(true), "{out}");
+    assert_eq!(
+        health_lines(&out),
+        [
+            "health: 32 spares unused, no bad block, under the latch, no unstored changes",
+            "health: 32 spares unused, 2 bad blocks, under the latch, unstored changes",
+        ]
+    );
+}
+
+#[test]
+fn health_without_a_table_fails_as_a_read_does() {
+    let plan = "fault sector 4960 reads next 10 crc\nstart\nhealth\n\
+                expect failed accesses 0 status 01 08 80 00\nraise\nhealth\nread 3\nexpect good\n";
+    let (ended, _, out) = played(plan, Settings::default());
+    assert_eq!(ended, Ok(false));
+    assert_eq!(
+        health_lines(&out),
+        [
+            "health: no access, failed, no table, first since start or reset",
+            "health: no access, failed, no table",
+        ]
+    );
+    assert!(
+        out.contains("read 3: no access, failed, no table\n"),
+        "{out}"
+    );
+    assert!(out.contains("  1 of 2 expectations met\n"), "{out}");
+}
+
+#[test]
+fn health_in_a_trace() {
+    let trace = Settings {
+        trace: true,
+        ..Settings::default()
+    };
+    let plan = "start\nfault sector 3 writes all unreadable\nwrite-verify 3 \"one\"\nhealth\n\
+                expect failed accesses 1\n";
+    let (ended, _, out) = played(plan, trace);
+    let part =
+        "health: table stored, 31 spares unused, no bad block, no latch, no unstored changes\n    \
+                store sector 4960: done\n    status 00 00 00 00: nothing to report, E 0\n  \
+                NOT as line 5 expects: failed and accesses 1\n";
+    assert!(out.contains(part), "{out}");
+    assert_eq!(ended, Ok(false));
+}
+
+#[test]
+fn the_health_block_as_any_number() {
+    let plan = "start\nwrite $FFFFFD \"one\"\nexpect failed accesses 0 status 01 00 c0 00\n\
+                read $FFFFFD 0 0\nexpect good accesses 0 status 00 00 00 00\n\
+                compare $FFFFFD with 20 00*531\n";
+    let (ended, _, out) = played(plan, Settings::default());
+    assert_eq!(ended, Ok(true), "{out}");
+    for line in [
+        "write $FFFFFD (the health block): no access, failed, first since start or reset, no such block",
+        "read $FFFFFD (the health block): no access, good",
+    ] {
+        assert!(out.lines().any(|next| next == line), "{out}");
+    }
+}
+
+/// What a health line shows of a read that ended so and brought these first bytes,
+/// and whether all was as it should be.
+fn figures(end: End, first: [u8; 5]) -> (bool, String) {
+    let mut out = vec![];
+    let mut run = Run::new(Settings::default(), &mut out).expect("a platter");
+    let report = Report {
+        accesses: vec![],
+        end,
+        changes: vec![],
+    };
+    let mut data = [0; 532];
+    data[..5].copy_from_slice(&first);
+    run.figures(report, &data).expect("output");
+    let (good, _) = run.finish().expect("output");
+    let out = String::from_utf8(out).expect("text");
+    let (shown, _) = out.split_once("\n\nSummary\n").expect("a summary");
+    (good, shown.to_string())
+}
+
+#[test]
+fn figures_are_those_of_the_bytes() {
+    let good = End::Finished([0; 4]);
+    let words = "health: 5 spares unused, 3 bad blocks, under the latch, unstored changes";
+    assert_eq!(figures(good, [5, 3, 1, 1, 0]), (true, words.to_string()));
+    for (first, fault) in [
+        ([5, 3, 7, 1, 0], "byte 2 is 7, more than 1"),
+        ([5, 3, 1, 2, 0], "byte 3 is 2, more than 1"),
+        ([5, 3, 1, 1, 9], "byte 4 is 9, more than 0"),
+    ] {
+        let words = format!("health: no access, good\n  NOT a health block: {fault}");
+        assert_eq!(figures(good, first), (false, words));
+    }
+}
+
+#[test]
+fn a_read_that_is_not_good_has_no_figures() {
+    let failed = End::Finished([0x01, 0, 0x40, 0]);
+    let words = "health: no access, failed, no such block";
+    assert_eq!(figures(failed, [9; 5]), (true, words.to_string()));
+    let refused = End::Refused(controller::Code::Place);
+    let words = "health: no access, refused, code 3: the call is out of place";
+    assert_eq!(figures(refused, [9; 5]), (true, words.to_string()));
+}
+
 #[test]
 fn moments_are_kept_for_a_picture() {
     let settings = Settings {
@@ -166,11 +322,11 @@ fn moments_are_kept_for_a_picture() {
         ..Settings::default()
     };
     let plan = "say Monday\nstart\nfault sector 9 writes next 2 unreadable\n\
-                write-verify 9 \"one\"\nraise\nread 9728\n";
+                write-verify 9 \"one\"\nraise\nread 9728\nhealth\n";
     let mut run = Run::new(settings, vec![]).expect("a platter");
     run.plan(plan.as_bytes()).expect("a plan");
     let (_, moments) = run.finish().expect("output");
-    assert_eq!(moments.len(), 5);
+    assert_eq!(moments.len(), 6);
     assert_eq!(moments[0].heading.as_deref(), Some("Monday"));
     assert_eq!(moments[2].command, "write-verify 9");
     assert!(matches!(
@@ -186,6 +342,9 @@ fn moments_are_kept_for_a_picture() {
     ));
     assert!(matches!(moments[3].accesses[..], [Mark::Store]));
     assert!(matches!(moments[4].outcome, Outcome::Failed));
+    assert_eq!(moments[5].command, "health");
+    assert!(moments[5].accesses.is_empty());
+    assert!(matches!(moments[5].outcome, Outcome::Good));
 }
 
 #[test]

@@ -77,6 +77,23 @@ fn random_scripts_reach_most_names() {
     assert!(missing < all / 5, "{missing} of {all}");
 }
 
+#[test]
+fn random_scripts_read_and_write_the_health_block() {
+    coverage::clear();
+    for temper in temper::ALL {
+        simulate(500, 4000, Lies::Sometimes, temper);
+    }
+    // Its rarer states are for longer runs.
+    for (name, least) in [
+        ("act.fffffd.unchanged", 20),
+        ("act.invalid.write.fffffd", 10),
+        ("act.invalid.verify.fffffd", 10),
+    ] {
+        let count = coverage::count(name);
+        assert!(count >= least, "{name}: {count}");
+    }
+}
+
 /// How often a name was met in a script of this temper, and its tally.
 fn tempered(temper: &'static Temper, name: &str) -> (u64, Tally) {
     coverage::clear();
