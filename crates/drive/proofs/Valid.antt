@@ -12,7 +12,7 @@ use Rattle.geometry.specs.Geometry.{isBlock, isSector, spareOf}
 use Rattle.geometry.specs.declared.Block.{Block}
 use Rattle.geometry.specs.declared.Sector.{Sector}
 use Rattle.geometry.proofs.Laws.{spare-sector}
-use Rattle.logic.proofs.Bools.{branch, clash, and-left, and-right, and-true}
+use Rattle.logic.proofs.Bools.{branch, and-left, and-right, and-true}
 use Rattle.lists.specs.Lists.{memberOf}
 use Rattle.table.specs.declared.Table.{Table}
 use Rattle.table.specs.Tables.{spareList, badList, sectorOf, Shaped, tableOk, killedNext, listed, withBad, withoutBad}
