@@ -60,7 +60,7 @@ enum { BV_NUMBER_BUFFER = 0xFFFFFE, BV_NUMBER_TABLE = 0xFFFFFF, BV_NUMBER_HEALTH
 enum {
     BV_HEALTH_UNUSED = 0,  /* how many spares are unused: a dead one is used */
     BV_HEALTH_BADS = 1,    /* how many entries the bad list has */
-    BV_HEALTH_LATCH = 2,   /* 1 after a no settle, until the next start, else 0 */
+    BV_HEALTH_LATCH = 2,   /* 1 under the latch: after a no settle in a command, until the next start; else 0 */
     BV_HEALTH_UNSTORED = 3 /* 1 while the table has changes that are not stored, else 0 */
 };
 
@@ -168,7 +168,7 @@ struct bv_stage {
 struct bv_flags {
     uint8_t known;   /* there is a table */
     uint8_t changed; /* it has changes that are not stored */
-    uint8_t latch;   /* no settle since the last start: writes are shut off */
+    uint8_t latch;   /* a no settle in a command since the last start: writes are shut off */
     uint8_t fresh;   /* no command finished since the last start or reset */
 };
 

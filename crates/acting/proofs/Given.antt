@@ -41,7 +41,7 @@ image-put sp bd u n m p q h =
     let k : length (midOf 4 (length u - 4) u) ≡ 532 = simp (length-take, length-drop) (omega arith) in
     image-whole sp bd (midOf 4 (length u - 4) u) n m p q k
 
--- a number that is none of the others is a block
+-- so the number that is left is below 9728
 pub number-left : (op v : ℕ) → noNumber op v ≡ false → eqb v 0xFFFFFE ≡ false → eqb v 0xFFFFFF ≡ false → eqb v 0xFFFFFD ≡ false → v < 9728
 number-left op v e f g h = ltb-true v 9728 (block-left op v e f g h)
 

@@ -242,12 +242,13 @@ asksWrite op n x =
 abbrev asksTable : ℕ → List Turn
 asksTable status3 = asksRead 0xFFFFFF 0 0 ++ (go ⇒ finished 0x00 0x00 status3 0 ∷ [])
 
--- a read of FFFFFD, with the same, and the figures that it shows
+-- a read of FFFFFD with R 255 and T 0, with status 3 of its finish
 abbrev asksHealth : ℕ → List Turn
 asksHealth status3 = asksRead 0xFFFFFD 255 0 ++ (go ⇒ finished 0x00 0x00 status3 0 ∷ [])
 
-abbrev figures : ℕ → ℕ → ℕ → ℕ → Bytes
-figures unused bads latch unstored = unused ∷ bads ∷ latch ∷ unstored ∷ replicate 528 0
+-- the health block of these figures
+abbrev healthBlock : ℕ → ℕ → ℕ → ℕ → Bytes
+healthBlock unused bads latch unstored = unused ∷ bads ∷ latch ∷ unstored ∷ replicate 528 0
 
 -- THE RUNS
 
@@ -580,7 +581,9 @@ pub before-that-raise-nothing-is-zeroed : (old : Drive) → Happens old brokenOf
 unfolding happens
 before-that-raise-nothing-is-zeroed old = happens old brokenOffBeforeTheRaise refl refl refl refl refl
 
--- THE HEALTH BLOCK, after a read that left sevens in the data part. Two spares are used, one of them dead, and three blocks are bad.
+-- THE HEALTH BLOCK
+
+-- After a read that left sevens in the data part. Two spares are used, one of them dead, and three blocks are bad.
 abbrev healthOfLists : Run
 healthOfLists =
     record {
@@ -589,7 +592,7 @@ healthOfLists =
           found (dead ∷ 20 ∷ []) (5 ∷ 6 ∷ 7 ∷ [])
           ++ opens ++ asksRead 17 2 2 ++ (go ⇒ read 17 ∷ gives 7 ⇒ finished 0x00 0x00 0x80 0 ∷ [])
           ++ opens ++ asksHealth 0x00;
-      part = figures 30 3 0 0;
+      part = healthBlock 30 3 0 0;
       place = sector 17;
       candidates = bytes 7 ∷ [];
     }
@@ -604,7 +607,7 @@ healthFirst =
     record {
       sectors = disk [] [];
       turns = found [] [] ++ opens ++ asksHealth 0x80 ++ opens ++ asksHealth 0x00;
-      part = figures 32 0 0 0;
+      part = healthBlock 32 0 0 0;
       place = sector 17;
       candidates = bytes 7 ∷ [];
     }
@@ -619,7 +622,7 @@ healthUnstored =
     record {
       sectors = disk [] [];
       turns = found [] [] ++ elevenTimeouts ++ (raise ⇒ store ∷ timesOut ⇒ offer 0x01 ∷ []) ++ asksHealth 0x00;
-      part = figures 32 1 0 1;
+      part = healthBlock 32 1 0 1;
       place = sector 17;
       candidates = bytes 7 ∷ [];
     }
@@ -634,7 +637,7 @@ healthStored =
     record {
       sectors = disk [] [];
       turns = found [] [] ++ elevenTimeouts ++ stores ++ asksHealth 0x00;
-      part = figures 32 1 0 0;
+      part = healthBlock 32 1 0 0;
       place = sector 17;
       candidates = bytes 7 ∷ [];
     }
@@ -649,7 +652,7 @@ healthUnsettled =
     record {
       sectors = disk [] [];
       turns = found [] [] ++ opens ++ asksRead 17 2 2 ++ (go ⇒ read 17 ∷ unsettled ⇒ finished 0x11 0x00 0x80 0 ∷ []) ++ opens ++ asksHealth 0x00;
-      part = figures 32 0 1 0;
+      part = healthBlock 32 0 1 0;
       place = sector 17;
       candidates = bytes 7 ∷ [];
     }
@@ -667,7 +670,7 @@ healthLatched =
           found [] [] ++ opens ++ asksWrite 2 17 (bytes 1)
           ++ (go ⇒ write 17 ∷ timesOut ⇒ write 17 ∷ timesOut ⇒ write 4928 ∷ unsettled ⇒ finished 0x15 0x00 0x80 0 ∷ [])
           ++ opens ++ asksHealth 0x00;
-      part = figures 31 0 1 1;
+      part = healthBlock 31 0 1 1;
       place = sector 17;
       candidates = bytes 1 ∷ bytes 7 ∷ [];
     }

@@ -146,8 +146,8 @@ pub fn refused(l: Line, r: Refusal) -> Turn
     said(l, Answer::Refused(r))
 }
 
-// A bit of a status byte.
-fn bit(on: bool, v: u8) -> u8
+// v where a flag is set: a bit of a status byte, or a figure of the health block.
+pub fn bit(on: bool, v: u8) -> u8
     ensures { λ x. ⌜ x ≡ cond on v 0 ⌝ }
 {
     if on { v } else { 0 }

@@ -41,7 +41,7 @@ fn the_guide_shows_the_first_plan() {
 
 #[test]
 fn the_guide_shows_lines_of_health() {
-    let lines = shown(GUIDE, "lines of `plans/health.plan`:\n");
+    let lines = shown(GUIDE, "the output of `plans/health.plan`:\n");
     assert_eq!(lines.len(), 4);
     agree(&lines, include_str!("../../../plans/health.expected"));
 }

@@ -11,17 +11,17 @@ use Rattle.health.proofs.put.Tie as tie
 unused-requires : tie.Need-unused-requires
 unused-requires c κs = search needs
 
-cast-t7 : tie.Need-cast-t7
-cast-t7 c = search needs
+bit-requires : tie.Need-bit-requires
+bit-requires c κs = search needs
 
-cast-t8 : tie.Need-cast-t8
-cast-t8 c = search needs
+bit-requires-2 : tie.Need-bit-requires-2
+bit-requires-2 c κs = search needs
 
-flag-requires : tie.Need-flag-requires
-flag-requires c κs = search needs
+cast-t9 : tie.Need-cast-t9
+cast-t9 c = search needs
 
-flag-requires-2 : tie.Need-flag-requires-2
-flag-requires-2 c κs = search needs
+cast-t10 : tie.Need-cast-t10
+cast-t10 c = search needs
 
 slice-aggregate-put : tie.Need-slice-aggregate-put
 slice-aggregate-put c = search needs
@@ -38,9 +38,9 @@ same-length c = search needs
 returns : tie.Need-returns
 unfolding health
 returns c =
-    let a = c .before .before .before .before .before .before .before .before .before .before .before .before .before in
     let p = c .before .before .before .before .before .before in
-    rw (c .before .before .fill .ensures, p .put .ensures, p .before .before .before .flag2 .ensures, p .before .before .before .before .flag .ensures, p .before .before .before .before .before .unused .ensures)
+    let a = p .before .before .before .before .before .before .before in
+    rw (c .before .before .fill .ensures, p .put .ensures, p .before .before .before .bit2 .ensures, p .before .before .before .before .bit .ensures, p .before .before .before .before .before .unused .ensures)
     (runs-put (now (a .args .buf)) _ (replicate 528 0) (a .pre .0) refl refl)
 
 pub put-spec : {M : Type 1} → statement M
@@ -48,10 +48,10 @@ put-spec =
     tie.close
     (tie.spec
     unused-requires
-    cast-t7
-    cast-t8
-    flag-requires
-    flag-requires-2
+    bit-requires
+    bit-requires-2
+    cast-t9
+    cast-t10
     slice-aggregate-put
     put-requires
     fill-requires

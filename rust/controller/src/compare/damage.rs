@@ -56,26 +56,18 @@ fn sound(rng: &mut Rng) -> raw::Drive {
         latch: u8::from(rng.one_in(4)),
         fresh: mark(rng),
     };
-    let number = rng.pick(&[
-        17,
-        9727,
-        9728,
-        0xFF_FFFD,
-        0xFF_FFFE,
-        0xFF_FFFF,
-        u32::from(block(0)),
-    ]);
-    let [_, high, middle, low] = number.to_be_bytes();
-    drive.command = [
-        rng.below(4) as u8,
-        high,
-        middle,
-        low,
-        rng.byte(),
-        rng.byte(),
-    ];
+    drive.command = command(block(0), rng);
     drive.stage = stage(&drive, rng);
     drive
+}
+
+/// The bytes of a command for this block, or for a number of interest.
+fn command(block: u16, rng: &mut Rng) -> [u8; 6] {
+    let block = u32::from(block);
+    let number = rng.pick(&[17, 9727, 9728, 0xFF_FFFD, 0xFF_FFFE, 0xFF_FFFF, block]);
+    let [_, high, middle, low] = number.to_be_bytes();
+    let opcode = rng.below(4) as u8;
+    [opcode, high, middle, low, rng.byte(), rng.byte()]
 }
 
 fn stage(drive: &raw::Drive, rng: &mut Rng) -> raw::Stage {
@@ -229,8 +221,8 @@ const COUNTS: [fn(&mut raw::Drive) -> &mut usize; 4] = [
     |drive| &mut drive.fed,
 ];
 
-/// A sound record of each kind with one field changed: a byte to each of its
-/// values, another number to each one near a bound.
+/// Sound records of each kind, and one at a read of FFFFFD, each with one field
+/// changed: a byte to each of its values, another number to each one near a bound.
 pub fn sweep() -> Vec<raw::Drive> {
     let mut records = Vec::new();
     for sound in (0..10).flat_map(specimens).chain([health_read()]) {

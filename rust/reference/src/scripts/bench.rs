@@ -10,6 +10,18 @@ use crate::ledger::{Broken, Ledger};
 use crate::script::{self, Line};
 use crate::surface::{obeys, Access, Left, Outcome, Sectors};
 
+/// The numbers of no block that have a meaning: the buffer, the table, and the
+/// health block.
+pub const RAM: u32 = 0xFF_FFFE;
+pub const TABLE_IMAGE: u32 = 0xFF_FFFF;
+pub const HEALTH: u32 = 0xFF_FFFD;
+
+/// What a command with an invalid number finishes with.
+pub const INVALID: [u8; 4] = [0x01, 0, 0x40, 0];
+
+/// What a command with too many bytes finishes with.
+pub const TOO_MUCH: [u8; 4] = [0x41, 0, 0, 0];
+
 /// No command makes more accesses.
 pub const MOST_ACCESSES: usize = 478;
 
@@ -379,7 +391,7 @@ impl Bench {
     /// A write to FFFFFE brings these bytes into the data part.
     #[track_caller]
     pub fn fill(&mut self, bytes: &[u8]) {
-        self.write(0xFF_FFFE, bytes);
+        self.write(RAM, bytes);
         self.said(Answer::Finished);
         assert_eq!(self.drive.data(), bytes);
     }

@@ -1,7 +1,7 @@
 //! Commands that meet no trouble on the surface: clean ones, numbers, data, and
 //! the drive with no table.
 
-use super::bench::Bench;
+use super::bench::{Bench, HEALTH, INVALID, RAM, TABLE_IMAGE};
 use super::Stored;
 use crate::controller::{Answer, Code};
 use crate::geometry::TABLE;
@@ -90,53 +90,10 @@ fn clean() -> Bench {
 fn numbers() -> Bench {
     let mut bench = Bench::new("Numbers of no block, and the three that are more than a block.");
     bench.started(&[17, 0xFF_FFFE], &[600, 0, 9727]);
-    bench.write(0xFF_FFFE, &[0x21; 532]);
+    bench.write(RAM, &[0x21; 532]);
     bench.finished([0, 0, 0x80, 0]);
-    let invalid = [
-        9728, 9729, 0x00_FFFE, 0x00_FFFF, 0x01_0000, 0x01_0011, 0x01_25FF, 0x80_0000, 0xFF_0000,
-        0xFF_FEFF, 0xFF_FFFC,
-    ];
-    for number in invalid {
-        bench.read(number, 1, 1);
-        bench.finished([0x01, 0, 0x40, 0]);
-        bench.holds(0x21);
-    }
-    for number in [
-        9728, 0x00_FFFE, 0x00_FFFF, 0x01_0011, 0xFF_FFFC, 0xFF_FFFD, 0xFF_FFFF,
-    ] {
-        bench.write(number, &[0x22; 532]);
-        bench.finished([0x01, 0, 0x40, 0]);
-        bench.verify(number, &[0x23; 532]);
-        bench.finished([0x01, 0, 0x40, 0]);
-        bench.holds(0x23);
-    }
-    bench.note("FFFFFE: the buffer as fed, then zeros.");
-    bench.read(0xFF_FFFE, 255, 0);
-    bench.finished([0; 4]);
-    bench.holds(0x23);
-    bench.write(0xFF_FFFE, &[0x24; 532]);
-    bench.finished([0; 4]);
-    bench.verify(0xFF_FFFE, &[0x25; 10]);
-    bench.finished([0; 4]);
-    bench.read(0xFF_FFFE, 0, 0);
-    assert_eq!(bench.drive.data()[9..11], [0x25, 0]);
-    bench.note("FFFFFD: the health block, on reads alone.");
-    bench.read(0xFF_FFFD, 1, 1);
-    bench.finished([0; 4]);
-    assert_eq!(bench.drive.data()[..5], [30, 3, 0, 0, 0]);
-    bench.note("FFFFFF: the table, as it stands in the record.");
-    bench.read(0xFF_FFFF, 0, 0);
-    bench.finished([0; 4]);
-    bench.image();
-    bench.said(Answer::Wait);
-    bench.write(600, &[0x26; 532]);
-    bench.said_write(600);
-    bench.good();
-    bench.good();
-    bench.finished([0; 4]);
-    bench.table_is(&[17, 0xFF_FFFE], &[0, 9727]);
-    bench.read(0xFF_FFFF, 0, 0);
-    bench.finished([0; 4]);
+    invalid_numbers(&mut bench);
+    numbers_with_a_meaning(&mut bench);
     bench.note("The table's bytes are now in the buffer: a write of nothing sends zeros.");
     bench.write(300, &[]);
     bench.said_write(300);
@@ -146,6 +103,62 @@ fn numbers() -> Bench {
     bench.finished([0; 4]);
     bench.holds(0);
     bench
+}
+
+fn invalid_numbers(bench: &mut Bench) {
+    for number in [
+        9728, 9729, 0x00_FFFE, 0x00_FFFF, 0x01_0000, 0x01_0011, 0x01_25FF, 0x80_0000, 0xFF_0000,
+        0xFF_FEFF, 0xFF_FFFC,
+    ] {
+        bench.read(number, 1, 1);
+        bench.finished(INVALID);
+        bench.holds(0x21);
+    }
+    for number in [
+        9728,
+        0x00_FFFE,
+        0x00_FFFF,
+        0x01_0011,
+        0xFF_FFFC,
+        HEALTH,
+        TABLE_IMAGE,
+    ] {
+        bench.write(number, &[0x22; 532]);
+        bench.finished(INVALID);
+        bench.verify(number, &[0x23; 532]);
+        bench.finished(INVALID);
+        bench.holds(0x23);
+    }
+}
+
+fn numbers_with_a_meaning(bench: &mut Bench) {
+    bench.note("FFFFFE: the buffer as fed, then zeros.");
+    bench.read(RAM, 255, 0);
+    bench.finished([0; 4]);
+    bench.holds(0x23);
+    bench.write(RAM, &[0x24; 532]);
+    bench.finished([0; 4]);
+    bench.verify(RAM, &[0x25; 10]);
+    bench.finished([0; 4]);
+    bench.read(RAM, 0, 0);
+    assert_eq!(bench.drive.data()[9..11], [0x25, 0]);
+    bench.note("FFFFFD: the health block, on reads alone.");
+    bench.read(HEALTH, 1, 1);
+    bench.finished([0; 4]);
+    assert_eq!(bench.drive.data()[..5], [30, 3, 0, 0, 0]);
+    bench.note("FFFFFF: the table, as it stands in the record.");
+    bench.read(TABLE_IMAGE, 0, 0);
+    bench.finished([0; 4]);
+    bench.image();
+    bench.said(Answer::Wait);
+    bench.write(600, &[0x26; 532]);
+    bench.said_write(600);
+    bench.good();
+    bench.good();
+    bench.finished([0; 4]);
+    bench.table_is(&[17, 0xFF_FFFE], &[0, 9727]);
+    bench.read(TABLE_IMAGE, 0, 0);
+    bench.finished([0; 4]);
 }
 
 fn data_bytes() -> Bench {

@@ -1,7 +1,7 @@
 //! Reads of FFFFFD, which give the health block whatever the data part held, and
 //! writes to it, whose number is invalid.
 
-use super::bench::Bench;
+use super::bench::{Bench, HEALTH, INVALID, RAM, TABLE_IMAGE, TOO_MUCH};
 use super::Stored;
 use crate::controller::{Answer, Code, Offer, GO_ON};
 use crate::drive::Call;
@@ -14,10 +14,6 @@ pub fn all() -> Vec<Stored> {
     vec![Stored::new("health", health())]
 }
 
-const HEALTH: u32 = 0xFF_FFFD;
-const RAM: u32 = 0xFF_FFFE;
-const TABLE_IMAGE: u32 = 0xFF_FFFF;
-
 /// The command bytes of a read of FFFFFD.
 const READ: [u8; 6] = [0, 0xFF, 0xFF, 0xFD, 0, 1];
 
@@ -26,12 +22,6 @@ const SEED: u64 = 1;
 
 /// A block that is in no list.
 const BLOCK: u32 = 4000;
-
-/// What a command with an invalid number finishes with.
-const INVALID: [u8; 4] = [0x01, 0, 0x40, 0];
-
-/// What a command with too many bytes finishes with.
-const TOO_MUCH: [u8; 4] = [0x41, 0, 0, 0];
 
 fn health() -> Bench {
     let mut bench = Bench::new("Reads of FFFFFD over other bytes, and writes to it.");

@@ -1,7 +1,7 @@
 //! Short data: the raise that offers 06 zeroes the data part behind the bytes that
 //! were fed.
 
-use super::bench::Bench;
+use super::bench::{Bench, INVALID, RAM, TOO_MUCH};
 use super::Stored;
 use crate::controller::{Answer, Code, Offer, GO_ON};
 use crate::drive::Call;
@@ -15,16 +15,8 @@ pub fn all() -> Vec<Stored> {
 const OTHER_BLOCK: u32 = 16;
 const OTHER: u8 = 0xEE;
 
-const RAM: u32 = 0xFF_FFFE;
-
 /// How many bytes are fed.
 const COUNTS: [usize; 7] = [0, 1, 511, 512, 531, 532, 533];
-
-/// What a command with an invalid number finishes with.
-const INVALID: [u8; 4] = [0x01, 0, 0x40, 0];
-
-/// What a command with too many bytes finishes with.
-const TOO_MUCH: [u8; 4] = [0x41, 0, 0, 0];
 
 fn short_data() -> Bench {
     let mut bench =

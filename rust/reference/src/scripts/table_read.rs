@@ -1,7 +1,7 @@
 //! Reads of FFFFFF: the data part is then what the image call gives, whatever it
 //! held before.
 
-use super::bench::Bench;
+use super::bench::{Bench, RAM, TABLE_IMAGE};
 use super::Stored;
 use crate::controller::{Answer, Code, Offer, GO_ON};
 use crate::drive::Call;
@@ -12,9 +12,6 @@ use crate::rng::Rng;
 pub fn all() -> Vec<Stored> {
     vec![Stored::new("table-read", table_read())]
 }
-
-const RAM: u32 = 0xFF_FFFE;
-const TABLE_IMAGE: u32 = 0xFF_FFFF;
 
 /// The seed of the tables' entries.
 const SEED: u64 = 1;
