@@ -16,7 +16,7 @@ use Rattle.drive.specs.declared.Retry.{Retry}
 use Rattle.drive.specs.declared.Trial.{Trial}
 use Rattle.drive.specs.Records.{retryOk, trialOk, phaseOk, lineOk}
 use Rattle.drive.specs.Access.{toRead, toWrite, startAnswered, storeAnswered}
-use Rattle.drive.proofs.Valid.{trial-facts}
+use Rattle.demands.proofs.Valid.{trial-facts}
 use Rattle.records.proofs.Choices.{Aside, either}
 
 phase-part : (n : ℕ) (l : Line) (p : Phase) → l .phase ≡ p → lineOk n l ≡ true → phaseOk n (l .marks .known) p ≡ true

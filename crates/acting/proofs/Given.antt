@@ -16,7 +16,7 @@ use Rattle.drive.specs.declared.Line.{Line}
 use Rattle.drive.specs.Words.{withData, opcodeOf, numberOf}
 use Rattle.drive.specs.Handshake.{writes, noNumber, acted}
 use Rattle.records.specs.Turns.{lent}
-use Rattle.drive.proofs.Numbers.{block-left}
+use Rattle.demands.proofs.Numbers.{block-left}
 use Rattle.records.proofs.Choices.{Aside, either}
 
 -- all of a buffer from its fourth byte on put anew

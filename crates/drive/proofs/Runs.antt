@@ -1,5 +1,5 @@
 -- The premises of demand 3 can be met: lawful lists of calls, computed, each beside what it is answered.
-use mathlib.Core.Path.{_≡_, refl}
+use mathlib.Core.Path.{_≡_, refl, ap, _∙_}
 use mathlib.Core.Bool.{Bool, true, false, cond, _&&_}
 use mathlib.Core.List.{List, [], _∷_, _++_}
 use Prim.Native.Nat.{ℕ, _+_, _/_, _%_}
@@ -26,31 +26,30 @@ use Rattle.drive.specs.Access.{toRead, toWrite, startAnswered, storeAnsw
 use Rattle.drive.specs.Calls.{Call, raise, lower, feed, surface, reset, raiseOf, lowerOf, feedOf, surfaceOf, resetOf, startOf, stepOf}
 use Rattle.drive.specs.History.{Bytes, Content, held, unreadable, Sectors, Where, nowhere, at, Entry, History, blank, isRefused, readAsked, padded, bit, learns, acts, underway, reports, good, moves, isRead, bytesOf, touches, touchesFirst, hasWritten, placeNext, candidatesNext, heard, next, Allows}
 use Rattle.drive.specs.Surface.{brings}
-use Rattle.drive.specs.Run.{Event, World, after, rule, unless, made, Lawful, entries, begins}
-use Rattle.drive.proofs.Demand3.{demand-3}
+use Rattle.drive.specs.Run.{Event, World, after, rule, unless, made, Lawful, entries, entryOf, begins}
 
 -- THE SURFACE'S RULES, AS A TEST
 
-abbrev holds : Content → Bytes → Bool
+abbrev pub holds : Content → Bytes → Bool
 holds (held x) bs = same x bs
 holds unreadable bs = false
 
-abbrev bringsIt : Where → Bool → Bytes → Sectors → Bool
+abbrev pub bringsIt : Where → Bool → Bytes → Sectors → Bool
 bringsIt nowhere done bs σ = true
 bringsIt (at s) true bs σ = holds (σ s) bs
 bringsIt (at s) false bs σ = true
 
-abbrev keeps : World → Call → Bool
+abbrev pub keeps : World → Call → Bool
 keeps w raise = true
 keeps w (lower b) = true
 keeps w (feed bs) = true
 keeps w (surface a bs) = bringsIt (readAsked (w .asked)) (eqb a 0) bs (w .sectors)
 keeps w reset = true
 
-abbrev permitted : World → Event → Out → Bool
+abbrev pub permitted : World → Event → Out → Bool
 permitted w e x = cond (isRefused (x .step .answer)) true (keeps w (e .call))
 
-abbrev isLawful : World → List Event → Bool
+abbrev pub isLawful : World → List Event → Bool
 isLawful w [] = true
 isLawful w (e ∷ es) = permitted w e (made w e) && isLawful (after w e (made w e)) es
 
@@ -74,7 +73,7 @@ is-permitted : (w : World) (c : Call) (refused : Bool) → cond refused true (ke
 is-permitted w c true h = tt
 is-permitted w c false h = keeps-rule w c h
 
-lawful-by-test : (w : World) (es : List Event) → isLawful w es ≡ true → Lawful w es
+pub lawful-by-test : (w : World) (es : List Event) → isLawful w es ≡ true → Lawful w es
 lawful-by-test w [] h = tt
 lawful-by-test w (e ∷ es) h =
     let p = permitted w e (made w e) in
@@ -95,7 +94,7 @@ pub data Said : Type 0 where
   finished : ℕ → ℕ → ℕ → ℕ → Said
   refused : ℕ → Said
 
-abbrev saidBy : Answer → Bytes → Said
+abbrev pub saidBy : Answer → Bytes → Said
 saidBy answer.Wait u = wait
 saidBy (answer.Offer o) u = offer (response o)
 saidBy (answer.Read s) u = read (s .0)
@@ -104,7 +103,7 @@ saidBy answer.Store u = store
 saidBy answer.Finished u = finished (getD u 0 0) (getD u 1 0) (getD u 2 0) (getD u 3 0)
 saidBy (answer.Refused r) u = refused (codeOf r)
 
-abbrev told : List Entry → List Said
+abbrev pub told : List Entry → List Said
 told [] = []
 told (o ∷ os) = saidBy (o .answer) (o .buffer) ∷ told os
 
@@ -122,28 +121,28 @@ c ⇒ a = record { event = record { call = c; spoils = false }; says = a }
 abbrev _⇏_ : Call → Said → Turn
 c ⇏ a = record { event = record { call = c; spoils = true }; says = a }
 
-abbrev events : List Turn → List Event
+abbrev pub events : List Turn → List Event
 events [] = []
 events (t ∷ ts) = t .event ∷ events ts
 
-abbrev answers : List Turn → List Said
+abbrev pub answers : List Turn → List Said
 answers [] = []
 answers (t ∷ ts) = t .says ∷ answers ts
 
 -- the history after these entries, and the world after these events
-abbrev kept : Sectors → History → List Entry → History
+abbrev pub kept : Sectors → History → List Entry → History
 kept start H [] = H
 kept start H (o ∷ os) = kept start (next start H o) os
 
-abbrev ended : World → List Event → World
+abbrev pub ended : World → List Event → World
 ended w [] = w
 ended w (e ∷ es) = ended (after w e (made w e)) es
 
 -- the block that the runs are about
-abbrev key : Block
+abbrev pub key : Block
 key = record { 0 = 17 }
 
--- A list of calls with its answers, and what stands after it: the data part, and the block's sector and candidates in the history.
+-- A list of calls with its answers, and what it leaves: the data part, and the block's sector and candidates in the history.
 pub record Run : Type 0 where
   pub sectors : Sectors
   pub turns : List Turn
@@ -151,17 +150,17 @@ pub record Run : Type 0 where
   pub place : Where
   pub candidates : List Bytes
 
--- it begins with a start of any record
-abbrev from : Drive → Run → World
+-- starts any record, on these sectors
+abbrev pub from : Drive → Run → World
 from old r = begins (startOf old (replicate 536 1)) (r .sectors)
 
-abbrev calls : Run → List Event
+abbrev pub calls : Run → List Event
 calls r = events (r .turns)
 
-abbrev entered : Drive → Run → List Entry
+abbrev pub entered : Drive → Run → List Entry
 entered old r = entries (from old r) (calls r)
 
-abbrev history : Drive → Run → History
+abbrev pub history : Drive → Run → History
 history old r = kept (r .sectors) blank (entered old r)
 
 pub record Happens (old : Drive) (r : Run) : Type 0 where
@@ -171,18 +170,66 @@ pub record Happens (old : Drive) (r : Run) : Type 0 where
   pub place : history old r .place key ≡ r .place
   pub candidates : history old r .candidates key ≡ r .candidates
 
--- A proof that unfolds this one unfolds all that its line names: what a run's computation has to see through.
-happens : (old : Drive) (r : Run) → isLawful (from old r) (calls r) ≡ true → told (entered old r) ≡ answers (r .turns)
-    → dataOf (ended (from old r) (calls r) .buffer) ≡ r .part
-    → history old r .place key ≡ r .place
-    → history old r .candidates key ≡ r .candidates
-    → Happens old r
-unfolding homeOf indexOf memberOf entryOk entriesOk listsOk sectorOf listed killedNext withBad removed withoutBad wide triple triples listPart framedPart imageOf narrow entryAt entriesFrom framed wellFormed tableOf over same allAre dataOf withData opcodeOf numberOf ending1 ending2 ending3 statusOf retryOk trialOk phaseOk lineOk recordOk raisedIdle commandOffer raised writes noNumber health acted goesOn lowered fedTo rested failed goesOnReading afterRead nextAttempt missed brokenOff verified tried checked toRead toWrite startAnswered storeAnswered keptData lost settled reads readAnswered writeAnswered answered raiseOf lowerOf feedOf surfaceOf resetOf startOf stepOf padded bit learns acts underway reports good moves isRead bytesOf touches touchesFirst hasWritten placeNext candidatesNext heard next
-happens old r l s d p c = record { lawful = lawful-by-test (from old r) (calls r) l; says = s; part = d; place = p; candidates = c }
+-- ONE FOLD FOR THESE FIVE FACTS, which computes each call once
 
--- so the theorem speaks of it: its history allows the whole list
-pub allowed : (old : Drive) (r : Run) → Happens old r → Allows (r .sectors) blank (entered old r)
-allowed old r h = demand-3 old (replicate 536 1) refl (r .sectors) (calls r) (h .lawful)
+pub record Played : Type 0 where
+  pub lawful : Bool
+  pub says : List Said
+  pub part : Bytes
+  pub place : Where
+  pub candidates : List Bytes
+
+-- puts a call's test and answer before those of the calls after it
+abbrev pub ahead : Bool → Said → Played → Played
+ahead ok said p = record { lawful = ok && p .lawful; says = said ∷ p .says; part = p .part; place = p .place; candidates = p .candidates }
+
+abbrev pub plays : Sectors → World → History → List Turn → Played
+plays start w H [] = record { lawful = true; says = []; part = dataOf (w .buffer); place = H .place key; candidates = H .candidates key }
+plays start w H (t ∷ ts) =
+    let e = t .event in
+    let x = made w e in
+    ahead (permitted w e x) (saidBy (x .step .answer) (x .bytes)) (plays start (after w e x) (next start H (entryOf e x)) ts)
+
+-- what the fold gives is what the five facts speak of
+pub record Ties (start : Sectors) (w : World) (H : History) (ts : List Turn) (p : Played) : Type 0 where
+  pub lawful : isLawful w (events ts) ≡ p .lawful
+  pub says : told (entries w (events ts)) ≡ p .says
+  pub part : dataOf (ended w (events ts) .buffer) ≡ p .part
+  pub place : kept start H (entries w (events ts)) .place key ≡ p .place
+  pub candidates : kept start H (entries w (events ts)) .candidates key ≡ p .candidates
+
+pub ties : (start : Sectors) (w : World) (H : History) (ts : List Turn) → Ties start w H ts (plays start w H ts)
+ties start w H [] = record { lawful = refl; says = refl; part = refl; place = refl; candidates = refl }
+ties start w H (t ∷ ts) =
+    let e = t .event in
+    let x = made w e in
+    let h = ties start (after w e x) (next start H (entryOf e x)) ts in
+    record {
+      lawful = ap (λ (b : Bool). permitted w e x && b) (h .lawful);
+      says = ap (λ (s : List Said). saidBy (x .step .answer) (x .bytes) ∷ s) (h .says);
+      part = h .part;
+      place = h .place;
+      candidates = h .candidates;
+    }
+
+abbrev pub played : Drive → Run → Played
+played old r = plays (r .sectors) (from old r) blank (r .turns)
+
+abbrev pub expected : Run → Played
+expected r = record { lawful = true; says = answers (r .turns); part = r .part; place = r .place; candidates = r .candidates }
+
+-- A proof that unfolds this one unfolds all that its line names: what a run's computation has to see through.
+unfoldable pub happens : (old : Drive) (r : Run) → played old r ≡ expected r → Happens old r
+unfolding homeOf indexOf memberOf entryOk entriesOk listsOk sectorOf listed killedNext withBad removed withoutBad wide triple triples listPart framedPart imageOf narrow entryAt entriesFrom framed wellFormed tableOf over same allAre dataOf withData opcodeOf numberOf ending1 ending2 ending3 statusOf retryOk trialOk phaseOk lineOk recordOk raisedIdle commandOffer raised writes noNumber health acted goesOn lowered fedTo rested failed goesOnReading afterRead nextAttempt missed brokenOff verified tried checked toRead toWrite startAnswered storeAnswered keptData lost settled reads readAnswered writeAnswered answered raiseOf lowerOf feedOf surfaceOf resetOf startOf stepOf padded bit learns acts underway reports good moves isRead bytesOf touches touchesFirst hasWritten placeNext candidatesNext heard next
+happens old r e =
+    let h = ties (r .sectors) (from old r) blank (r .turns) in
+    record {
+      lawful = lawful-by-test (from old r) (calls r) (h .lawful ∙ ap (λ (p : Played). p .lawful) e);
+      says = h .says ∙ ap (λ (p : Played). p .says) e;
+      part = h .part ∙ ap (λ (p : Played). p .part) e;
+      place = h .place ∙ ap (λ (p : Played). p .place) e;
+      candidates = h .candidates ∙ ap (λ (p : Played). p .candidates) e;
+    }
 
 -- THE PIECES OF A RUN
 
@@ -268,7 +315,7 @@ writtenThenRead =
 
 pub a-good-read-brings-the-written-bytes : (old : Drive) → Happens old writtenThenRead
 unfolding happens
-a-good-read-brings-the-written-bytes old = happens old writtenThenRead refl refl refl refl refl
+a-good-read-brings-the-written-bytes old = happens old writtenThenRead refl
 
 -- Two of three rereads fail, and T is 3. What comes garbled after the first good read is not kept.
 abbrev rereadsComeGood : Run
@@ -286,7 +333,7 @@ rereadsComeGood =
 
 pub below-the-threshold-it-stays : (old : Drive) → Happens old rereadsComeGood
 unfolding happens
-below-the-threshold-it-stays old = happens old rereadsComeGood refl refl refl refl refl
+below-the-threshold-it-stays old = happens old rereadsComeGood refl
 
 -- E reaches T. The bytes are written again where they were, and verify.
 abbrev verifiedInPlace : Run
@@ -304,7 +351,7 @@ verifiedInPlace =
 
 pub at-the-threshold-it-verifies-in-place : (old : Drive) → Happens old verifiedInPlace
 unfolding happens
-at-the-threshold-it-verifies-in-place old = happens old verifiedInPlace refl refl refl refl refl
+at-the-threshold-it-verifies-in-place old = happens old verifiedInPlace refl
 
 -- E reaches T. No attempt at the present sector verifies: a write times out, then one spoils the sector.
 abbrev movedToSpare0 : Run
@@ -323,7 +370,7 @@ movedToSpare0 =
 
 pub at-the-threshold-it-moves-to-spare-0 : (old : Drive) → Happens old movedToSpare0
 unfolding happens
-at-the-threshold-it-moves-to-spare-0 old = happens old movedToSpare0 refl refl refl refl refl
+at-the-threshold-it-moves-to-spare-0 old = happens old movedToSpare0 refl
 
 -- The block is at spare 0. It moves on, and the table's image then shows its old entry dead.
 abbrev movedToSpare1 : Run
@@ -342,7 +389,7 @@ movedToSpare1 =
 
 pub a-moved-block-moves-on-to-spare-1 : (old : Drive) → Happens old movedToSpare1
 unfolding happens
-a-moved-block-moves-on-to-spare-1 old = happens old movedToSpare1 refl refl refl refl refl
+a-moved-block-moves-on-to-spare-1 old = happens old movedToSpare1 refl
 
 -- The last spare dies, and the command after finds none to try. The bytes of each failed write are candidates.
 abbrev noSpareUnused : Run
@@ -361,7 +408,7 @@ noSpareUnused =
 
 pub with-no-spare-unused-it-keeps-its-sector : (old : Drive) → Happens old noSpareUnused
 unfolding happens
-with-no-spare-unused-it-keeps-its-sector old = happens old noSpareUnused refl refl refl refl refl
+with-no-spare-unused-it-keeps-its-sector old = happens old noSpareUnused refl
 
 -- a read that fails by eleven timeouts
 abbrev elevenTimeouts : List Turn
@@ -383,7 +430,7 @@ storedOnce =
 
 pub a-done-store-is-not-made-again : (old : Drive) → Happens old storedOnce
 unfolding happens
-a-done-store-is-not-made-again old = happens old storedOnce refl refl refl refl refl
+a-done-store-is-not-made-again old = happens old storedOnce refl
 
 -- A write to a block in the bad list is write/verify. It removes the block.
 abbrev leavesTheBadList : Run
@@ -401,7 +448,7 @@ leavesTheBadList =
 
 pub a-write-that-verifies-leaves-the-bad-list : (old : Drive) → Happens old leavesTheBadList
 unfolding happens
-a-write-that-verifies-leaves-the-bad-list old = happens old leavesTheBadList refl refl refl refl refl
+a-write-that-verifies-leaves-the-bad-list old = happens old leavesTheBadList refl
 
 -- Answer 3 kills the spare under trial. Then a write, a rewrite at the threshold and the store are not made.
 abbrev latched : Run
@@ -421,7 +468,7 @@ latched =
 
 pub under-the-latch-no-write-is-made : (old : Drive) → Happens old latched
 unfolding happens
-under-the-latch-no-write-is-made old = happens old latched refl refl refl refl refl
+under-the-latch-no-write-is-made old = happens old latched refl
 
 -- Ten reads of the start fail: bytes that are no image, an image with answer 1, timeouts.
 abbrev noTable : Run
@@ -439,7 +486,7 @@ noTable =
 
 pub with-no-table-reads-and-writes-fail : (old : Drive) → Happens old noTable
 unfolding happens
-with-no-table-reads-and-writes-fail old = happens old noTable refl refl refl refl refl
+with-no-table-reads-and-writes-fail old = happens old noTable refl
 
 -- FFFFFF puts the image in the data part, and FFFFFE leaves it there. 9728 and a write to FFFFFF fail.
 abbrev notBlocks : Run
@@ -459,7 +506,7 @@ notBlocks =
 
 pub numbers-of-no-block-touch-no-block : (old : Drive) → Happens old notBlocks
 unfolding happens
-numbers-of-no-block-touch-no-block old = happens old notBlocks refl refl refl refl refl
+numbers-of-no-block-touch-no-block old = happens old notBlocks refl
 
 -- One write is broken off by a byte other than 55, one by reset. Then the old bytes are read.
 abbrev brokenOffAtOffer06 : Run
@@ -478,7 +525,7 @@ brokenOffAtOffer06 =
 
 pub bytes-of-a-write-broken-off-do-not-count : (old : Drive) → Happens old brokenOffAtOffer06
 unfolding happens
-bytes-of-a-write-broken-off-do-not-count old = happens old brokenOffAtOffer06 refl refl refl refl refl
+bytes-of-a-write-broken-off-do-not-count old = happens old brokenOffAtOffer06 refl
 
 -- SHORT DATA, each time after a read that left sevens in the data part.
 abbrev sevensRead : List Turn
@@ -500,7 +547,7 @@ shortAndLong =
 
 pub short-data-ends-in-zeros-and-long-data-is-refused : (old : Drive) → Happens old shortAndLong
 unfolding happens
-short-data-ends-in-zeros-and-long-data-is-refused old = happens old shortAndLong refl refl refl refl refl
+short-data-ends-in-zeros-and-long-data-is-refused old = happens old shortAndLong refl
 
 -- A verify compares with the zeros too.
 abbrev shortVerified : Run
@@ -518,7 +565,7 @@ shortVerified =
 
 pub short-data-is-verified-with-its-zeros : (old : Drive) → Happens old shortVerified
 unfolding happens
-short-data-is-verified-with-its-zeros old = happens old shortVerified refl refl refl refl refl
+short-data-is-verified-with-its-zeros old = happens old shortVerified refl
 
 -- One byte to FFFFFE.
 abbrev shortToTheBuffer : Run
@@ -533,7 +580,7 @@ shortToTheBuffer =
 
 pub a-short-write-to-FFFFFE-leaves-zeros : (old : Drive) → Happens old shortToTheBuffer
 unfolding happens
-a-short-write-to-FFFFFE-leaves-zeros old = happens old shortToTheBuffer refl refl refl refl refl
+a-short-write-to-FFFFFE-leaves-zeros old = happens old shortToTheBuffer refl
 
 -- No byte to a number of no block.
 abbrev noneFed : Run
@@ -548,7 +595,7 @@ noneFed =
 
 pub with-no-byte-fed-the-whole-part-is-zeroed : (old : Drive) → Happens old noneFed
 unfolding happens
-with-no-byte-fed-the-whole-part-is-zeroed old = happens old noneFed refl refl refl refl refl
+with-no-byte-fed-the-whole-part-is-zeroed old = happens old noneFed refl
 
 -- Broken off at offer 06 the zeros stay; broken off before that raise nothing is zeroed.
 abbrev shortBrokenOff : Run
@@ -563,7 +610,7 @@ shortBrokenOff =
 
 pub the-zeros-of-a-write-broken-off-stay : (old : Drive) → Happens old shortBrokenOff
 unfolding happens
-the-zeros-of-a-write-broken-off-stay old = happens old shortBrokenOff refl refl refl refl refl
+the-zeros-of-a-write-broken-off-stay old = happens old shortBrokenOff refl
 
 abbrev brokenOffBeforeTheRaise : Run
 brokenOffBeforeTheRaise =
@@ -579,7 +626,7 @@ brokenOffBeforeTheRaise =
 
 pub before-that-raise-nothing-is-zeroed : (old : Drive) → Happens old brokenOffBeforeTheRaise
 unfolding happens
-before-that-raise-nothing-is-zeroed old = happens old brokenOffBeforeTheRaise refl refl refl refl refl
+before-that-raise-nothing-is-zeroed old = happens old brokenOffBeforeTheRaise refl
 
 -- THE HEALTH BLOCK
 
@@ -599,7 +646,7 @@ healthOfLists =
 
 pub the-health-block-counts-both-lists : (old : Drive) → Happens old healthOfLists
 unfolding happens
-the-health-block-counts-both-lists old = happens old healthOfLists refl refl refl refl refl
+the-health-block-counts-both-lists old = happens old healthOfLists refl
 
 -- It is the first finish after the start, and then no more.
 abbrev healthFirst : Run
@@ -614,7 +661,7 @@ healthFirst =
 
 pub the-health-block-shows-the-first-finish-once : (old : Drive) → Happens old healthFirst
 unfolding happens
-the-health-block-shows-the-first-finish-once old = happens old healthFirst refl refl refl refl refl
+the-health-block-shows-the-first-finish-once old = happens old healthFirst refl
 
 -- A read fails, so its block is bad; the store times out.
 abbrev healthUnstored : Run
@@ -629,7 +676,7 @@ healthUnstored =
 
 pub after-a-failed-store-the-health-block-shows-the-mark : (old : Drive) → Happens old healthUnstored
 unfolding happens
-after-a-failed-store-the-health-block-shows-the-mark old = happens old healthUnstored refl refl refl refl refl
+after-a-failed-store-the-health-block-shows-the-mark old = happens old healthUnstored refl
 
 -- The same where the store is done.
 abbrev healthStored : Run
@@ -644,7 +691,7 @@ healthStored =
 
 pub after-a-done-store-the-health-block-shows-no-mark : (old : Drive) → Happens old healthStored
 unfolding happens
-after-a-done-store-the-health-block-shows-no-mark old = happens old healthStored refl refl refl refl refl
+after-a-done-store-the-health-block-shows-no-mark old = happens old healthStored refl
 
 -- Answer 3 to a read latches, and changes no entry.
 abbrev healthUnsettled : Run
@@ -659,7 +706,7 @@ healthUnsettled =
 
 pub the-health-block-shows-a-latch-with-nothing-unstored : (old : Drive) → Happens old healthUnsettled
 unfolding happens
-the-health-block-shows-a-latch-with-nothing-unstored old = happens old healthUnsettled refl refl refl refl refl
+the-health-block-shows-a-latch-with-nothing-unstored old = happens old healthUnsettled refl
 
 -- Answer 3 kills the spare under trial, and under the latch that is not stored.
 abbrev healthLatched : Run
@@ -677,7 +724,7 @@ healthLatched =
 
 pub the-health-block-shows-a-latch-and-the-mark : (old : Drive) → Happens old healthLatched
 unfolding happens
-the-health-block-shows-a-latch-and-the-mark old = happens old healthLatched refl refl refl refl refl
+the-health-block-shows-a-latch-and-the-mark old = happens old healthLatched refl
 
 -- With no table a read of FFFFFD fails as any read does, and leaves the part; a write to it is an invalid number all the same.
 abbrev healthUnknown : Run
@@ -695,7 +742,7 @@ healthUnknown =
 
 pub with-no-table-there-is-no-health-block : (old : Drive) → Happens old healthUnknown
 unfolding happens
-with-no-table-there-is-no-health-block old = happens old healthUnknown refl refl refl refl refl
+with-no-table-there-is-no-health-block old = happens old healthUnknown refl
 
 -- Neither write to FFFFFD is good, and with 533 bytes fed it is those that it fails for.
 abbrev healthWritten : Run
@@ -714,7 +761,7 @@ healthWritten =
 
 pub a-write-to-FFFFFD-is-an-invalid-number : (old : Drive) → Happens old healthWritten
 unfolding happens
-a-write-to-FFFFFD-is-an-invalid-number old = happens old healthWritten refl refl refl refl refl
+a-write-to-FFFFFD-is-an-invalid-number old = happens old healthWritten refl
 
 -- Calls out of place, answers that are none and bytes of a wrong length stand among the calls of one write.
 abbrev refusedAmong : Run
@@ -733,7 +780,7 @@ refusedAmong =
 
 pub refused-calls-change-nothing : (old : Drive) → Happens old refusedAmong
 unfolding happens
-refused-calls-change-nothing old = happens old refusedAmong refl refl refl refl refl
+refused-calls-change-nothing old = happens old refusedAmong refl
 
 -- THE WEEK OF ONE BLOCK. The host asks for two rereads and sets the threshold at 2.
 
@@ -777,7 +824,7 @@ toWednesday =
 
 pub on-wednesday-it-moves-with-its-bytes : (old : Drive) → Happens old toWednesday
 unfolding happens
-on-wednesday-it-moves-with-its-bytes old = happens old toWednesday refl refl refl refl refl
+on-wednesday-it-moves-with-its-bytes old = happens old toWednesday refl
 
 -- The whole week.
 abbrev week : Run
@@ -792,7 +839,7 @@ week =
 
 pub on-saturday-the-new-bytes-are-read : (old : Drive) → Happens old week
 unfolding happens
-on-saturday-the-new-bytes-are-read old = happens old week refl refl refl refl refl
+on-saturday-the-new-bytes-are-read old = happens old week refl
 
 -- what the week leaves on the disk
 abbrev weekend : Drive → Sectors
@@ -819,4 +866,4 @@ weekAfter old =
 
 pub the-next-start-finds-the-block-at-its-spare : (old : Drive) → Happens old (weekAfter old)
 unfolding happens
-the-next-start-finds-the-block-at-its-spare old = happens old (weekAfter old) refl refl refl refl refl
+the-next-start-finds-the-block-at-its-spare old = happens old (weekAfter old) refl

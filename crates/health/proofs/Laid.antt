@@ -7,7 +7,7 @@ use lib.ListN.{length, length-append}
 use Rattle.buffer.specs.Runs.{over}
 use Rattle.buffer.proofs.Over.{over-over}
 use Rattle.drive.specs.Words.{withData}
-use Rattle.drive.proofs.Parts.{data-put}
+use Rattle.demands.proofs.Parts.{data-put}
 
 -- four bytes after the status, and the rest behind them
 pub runs-put : (u xs ys : List ℕ) → length u ≡ 536 → length xs ≡ 4 → length ys ≡ 528 → over 8 ys (over 4 xs u) ≡ withData u (xs ++ ys)

@@ -7,7 +7,7 @@ use Rattle.drive.specs.declared.Drive.{Drive}
 use Rattle.drive.specs.declared.Step.{Step}
 use Rattle.drive.specs.Calls.{imageOutOf}
 use Rattle.drive.specs.declared.Answer.{Answer}
-use Rattle.drive.proofs.Refusals.{image-keeps}
+use Rattle.demands.proofs.Refusals.{image-keeps}
 use Rattle.drive.proofs.Drive as D
 use Rattle.drive.proofs.Drive.Laws as D′
 use Rattle.drive.proofs.Step as S

@@ -7,7 +7,7 @@ use denote.Ref.{now}
 use lib.Dec.{leb}
 use Rattle.logic.proofs.Bools.{and-left}
 use Rattle.drive.specs.Access.{keptData}
-use Rattle.drive.proofs.Parts.{data-put}
+use Rattle.demands.proofs.Parts.{data-put}
 use borrow.Author.Needs.{needs}
 use Rattle.reading.proofs.keep.Statement.{statement}
 use Rattle.reading.proofs.keep.Tie as tie

@@ -19,40 +19,40 @@ use Rattle.table.proofs.Placing.{not-table, unused-spare}
 use Rattle.image.specs.Images.{wellFormed, tableOf}
 use Rattle.buffer.specs.Runs.{same}
 use Rattle.buffer.proofs.Compare.{same-equal}
 use Rattle.drive.specs.declared.Drive.{Drive}
 use Rattle.drive.specs.declared.Line.{Line}
 use Rattle.drive.specs.declared.Marks.{Marks}
 use Rattle.drive.specs.declared.Seen.{Seen}
 use Rattle.drive.specs.declared.Retry.{Retry}
 use Rattle.drive.specs.declared.Trial.{Trial}
 use Rattle.drive.specs.declared.Phase.{Phase}
 use Rattle.drive.specs.declared.Phase.the-variants as phase
 use Rattle.drive.specs.declared.Answer.{Answer}
 use Rattle.drive.specs.declared.Answer.the-variants as answer
 use Rattle.drive.specs.declared.Refusal.the-variants as refusal
 use Rattle.drive.specs.declared.Ending.{Ending}
 use Rattle.drive.specs.declared.Ending.the-variants as ending
 use Rattle.drive.specs.declared.Change.the-variants as change
 use Rattle.drive.specs.declared.Outcome.{Outcome}
 use Rattle.drive.specs.declared.Outcome.the-variants as outcome
 use Rattle.drive.specs.Words.{dataOf, withData, numberOf, opcodeOf}
 use Rattle.drive.specs.Records.{recordOk, lineOk}
 use Rattle.drive.specs.Results.{Out, Result, outOf, guarded, finish, latched, clean}
 use Rattle.drive.specs.Handshake.{raised, lowered, fedTo, rested}
 use Rattle.drive.specs.Retries.{met, passed, failed, goesOnReading, afterRead}
 use Rattle.drive.specs.Sparing.{tried, checked}
 use Rattle.drive.specs.Access.{startAnswered, keptData, reads, readAnswered, writeAnswered, answered}
 use Rattle.drive.specs.Calls.{Call, raise, lower, feed, surface, reset, raiseOf, lowerOf, feedOf, surfaceOf, resetOf, stepOf, startOf}
 use Rattle.drive.specs.History.{Bytes, Content, held, unreadable, Sectors, Where, nowhere, at, History, padded, next, heard, learns, acts, underway, touches, touchesFirst, reports, placeNext, candidatesNext, Allows, blank}
 use Rattle.drive.specs.Surface.{putSector, brings}
 use Rattle.drive.specs.Run.{Event, World, made, Lawful, entries, begins, Demand3}
-use Rattle.drive.proofs.Parts.{data-with}
-use Rattle.drive.proofs.Statuses.{fails, isMove}
-use Rattle.drive.proofs.Sim.{Ln, W, Hs, Blocky, placeOf, Books, Quiet, Own, Ground, resting, Bound, Spot, Work, rereads, writing, trying, checking, Sim, at-start, at-rest, at-work, Good, ev, declined, sim-apart}
-use Rattle.drive.proofs.Books.{held-inj, putSector-same, books-write, books-aside, books-weaken, books-only, books-learn}
-use Rattle.drive.proofs.Entries.{fits-silent}
-use Rattle.drive.proofs.Rest.{ruled, loads, Keeps, read-checked, write-checked, rests}
-use Rattle.drive.proofs.Busy.{ends-fine, ends-failed, goes-checking, goes-missed, goes-broken, goes-verified, goes-on, goes-stopped, reads-fine}
+use Rattle.demands.proofs.Parts.{data-with}
+use Rattle.demands.proofs.Statuses.{fails, isMove}
+use Rattle.demands.proofs.Sim.{Ln, W, Hs, Blocky, placeOf, Books, Quiet, Own, Ground, resting, Bound, Spot, Work, rereads, writing, trying, checking, Sim, at-start, at-rest, at-work, Good, ev, declined, sim-apart}
+use Rattle.demands.proofs.Books.{held-inj, putSector-same, books-write, books-aside, books-weaken, books-only, books-learn}
+use Rattle.demands.proofs.Entries.{fits-silent}
+use Rattle.demands.proofs.Rest.{ruled, loads, Keeps, read-checked, write-checked, rests}
+use Rattle.demands.proofs.Busy.{ends-fine, ends-failed, goes-checking, goes-missed, goes-broken, goes-verified, goes-on, goes-stopped, reads-fine}
 
 -- what a write done leaves: its bytes, or nothing that can be read
 not-unreadable : {y x : Bytes} → unreadable ≡ held y → y ≡ x

@@ -15,24 +15,24 @@ use Rattle.logic.proofs.Bools.{branch, clash}
 use Rattle.table.specs.declared.Table.{Table}
 use Rattle.table.specs.Tables.{spareList, sectorOf, Shaped}
 use Rattle.table.proofs.Placing.{sectors-apart}
 use Rattle.drive.specs.declared.Drive.{Drive}
 use Rattle.drive.specs.declared.Line.{Line}
 use Rattle.drive.specs.declared.Marks.{Marks}
 use Rattle.drive.specs.declared.Retry.{Retry}
 use Rattle.drive.specs.declared.Trial.{Trial}
 use Rattle.drive.specs.declared.Offer.{Offer}
 use Rattle.drive.specs.declared.Offer.the-variants as offer
 use Rattle.drive.specs.declared.Phase.{Phase}
 use Rattle.drive.specs.declared.Phase.the-variants as phase
 use Rattle.drive.specs.declared.Answer.{Answer}
 use Rattle.drive.specs.declared.Answer.the-variants as answer
 use Rattle.drive.specs.declared.Refusal.{Refusal}
 use Rattle.drive.specs.Words.{dataOf, numberOf, opcodeOf, blockOf}
 use Rattle.drive.specs.Results.{Out, Result, outOf, refuse}
 use Rattle.drive.specs.Calls.{Call}
 use Rattle.drive.specs.History.{Bytes, Content, held, Sectors, Where, nowhere, at, Entry, History, In, padded, next, Fits, Apart}
 use Rattle.drive.specs.Run.{Event, World, after, Permits, entryOf}
-use Rattle.drive.proofs.Parts.{Prefix, Cmd}
+use Rattle.demands.proofs.Parts.{Prefix, Cmd}
 
 -- a line, a world and a history, written out
 abbrev pub Ln : Phase → Marks → Bytes → ℕ → ℕ → Line

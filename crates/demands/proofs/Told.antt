@@ -13,12 +13,12 @@ use Rattle.geometry.specs.declared.Block.{Block}
 use Rattle.logic.proofs.Bools.{clash, and-left, and-right, and-true}
 use Rattle.table.specs.Tables.{spareList, sectorOf}
 use Rattle.image.specs.Images.{tableOf}
 use Rattle.drive.specs.Words.{dataOf, numberOf, blockOf}
 use Rattle.drive.specs.History.{Bytes, Sectors, Entry, History, blank, In, put, contents, isRefused, brought, learns, reports, good, isRead, hasWritten, bytesOf, candidatesNext, heard, next, Fits, Allows}
 use Rattle.drive.specs.Calls.{startOf}
 use Rattle.drive.specs.Run.{entries, begins}
 use Rattle.drive.specs.Told.{Report, found, written, attempted, given, nothing, reportOf, reportsOf, Before, none, gave, Again, Right, Demand3Told}
-use Rattle.drive.proofs.Demand3.{demand-3}
+use Rattle.demands.proofs.Demand3.{demand-3}
 
 -- a block's candidates are all allowed by what was reported of it, and one that was given is the only one
 record Agrees (cands latest : List Bytes) (before : Before) : Type 0 where

@@ -17,34 +17,34 @@ use Rattle.table.specs.declared.Table.{Table}
 use Rattle.table.specs.Tables.{spareList, badList, tableOk, killedNext, listed, withBad, withoutBad}
 use Rattle.table.proofs.Lists.{entered-spares, entered-shaped, removed-spares, removed-shaped}
 use Rattle.image.specs.Images.{tableImage}
 use Rattle.drive.specs.declared.Line.{Line}
 use Rattle.drive.specs.declared.Marks.{Marks}
 use Rattle.drive.specs.declared.Seen.{Seen}
 use Rattle.drive.specs.declared.Retry.{Retry}
 use Rattle.drive.specs.declared.Trial.{Trial}
 use Rattle.drive.specs.declared.Phase.{Phase}
 use Rattle.drive.specs.declared.Phase.the-variants as phase
 use Rattle.drive.specs.declared.Answer.{Answer}
 use Rattle.drive.specs.declared.Answer.the-variants as answer
 use Rattle.drive.specs.declared.Ending.{Ending}
 use Rattle.drive.specs.declared.Ending.the-variants as ending
 use Rattle.drive.specs.declared.Change.{Change}
 use Rattle.drive.specs.declared.Change.the-variants as change
 use Rattle.drive.specs.declared.Outcome.{Outcome}
 use Rattle.drive.specs.declared.Outcome.the-variants as outcome
 use Rattle.drive.specs.Words.{dataOf, numberOf, opcodeOf, blockOf}
 use Rattle.drive.specs.Results.{Result, changed, outOf, toPhase, say, finish, told, altered, latched, clean}
 use Rattle.drive.specs.Retries.{goesOnReading}
 use Rattle.drive.specs.Sparing.{attempt, onSpare, once, nextAttempt, missed, brokenOff, verified}
 use Rattle.drive.specs.Access.{settled, lost, reads}
 use Rattle.drive.specs.Calls.{surface}
 use Rattle.drive.specs.History.{Bytes, held, Sectors, Where, at, Entry, History, In, put, padded, readAsked, isTableSector, next, heard, acts, underway, touches, touchesFirst, reports, moves, good, isRead, hasWritten, bytesOf}
 use Rattle.drive.specs.Surface.{target, sent, landed, brings}
 use Rattle.drive.specs.Run.{Event, entryOf}
-use Rattle.drive.proofs.Statuses.{fails, isMove, good-is, moves-is, data-ended}
-use Rattle.drive.proofs.Sim.{Ln, W, Hs, Blocky, placeOf, Books, Quiet, Own, Ground, resting, Bound, Spot, rereads, trying, checking, at-rest, at-work, Good, ev}
-use Rattle.drive.proofs.Books.{same-block, held-inj, books-table, books-weaken, books-only, books-more, books-in, books-dead, books-moved}
-use Rattle.drive.proofs.Entries.{fits-silent, fits-failed, fits-good, entry-none, entry-failed, candidates-kept, no-learn, entry-good, entry-moved, entry-added}
+use Rattle.demands.proofs.Statuses.{fails, isMove, good-is, moves-is, data-ended}
+use Rattle.demands.proofs.Sim.{Ln, W, Hs, Blocky, placeOf, Books, Quiet, Own, Ground, resting, Bound, Spot, rereads, trying, checking, at-rest, at-work, Good, ev}
+use Rattle.demands.proofs.Books.{same-block, held-inj, books-table, books-weaken, books-only, books-more, books-in, books-dead, books-moved}
+use Rattle.demands.proofs.Entries.{fits-silent, fits-failed, fits-good, entry-none, entry-failed, candidates-kept, no-learn, entry-good, entry-moved, entry-added}
 
 bound-as : {ca ca' : Block → List Bytes} {b : Block} {rd : Bool} {u mine : Bytes} → ca' ≡ ca → Bound ca b rd u mine → Bound ca' b rd u mine
 bound-as {b = b} {u = u} e k = record { as-read = λ o. rw e (k .as-read o); as-write = k .as-write }

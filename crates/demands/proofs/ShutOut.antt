@@ -17,36 +17,36 @@ use Rattle.table.specs.Tables.{spareList, badList, sectorOf, killedNext}
 use Rattle.image.specs.Images.{wellFormed}
 use Rattle.buffer.specs.Runs.{same}
 use Rattle.buffer.proofs.Compare.{same-equal}
 use Rattle.drive.specs.declared.Drive.{Drive}
 use Rattle.drive.specs.declared.Line.{Line}
 use Rattle.drive.specs.declared.Offer.the-variants as offer
 use Rattle.drive.specs.declared.Marks.{Marks}
 use Rattle.drive.specs.declared.Seen.{Seen}
 use Rattle.drive.specs.declared.Retry.{Retry}
 use Rattle.drive.specs.declared.Trial.{Trial}
 use Rattle.drive.specs.declared.Phase.{Phase}
 use Rattle.drive.specs.declared.Phase.the-variants as phase
 use Rattle.drive.specs.declared.Answer.{Answer}
 use Rattle.drive.specs.declared.Answer.the-variants as answer
 use Rattle.drive.specs.declared.Ending.{Ending}
 use Rattle.drive.specs.declared.Ending.the-variants as ending
 use Rattle.drive.specs.declared.Change.{Change}
 use Rattle.drive.specs.declared.Change.the-variants as change
 use Rattle.drive.specs.declared.Outcome.{Outcome}
 use Rattle.drive.specs.declared.Outcome.the-variants as outcome
 use Rattle.drive.specs.Words.{dataOf, withData, opcodeOf, numberOf, retriesOf, thresholdOf, blockOf, ending2, statusOf}
 use Rattle.drive.specs.Records.{recordOk}
 use Rattle.drive.specs.Values.{Typed}
 use Rattle.drive.specs.Results.{Out, Result, changed, outOf, finish, altered, clean}
 use Rattle.drive.specs.Handshake.{writes, noNumber, acted, firstRead, goesOn, lowered}
 use Rattle.drive.specs.Retries.{met, passed, failed, isReread, goesOnReading, afterRead}
 use Rattle.drive.specs.Sparing.{nextAttempt, missed, brokenOff, verified, tried, checked}
 use Rattle.drive.specs.Access.{toRead, toWrite, keptData, startAnswered, storeAnswered, lost, settled, reads, readAnswered, writeAnswered, answered}
 use Rattle.drive.specs.Calls.{Call, lower, surface, lowerOf, surfaceOf, stepOf}
 use Rattle.drive.specs.History.{bit, isFinished, good}
-use Rattle.drive.proofs.Statuses.{fails, good-is}
-use Rattle.drive.proofs.Sim.{Ln}
-use Rattle.drive.proofs.Valid.{step-valid}
+use Rattle.demands.proofs.Statuses.{fails, good-is}
+use Rattle.demands.proofs.Sim.{Ln}
+use Rattle.demands.proofs.Valid.{step-valid}
 
 -- a result that is finished, and good by its status 1
 abbrev pub Fine : Result → Bool

@@ -15,25 +15,25 @@ use Rattle.logic.proofs.Bools.{branch, clash}
 use Rattle.lists.specs.Lists.{memberOf}
 use Rattle.table.specs.declared.Table.{Table}
 use Rattle.table.specs.Tables.{spareList, badList}
 use Rattle.drive.specs.declared.Line.{Line}
 use Rattle.drive.specs.declared.Marks.{Marks}
 use Rattle.drive.specs.declared.Offer.{Offer}
 use Rattle.drive.specs.declared.Phase.the-variants as phase
 use Rattle.drive.specs.declared.Answer.the-variants as answer
 use Rattle.drive.specs.declared.Ending.{Ending}
 use Rattle.drive.specs.declared.Ending.the-variants as ending
 use Rattle.drive.specs.Words.{response, dataOf, numberOf, opcodeOf, blockOf}
 use Rattle.drive.specs.Results.{Result, outOf, clean}
 use Rattle.drive.specs.Handshake.{ends, firstRead, plainWrite, firstAttempt, writes, noNumber, acted}
 use Rattle.drive.specs.Calls.{lower}
 use Rattle.drive.specs.History.{Bytes, Sectors, Where, at, Entry, History, padded, next, heard, learns, acts, underway, touches, touchesFirst, reports, moves, good, hasWritten}
 use Rattle.drive.specs.Run.{entryOf}
-use Rattle.drive.proofs.Parts.{Cmd}
-use Rattle.drive.proofs.Numbers.{block-left}
-use Rattle.drive.proofs.Statuses.{fails, isMove, good-is, moves-is}
-use Rattle.drive.proofs.Sim.{Ln, W, Hs, Blocky, placeOf, Books, Quiet, Ground, resting, Bound, Spot, rereads, writing, trying, at-rest, at-work, Good, ev}
-use Rattle.drive.proofs.Books.{books-weaken}
-use Rattle.drive.proofs.Entries.{fits-silent, fits-failed, fits-first, entry-none, ground-failed, ground-none}
+use Rattle.demands.proofs.Parts.{Cmd}
+use Rattle.demands.proofs.Numbers.{block-left}
+use Rattle.demands.proofs.Statuses.{fails, isMove, good-is, moves-is}
+use Rattle.demands.proofs.Sim.{Ln, W, Hs, Blocky, placeOf, Books, Quiet, Ground, resting, Bound, Spot, rereads, writing, trying, at-rest, at-work, Good, ev}
+use Rattle.demands.proofs.Books.{books-weaken}
+use Rattle.demands.proofs.Entries.{fits-silent, fits-failed, fits-first, entry-none, ground-failed, ground-none}
 
 module _ (start σ : Sectors) (t : Table) (mk : Marks) (pl : Block → Where) (ca : Block → List Bytes) (u c : Bytes) (n f : ℕ) (q : Offer) (h fd : Bytes) (to' wr : Bool) (lr : Where)
     (lc : length c ≡ 6) (gr : Ground (mk .known) t σ pl ca) (go : (eqb (response q) 0x02 || eqb (response q) 0x06) ≡ true) (cm : Cmd c h)

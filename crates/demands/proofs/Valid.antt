@@ -23,33 +23,33 @@ use Rattle.image.specs.Images.{wellFormed, tableOf}
 use Rattle.image.proofs.Entries.{bytes-drop}
 use Rattle.image.proofs.RoundTrip.{read-ok, read-shaped}
 use Rattle.buffer.specs.Runs.{over, same}
 use Rattle.drive.specs.declared.Drive.{Drive}
 use Rattle.drive.specs.declared.Line.{Line}
 use Rattle.drive.specs.declared.Marks.{Marks}
 use Rattle.drive.specs.declared.Seen.{Seen}
 use Rattle.drive.specs.declared.Retry.{Retry}
 use Rattle.drive.specs.declared.Trial.{Trial}
 use Rattle.drive.specs.declared.Offer.{Offer}
 use Rattle.drive.specs.declared.Offer.the-variants as offer
 use Rattle.drive.specs.declared.Phase.{Phase}
 use Rattle.drive.specs.declared.Phase.the-variants as phase
 use Rattle.drive.specs.declared.Change.{Change}
 use Rattle.drive.specs.declared.Change.the-variants as change
 use Rattle.drive.specs.declared.Outcome.{Outcome}
 use Rattle.drive.specs.declared.Outcome.the-variants as outcome
 use Rattle.drive.specs.Words.{dataOf, numberOf, opcodeOf, blockOf}
 use Rattle.drive.specs.Records.{retryOk, trialOk, phaseOk, lineOk, recordOk}
 use Rattle.drive.specs.Results.{Out, Result, changed, outOf, toMarked, guarded, altered}
 use Rattle.drive.specs.Handshake.{raisedIdle, commandOffer, offers, raised, writes, noNumber, acted, goesOn, lowered, fedTo, rested}
 use Rattle.drive.specs.Retries.{met, passed, failed, isReread, goesOnReading, afterRead}
 use Rattle.drive.specs.Sparing.{onSpare, once, nextAttempt, missed, brokenOff, verified, tried, checked}
 use Rattle.drive.specs.Access.{toRead, toWrite, startAnswered, storeAnswered, lost, settled, reads, readAnswered, writeAnswered, answered}
 use Rattle.drive.specs.Calls.{Call, raise, lower, feed, surface, reset, raiseOf, lowerOf, feedOf, surfaceOf, resetOf, stepOf, started, startOf}
 use Rattle.drive.specs.Values.{Bytewise, Typed, TypedCall, TypedCalls, NoCode1, Code1Never}
-use Rattle.drive.proofs.Numbers.{block-left}
-use Rattle.drive.proofs.Rest.{ruled, loads}
-use Rattle.drive.proofs.Busy.{killed-count}
-use Rattle.drive.proofs.Refusals.{code-1-only}
+use Rattle.demands.proofs.Numbers.{block-left}
+use Rattle.demands.proofs.Rest.{ruled, loads}
+use Rattle.demands.proofs.Busy.{killed-count}
+use Rattle.demands.proofs.Refusals.{code-1-only}
 
 -- Bytes in parts of a list.
 bytes-none : Bytewise []

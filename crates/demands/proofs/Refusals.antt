@@ -12,33 +12,33 @@ use Rattle.table.specs.declared.Table.{Table}
 use Rattle.table.specs.Tables.{spareList, badList}
 use Rattle.image.specs.Images.{wellFormed, tableImage}
 use Rattle.buffer.specs.Runs.{same}
 use Rattle.drive.specs.declared.Drive.{Drive}
 use Rattle.drive.specs.declared.Line.{Line}
 use Rattle.drive.specs.declared.Marks.{Marks}
 use Rattle.drive.specs.declared.Seen.{Seen}
 use Rattle.drive.specs.declared.Retry.{Retry}
 use Rattle.drive.specs.declared.Trial.{Trial}
 use Rattle.drive.specs.declared.Offer.{Offer}
 use Rattle.drive.specs.declared.Offer.the-variants as offer
 use Rattle.drive.specs.declared.Phase.{Phase}
 use Rattle.drive.specs.declared.Phase.the-variants as phase
 use Rattle.drive.specs.declared.Answer.{Answer}
 use Rattle.drive.specs.declared.Answer.the-variants as answer
 use Rattle.drive.specs.declared.Refusal.the-variants as refusal
 use Rattle.drive.specs.declared.Change.{Change}
 use Rattle.drive.specs.declared.Change.the-variants as change
 use Rattle.drive.specs.declared.Outcome.{Outcome}
 use Rattle.drive.specs.declared.Outcome.the-variants as outcome
 use Rattle.drive.specs.Words.{codeIn, numberOf, opcodeOf}
 use Rattle.drive.specs.Records.{recordOk}
 use Rattle.drive.specs.Results.{Out, Result, changed, outOf, guarded, refuse}
 use Rattle.drive.specs.Handshake.{raisedIdle, raised, writes, noNumber, acted, goesOn, lowered, fedTo, rested}
 use Rattle.drive.specs.Retries.{afterRead}
 use Rattle.drive.specs.Sparing.{nextAttempt, missed, brokenOff, verified, tried, checked}
 use Rattle.drive.specs.Access.{toRead, toWrite, startAnswered, storeAnswered, lost, settled, reads, readAnswered, writeAnswered, answered}
 use Rattle.drive.specs.Calls.{Call, raise, lower, feed, surface, reset, raiseOf, lowerOf, feedOf, surfaceOf, resetOf, stepOf, startOf, imageOutOf}
 use Rattle.drive.specs.History.{isRefused}
-use Rattle.drive.proofs.Rest.{ruled, loads}
+use Rattle.demands.proofs.Rest.{ruled, loads}
 
 -- whether an answer is code 1
 abbrev pub isCode1 : Answer → Bool

@@ -16,28 +16,28 @@ use Rattle.table.specs.Tables.{spareList}
 use Rattle.table.proofs.Placing.{not-table}
 use Rattle.image.specs.Images.{tableImage}
 use Rattle.buffer.specs.Runs.{over}
 use Rattle.drive.specs.declared.Line.{Line}
 use Rattle.drive.specs.declared.Marks.{Marks}
 use Rattle.drive.specs.declared.Offer.{Offer}
 use Rattle.drive.specs.declared.Offer.the-variants as offer
 use Rattle.drive.specs.declared.Phase.{Phase}
 use Rattle.drive.specs.declared.Phase.the-variants as phase
 use Rattle.drive.specs.declared.Answer.{Answer}
 use Rattle.drive.specs.declared.Answer.the-variants as answer
 use Rattle.drive.specs.declared.Refusal.the-variants as refusal
 use Rattle.drive.specs.Words.{dataOf, numberOf, opcodeOf}
 use Rattle.drive.specs.Results.{Result, outOf, say, toPhase}
 use Rattle.drive.specs.Handshake.{raisedIdle, commandOffer, offers, raised, goesOn, lowered, fedTo, rested, stray}
 use Rattle.drive.specs.Access.{toRead, toWrite, storeAnswered, answered}
 use Rattle.drive.specs.Calls.{Call, raise, lower, feed, surface, reset}
 use Rattle.drive.specs.History.{Bytes, Content, held, unreadable, Sectors, Where, at, Entry, History, next, heard, learns, acts, underway, touches, touchesFirst, reports, placeNext, candidatesNext}
 use Rattle.drive.specs.Surface.{landed}
 use Rattle.drive.specs.Run.{World, entryOf}
-use Rattle.drive.proofs.Parts.{data-length, Prefix, prefix-none, prefix-more, data-fed, data-padded, Cmd, cmd-of, cmd-more}
-use Rattle.drive.proofs.Sim.{Ln, W, Hs, Books, Quiet, Ground, Shake, storing, resting, offer1, heads, offer2, offer3, offer4, takes, offer6, Sim, at-rest, Good, ev, declined}
-use Rattle.drive.proofs.Books.{books-aside}
-use Rattle.drive.proofs.Entries.{fits-silent, ground-none, no-learn}
-use Rattle.drive.proofs.Acting.{acts-well}
+use Rattle.demands.proofs.Parts.{data-length, Prefix, prefix-none, prefix-more, data-fed, data-padded, Cmd, cmd-of, cmd-more}
+use Rattle.demands.proofs.Sim.{Ln, W, Hs, Books, Quiet, Ground, Shake, storing, resting, offer1, heads, offer2, offer3, offer4, takes, offer6, Sim, at-rest, Good, ev, declined}
+use Rattle.demands.proofs.Books.{books-aside}
+use Rattle.demands.proofs.Entries.{fits-silent, ground-none, no-learn}
+use Rattle.demands.proofs.Acting.{acts-well}
 
 -- each call's own rule, after the codes 1 and 2
 abbrev pub ruled : Call → Table → Line → Bytes → Result

@@ -13,32 +13,32 @@ use Rattle.lists.specs.Lists.{memberOf}
 use Rattle.table.specs.declared.Table.{Table}
 use Rattle.table.specs.Tables.{badList, tableOk, killedNext}
 use Rattle.buffer.specs.Runs.{same}
 use Rattle.drive.specs.declared.Drive.{Drive}
 use Rattle.drive.specs.declared.Line.{Line}
 use Rattle.drive.specs.declared.Marks.{Marks}
 use Rattle.drive.specs.declared.Seen.{Seen}
 use Rattle.drive.specs.declared.Retry.{Retry}
 use Rattle.drive.specs.declared.Trial.{Trial}
 use Rattle.drive.specs.declared.Phase.{Phase}
 use Rattle.drive.specs.declared.Phase.the-variants as phase
 use Rattle.drive.specs.declared.Change.{Change}
 use Rattle.drive.specs.declared.Change.the-variants as change
 use Rattle.drive.specs.declared.Outcome.{Outcome}
 use Rattle.drive.specs.declared.Outcome.the-variants as outcome
 use Rattle.drive.specs.Words.{dataOf}
 use Rattle.drive.specs.Records.{retryOk, trialOk, phaseOk, lineOk, recordOk}
 use Rattle.drive.specs.Results.{Out, Result, changed, outOf, guarded, refuse, altered}
 use Rattle.drive.specs.Handshake.{raised, lowered, fedTo, rested}
 use Rattle.drive.specs.Retries.{met, passed, failed, isReread, goesOnReading, afterRead}
 use Rattle.drive.specs.Sparing.{nextAttempt, missed, brokenOff, verified, tried, checked}
 use Rattle.drive.specs.Access.{toRead, toWrite, lost, settled, reads, readAnswered, writeAnswered, answered}
 use Rattle.drive.specs.Calls.{Call, raise, lower, feed, surface, reset, raiseOf, lowerOf, feedOf, surfaceOf, resetOf, stepOf}
 use Rattle.drive.specs.History.{isRefused}
 use Rattle.drive.specs.Bound.{isCommand, accesses, Demand1Bound}
-use Rattle.drive.proofs.Rest.{ruled, loads}
-use Rattle.drive.proofs.Busy.{killed-count}
-use Rattle.drive.proofs.Refusals.{refused-unchanged}
-use Rattle.drive.proofs.Valid.{RetryFacts, retry-facts, TrialFacts, trial-facts, on-spare}
+use Rattle.demands.proofs.Rest.{ruled, loads}
+use Rattle.demands.proofs.Busy.{killed-count}
+use Rattle.demands.proofs.Refusals.{refused-unchanged}
+use Rattle.demands.proofs.Valid.{RetryFacts, retry-facts, TrialFacts, trial-facts, on-spare}
 
 -- reads that a read command may still ask for, the awaited one included
 abbrev reading : Bool → ℕ → ℕ → ℕ
