@@ -3,7 +3,7 @@ use mathlib.Core.Path.{refl}
 use lib.ListN.{replicate}
 use Rattle.drive.specs.declared.Drive.{Drive}
 use Rattle.drive.specs.History.{blank, Allows}
-use Rattle.drive.proofs.Runs.{Run, Happens, calls, entered}
+use Rattle.drive.proofs.Transcripts.{Run, Happens, calls, entered}
 use Rattle.demands.proofs.Demand3.{demand-3}
 
 pub allowed : (old : Drive) (r : Run) → Happens old r → Allows (r .sectors) blank (entered old r)

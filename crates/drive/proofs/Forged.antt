@@ -22,7 +22,7 @@ use Rattle.drive.specs.declared.Refusal.the-variants as refusal
 use Rattle.drive.specs.Words.{dataOf, opcodeOf, numberOf}
 use Rattle.drive.specs.Calls.{Call, raise, lower, feed, surface, reset}
 use Rattle.drive.specs.History.{Bytes, held, unreadable, Sectors, Where, nowhere, at, Entry, History, blank, isAt, In, padded, bit, learns, acts, underway, reports, good, moves, isRead, bytesOf, touches, touchesFirst, hasWritten, placeNext, candidatesNext, heard, next, Fits, Apart, Allows}
-use Rattle.drive.proofs.Runs.{sector, go, done, timesOut, command}
+use Rattle.drive.proofs.Transcripts.{sector, go, done, timesOut, command}
 
 -- what the rules ask at the last entry of a list
 abbrev AtLast : Sectors → History → List Entry → Type 0

@@ -1,0 +1,298 @@
+-- Transcripts: a list of calls beside what each is answered, and one fold that computes all that a run is about.
+use mathlib.Core.Path.{_≡_, refl, ap, _∙_}
+use mathlib.Core.Bool.{Bool, true, false, cond, _&&_}
+use mathlib.Core.List.{List, [], _∷_, _++_}
+use Prim.Native.Nat.{ℕ, _+_, _/_, _%_}
+use lib.Dec.{eqb}
+use lib.ListN.{getD, replicate}
+use Rattle.logic.proofs.Bools.{clash, and-left, and-right}
+use Rattle.geometry.specs.Geometry.{homeOf, tableSector}
+use Rattle.geometry.specs.declared.Block.{Block}
+use Rattle.lists.specs.Lists.{dead, indexOf, memberOf, entryOk, entriesOk}
+use Rattle.table.specs.Tables.{listsOk, sectorOf, listed, killedNext, withBad, removed, withoutBad}
+use Rattle.image.specs.Images.{wide, triple, triples, listPart, framedPart, imageOf, narrow, entryAt, entriesFrom, framed, wellFormed, tableOf}
+use Rattle.buffer.specs.Runs.{over, same, allAre}
+use Rattle.buffer.proofs.Compare.{same-equal}
+use Rattle.drive.specs.declared.Drive.{Drive}
+use Rattle.drive.specs.declared.Answer.{Answer}
+use Rattle.drive.specs.declared.Answer.the-variants as answer
+use Rattle.drive.specs.Words.{response, codeOf, dataOf, withData, opcodeOf, numberOf, ending1, ending2, ending3, statusOf}
+use Rattle.drive.specs.Records.{retryOk, trialOk, phaseOk, lineOk, recordOk}
+use Rattle.drive.specs.Results.{Out}
+use Rattle.drive.specs.Handshake.{raisedIdle, commandOffer, raised, writes, noNumber, health, acted, goesOn, lowered, fedTo, rested}
+use Rattle.drive.specs.Retries.{failed, goesOnReading, afterRead}
+use Rattle.drive.specs.Sparing.{nextAttempt, missed, brokenOff, verified, tried, checked}
+use Rattle.drive.specs.Access.{toRead, toWrite, startAnswered, storeAnswered, keptData, lost, settled, reads, readAnswered, writeAnswered, answered}
+use Rattle.drive.specs.Calls.{Call, raise, lower, feed, surface, reset, raiseOf, lowerOf, feedOf, surfaceOf, resetOf, startOf, stepOf}
+use Rattle.drive.specs.History.{Bytes, Content, held, unreadable, Sectors, Where, nowhere, at, Entry, History, blank, isRefused, readAsked, padded, bit, learns, acts, underway, reports, good, moves, isRead, bytesOf, touches, touchesFirst, hasWritten, placeNext, candidatesNext, heard, next, Allows}
+use Rattle.drive.specs.Surface.{brings}
+use Rattle.drive.specs.Run.{Event, World, after, rule, unless, made, Lawful, entries, entryOf, begins}
+
+-- THE SURFACE'S RULES, AS A TEST
+
+abbrev pub holds : Content → Bytes → Bool
+holds (held x) bs = same x bs
+holds unreadable bs = false
+
+abbrev pub bringsIt : Where → Bool → Bytes → Sectors → Bool
+bringsIt nowhere done bs σ = true
+bringsIt (at s) true bs σ = holds (σ s) bs
+bringsIt (at s) false bs σ = true
+
+abbrev pub keeps : World → Call → Bool
+keeps w raise = true
+keeps w (lower b) = true
+keeps w (feed bs) = true
+keeps w (surface a bs) = bringsIt (readAsked (w .asked)) (eqb a 0) bs (w .sectors)
+keeps w reset = true
+
+abbrev pub permitted : World → Event → Out → Bool
+permitted w e x = cond (isRefused (x .step .answer)) true (keeps w (e .call))
+
+abbrev pub isLawful : World → List Event → Bool
+isLawful w [] = true
+isLawful w (e ∷ es) = permitted w e (made w e) && isLawful (after w e (made w e)) es
+
+holds-held : (c : Content) (bs : Bytes) → holds c bs ≡ true → c ≡ held bs
+holds-held (held x) bs h = rw (same-equal x bs h)
+holds-held unreadable bs h = clash h refl
+
+brings-it : (p : Where) (done : Bool) (bs : Bytes) (σ : Sectors) → bringsIt p done bs σ ≡ true → brings p done bs σ
+brings-it nowhere done bs σ h = tt
+brings-it (at s) true bs σ h = holds-held (σ s) bs h
+brings-it (at s) false bs σ h = tt
+
+keeps-rule : (w : World) (c : Call) → keeps w c ≡ true → rule w c
+keeps-rule w raise h = tt
+keeps-rule w (lower b) h = tt
+keeps-rule w (feed bs) h = tt
+keeps-rule w (surface a bs) h = brings-it (readAsked (w .asked)) (eqb a 0) bs (w .sectors) h
+keeps-rule w reset h = tt
+
+is-permitted : (w : World) (c : Call) (refused : Bool) → cond refused true (keeps w c) ≡ true → unless refused (rule w c)
+is-permitted w c true h = tt
+is-permitted w c false h = keeps-rule w c h
+
+pub lawful-by-test : (w : World) (es : List Event) → isLawful w es ≡ true → Lawful w es
+lawful-by-test w [] h = tt
+lawful-by-test w (e ∷ es) h =
+    let p = permitted w e (made w e) in
+    let w' = after w e (made w e) in (
+      is-permitted w (e .call) (isRefused (made w e .step .answer)) (and-left p (isLawful w' es) h),
+      lawful-by-test w' es (and-right p (isLawful w' es) h),
+    )
+
+-- TRANSCRIPTS
+
+-- an answer in document 01's numbers; a finish with the four status bytes that it leaves
+pub data Said : Type 0 where
+  wait : Said
+  offer : ℕ → Said
+  read : ℕ → Said
+  write : ℕ → Said
+  store : Said
+  finished : ℕ → ℕ → ℕ → ℕ → Said
+  refused : ℕ → Said
+
+abbrev pub saidBy : Answer → Bytes → Said
+saidBy answer.Wait u = wait
+saidBy (answer.Offer o) u = offer (response o)
+saidBy (answer.Read s) u = read (s .0)
+saidBy (answer.Write s) u = write (s .0)
+saidBy answer.Store u = store
+saidBy answer.Finished u = finished (getD u 0 0) (getD u 1 0) (getD u 2 0) (getD u 3 0)
+saidBy (answer.Refused r) u = refused (codeOf r)
+
+abbrev pub told : List Entry → List Said
+told [] = []
+told (o ∷ os) = saidBy (o .answer) (o .buffer) ∷ told os
+
+-- a call beside its answer
+pub record Turn : Type 0 where
+  pub event : Event
+  pub says : Said
+
+infix 80 _⇒_
+infix 80 _⇏_
+abbrev pub _⇒_ : Call → Said → Turn
+c ⇒ a = record { event = record { call = c; spoils = false }; says = a }
+
+-- the same where the write so answered leaves a spoiled sector
+abbrev pub _⇏_ : Call → Said → Turn
+c ⇏ a = record { event = record { call = c; spoils = true }; says = a }
+
+abbrev pub events : List Turn → List Event
+events [] = []
+events (t ∷ ts) = t .event ∷ events ts
+
+abbrev pub answers : List Turn → List Said
+answers [] = []
+answers (t ∷ ts) = t .says ∷ answers ts
+
+-- the history after these entries, and the world after these events
+abbrev pub kept : Sectors → History → List Entry → History
+kept start H [] = H
+kept start H (o ∷ os) = kept start (next start H o) os
+
+abbrev pub ended : World → List Event → World
+ended w [] = w
+ended w (e ∷ es) = ended (after w e (made w e)) es
+
+-- the block that the runs are about
+abbrev pub key : Block
+key = record { 0 = 17 }
+
+-- A list of calls with its answers, and what it leaves: the data part, and the block's sector and candidates in the history.
+pub record Run : Type 0 where
+  pub sectors : Sectors
+  pub turns : List Turn
+  pub part : Bytes
+  pub place : Where
+  pub candidates : List Bytes
+
+-- starts any record, on these sectors
+abbrev pub from : Drive → Run → World
+from old r = begins (startOf old (replicate 536 1)) (r .sectors)
+
+abbrev pub calls : Run → List Event
+calls r = events (r .turns)
+
+abbrev pub entered : Drive → Run → List Entry
+entered old r = entries (from old r) (calls r)
+
+abbrev pub history : Drive → Run → History
+history old r = kept (r .sectors) blank (entered old r)
+
+pub record Happens (old : Drive) (r : Run) : Type 0 where
+  pub lawful : Lawful (from old r) (calls r)
+  pub says : told (entered old r) ≡ answers (r .turns)
+  pub part : dataOf (ended (from old r) (calls r) .buffer) ≡ r .part
+  pub place : history old r .place key ≡ r .place
+  pub candidates : history old r .candidates key ≡ r .candidates
+
+-- ONE FOLD FOR THESE FIVE FACTS, which computes each call once
+
+pub record Played : Type 0 where
+  pub lawful : Bool
+  pub says : List Said
+  pub part : Bytes
+  pub place : Where
+  pub candidates : List Bytes
+
+-- puts a call's test and answer before those of the calls after it
+abbrev pub ahead : Bool → Said → Played → Played
+ahead ok said p = record { lawful = ok && p .lawful; says = said ∷ p .says; part = p .part; place = p .place; candidates = p .candidates }
+
+abbrev pub plays : Sectors → World → History → List Turn → Played
+plays start w H [] = record { lawful = true; says = []; part = dataOf (w .buffer); place = H .place key; candidates = H .candidates key }
+plays start w H (t ∷ ts) =
+    let e = t .event in
+    let x = made w e in
+    ahead (permitted w e x) (saidBy (x .step .answer) (x .bytes)) (plays start (after w e x) (next start H (entryOf e x)) ts)
+
+-- what the fold gives is what the five facts speak of
+pub record Ties (start : Sectors) (w : World) (H : History) (ts : List Turn) (p : Played) : Type 0 where
+  pub lawful : isLawful w (events ts) ≡ p .lawful
+  pub says : told (entries w (events ts)) ≡ p .says
+  pub part : dataOf (ended w (events ts) .buffer) ≡ p .part
+  pub place : kept start H (entries w (events ts)) .place key ≡ p .place
+  pub candidates : kept start H (entries w (events ts)) .candidates key ≡ p .candidates
+
+pub ties : (start : Sectors) (w : World) (H : History) (ts : List Turn) → Ties start w H ts (plays start w H ts)
+ties start w H [] = record { lawful = refl; says = refl; part = refl; place = refl; candidates = refl }
+ties start w H (t ∷ ts) =
+    let e = t .event in
+    let x = made w e in
+    let h = ties start (after w e x) (next start H (entryOf e x)) ts in
+    record {
+      lawful = ap (λ (b : Bool). permitted w e x && b) (h .lawful);
+      says = ap (λ (s : List Said). saidBy (x .step .answer) (x .bytes) ∷ s) (h .says);
+      part = h .part;
+      place = h .place;
+      candidates = h .candidates;
+    }
+
+abbrev pub played : Drive → Run → Played
+played old r = plays (r .sectors) (from old r) blank (r .turns)
+
+abbrev pub expected : Run → Played
+expected r = record { lawful = true; says = answers (r .turns); part = r .part; place = r .place; candidates = r .candidates }
+
+-- A proof that unfolds this one unfolds all that its line names: what a run's computation has to see through.
+unfoldable pub happens : (old : Drive) (r : Run) → played old r ≡ expected r → Happens old r
+unfolding homeOf indexOf memberOf entryOk entriesOk listsOk sectorOf listed killedNext withBad removed withoutBad wide triple triples listPart framedPart imageOf narrow entryAt entriesFrom framed wellFormed tableOf over same allAre dataOf withData opcodeOf numberOf ending1 ending2 ending3 statusOf retryOk trialOk phaseOk lineOk recordOk raisedIdle commandOffer raised writes noNumber health acted goesOn lowered fedTo rested failed goesOnReading afterRead nextAttempt missed brokenOff verified tried checked toRead toWrite startAnswered storeAnswered keptData lost settled reads readAnswered writeAnswered answered raiseOf lowerOf feedOf surfaceOf resetOf startOf stepOf padded bit learns acts underway reports good moves isRead bytesOf touches touchesFirst hasWritten placeNext candidatesNext heard next
+happens old r e =
+    let h = ties (r .sectors) (from old r) blank (r .turns) in
+    record {
+      lawful = lawful-by-test (from old r) (calls r) (h .lawful ∙ ap (λ (p : Played). p .lawful) e);
+      says = h .says ∙ ap (λ (p : Played). p .says) e;
+      part = h .part ∙ ap (λ (p : Played). p .part) e;
+      place = h .place ∙ ap (λ (p : Played). p .place) e;
+      candidates = h .candidates ∙ ap (λ (p : Played). p .candidates) e;
+    }
+
+-- THE PIECES OF A RUN
+
+-- a block of one byte all over
+abbrev pub bytes : ℕ → Bytes
+bytes v = replicate 532 v
+
+-- sectors with a table of these lists, and sevens in all the others
+abbrev pub disk : List ℕ → List ℕ → Sectors
+disk spares bads = λ s. held (cond (eqb (s .0) 4960) (imageOf spares bads) (bytes 7))
+
+abbrev pub sector : ℕ → Where
+sector n = at (record { 0 = n })
+
+-- the lower with 55, and the answers of the surface
+abbrev pub go : Call
+go = lower 0x55
+
+abbrev pub gives : ℕ → Call
+gives v = surface 0 (bytes v)
+
+abbrev pub done : Call
+done = surface 0 []
+
+abbrev pub garbles : ℕ → Call
+garbles v = surface 1 (bytes v)
+
+abbrev pub timesOut : Call
+timesOut = surface 2 []
+
+abbrev pub unsettled : Call
+unsettled = surface 3 []
+
+-- the start's read finds the table
+abbrev pub found : List ℕ → List ℕ → List Turn
+found spares bads = surface 0 (imageOf spares bads) ⇒ wait ∷ []
+
+-- an idle raise: with no store, and with one
+abbrev pub opens : List Turn
+opens = raise ⇒ offer 0x01 ∷ []
+
+abbrev pub stores : List Turn
+stores = raise ⇒ store ∷ done ⇒ offer 0x01 ∷ []
+
+-- a command from there to the offer after which it is acted on
+abbrev pub command : ℕ → ℕ → Bytes → Bytes
+command op n more = op ∷ n / 65536 ∷ n / 256 % 256 ∷ n % 256 ∷ more
+
+abbrev pub asksRead : ℕ → ℕ → ℕ → List Turn
+asksRead n R T = go ⇒ wait ∷ feed (command 0 n (R ∷ T ∷ [])) ⇒ wait ∷ raise ⇒ offer 0x02 ∷ []
+
+abbrev pub asksWrite : ℕ → ℕ → Bytes → List Turn
+asksWrite op n x =
+    go ⇒ wait ∷ feed (command op n []) ⇒ wait ∷ raise ⇒ offer (op + 2) ∷ go ⇒ wait ∷ feed x ⇒ wait ∷ raise ⇒ offer 0x06 ∷ []
+
+-- a read of the table's image, with status 3 of its finish
+abbrev pub asksTable : ℕ → List Turn
+asksTable status3 = asksRead 0xFFFFFF 0 0 ++ (go ⇒ finished 0x00 0x00 status3 0 ∷ [])
+
+-- a read of FFFFFD with R 255 and T 0, with status 3 of its finish
+abbrev pub asksHealth : ℕ → List Turn
+asksHealth status3 = asksRead 0xFFFFFD 255 0 ++ (go ⇒ finished 0x00 0x00 status3 0 ∷ [])
+
+-- the health block of these figures
+abbrev pub healthBlock : ℕ → ℕ → ℕ → ℕ → Bytes
+healthBlock unused bads latch unstored = unused ∷ bads ∷ latch ∷ unstored ∷ replicate 528 0
