@@ -1,10 +1,9 @@
--- Demand 3 speaks of each of the runs: the history allows its whole list.
-use mathlib.Core.Path.{refl}
-use lib.ListN.{replicate}
+-- Demand 3 holds of each computed run: the history allows its whole list.
 use Rattle.drive.specs.declared.Drive.{Drive}
 use Rattle.drive.specs.History.{blank, Allows}
-use Rattle.drive.proofs.Transcripts.{Run, Happens, calls, entered}
+use Rattle.drive.proofs.Transcripts.{Run, Happens, entered}
+use Rattle.drive.proofs.Statements.{demand-3-of-a-run}
 use Rattle.demands.proofs.Demand3.{demand-3}
 
 pub allowed : (old : Drive) (r : Run) → Happens old r → Allows (r .sectors) blank (entered old r)
-allowed old r h = demand-3 old (replicate 536 1) refl (r .sectors) (calls r) (h .lawful)
+allowed = demand-3-of-a-run demand-3

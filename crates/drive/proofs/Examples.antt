@@ -1,45 +1,36 @@
 -- THE STARRED EXAMPLES of document 01, all thirteen, computed from the definitions.
 use mathlib.Core.Path.{_≡_, refl}
-use mathlib.Core.Bool.{Bool, true, false, cond}
+use mathlib.Core.Bool.{true, false}
 use mathlib.Core.List.{List, [], _∷_, _++_}
 use Prim.Native.Nat.{ℕ, zero, suc}
 use lib.ListN.{take, replicate}
-use Rattle.buffer.specs.Runs.{over, same, allAre}
-use Rattle.geometry.specs.Geometry.{isBlock, homeOf}
-use Rattle.lists.specs.Lists.{dead, memberOf, indexOf, entryOk, entriesOk}
-use Rattle.table.specs.Tables.{sectorOf, emptyTable, listsOk}
-use Rattle.image.specs.Images.{wide, triple, triples, listPart, framedPart, imageOf, narrow, entryAt, entriesFrom, framed, wellFormed}
+use Rattle.geometry.specs.Geometry.{isBlock}
+use Rattle.lists.specs.Lists.{dead}
+use Rattle.table.specs.Tables.{sectorOf, emptyTable}
+use Rattle.image.specs.Images.{imageOf, wellFormed}
 use Rattle.drive.specs.declared.Drive.{Drive}
-use Rattle.drive.specs.declared.Trial.{Trial}
 use Rattle.drive.specs.declared.Phase.{Phase}
 use Rattle.drive.specs.declared.Phase.the-variants as phase
-use Rattle.drive.specs.declared.Answer.{Answer}
 use Rattle.drive.specs.declared.Answer.the-variants as answer
-use Rattle.drive.specs.Words.{dataOf, withData, opcodeOf, numberOf, ending1, ending2, ending3, statusOf}
-use Rattle.drive.specs.Records.{retryOk, trialOk, phaseOk, lineOk, recordOk}
 use Rattle.drive.specs.Results.{Out}
-use Rattle.drive.specs.Handshake.{raisedIdle, commandOffer, raised, writes, noNumber, acted, goesOn, lowered, fedTo, rested}
-use Rattle.drive.specs.Retries.{failed, goesOnReading, afterRead}
-use Rattle.drive.specs.Sparing.{nextAttempt, missed, brokenOff, verified, tried, checked}
-use Rattle.drive.specs.Access.{toRead, toWrite, keptData, lost, settled, reads, readAnswered, writeAnswered, answered}
-use Rattle.drive.specs.Calls.{Call, raise, lower, feed, surface, reset, raiseOf, lowerOf, feedOf, surfaceOf, resetOf, stepOf}
-use Rattle.drive.specs.Bound.{accesses}
+use Rattle.drive.specs.Calls.{Call, raise, lower, feed, surface, stepOf}
+use Rattle.drive.proofs.Transcripts.{happens}
 
 -- the sector at which a table with no spare in use has block n
-unfoldable pub at-home : ℕ → ℕ
+abbrev pub at-home : ℕ → ℕ
 at-home n = sectorOf [] (record { 0 = n }) .0
 
 -- the blocks 0, 1, .. up to n of them
-unfoldable pub blocks : ℕ → List ℕ
+abbrev pub blocks : ℕ → List ℕ
 blocks zero = []
 blocks (suc n) = blocks n ++ (n ∷ [])
 
 -- an image that is well formed in all but, perhaps, its counts
-unfoldable pub counted : ℕ → ℕ → List ℕ
+abbrev pub counted : ℕ → ℕ → List ℕ
 counted spares bads = imageOf (replicate spares dead) (blocks bads)
 
 -- an idle drive with an empty table, which has finished a command since its start
-unfoldable pub ready : Drive
+abbrev pub ready : Drive
 ready =
     record {
       table = emptyTable;
@@ -47,25 +38,25 @@ ready =
     }
 
 -- calls one after the other
-unfoldable pub run : Drive → List ℕ → List Call → Out
+abbrev pub run : Drive → List ℕ → List Call → Out
 run d u [] = record { step = record { drive = d; answer = answer.Wait }; bytes = u }
 run d u (c ∷ []) = stepOf c d u
 run d u (c ∷ x ∷ cs) = run (stepOf c d u .step .drive) (stepOf c d u .bytes) (x ∷ cs)
 
 -- a read of block 0 with R and T, and the surface's answers to it
-unfoldable pub asks : ℕ → ℕ → List Call → List Call
+abbrev pub asks : ℕ → ℕ → List Call → List Call
 asks r t cs = raise ∷ lower 0x55 ∷ feed (0 ∷ 0 ∷ 0 ∷ 0 ∷ r ∷ t ∷ []) ∷ raise ∷ lower 0x55 ∷ cs
 
-unfoldable pub crc : Call
+abbrev pub crc : Call
 crc = surface 1 (replicate 532 1)
 
-unfoldable pub good : Call
+abbrev pub good : Call
 good = surface 0 (replicate 532 7)
 
-unfoldable pub timeout : Call
+abbrev pub timeout : Call
 timeout = surface 2 []
 
-unfoldable pub reading : ℕ → ℕ → List Call → Out
+abbrev pub reading : ℕ → ℕ → List Call → Out
 reading r t cs = run ready (replicate 536 0) (asks r t cs)
 
 -- how a command ended: finished, with these four status bytes
@@ -102,7 +93,7 @@ pub record Examples : Type 0 where
   pub bads-101 : wellFormed (counted 0 101) ≡ false
 
 pub examples : Examples
-unfolding at-home blocks counted ready run asks crc good timeout reading sectorOf memberOf indexOf homeOf wellFormed framed entriesFrom entryAt narrow imageOf framedPart listPart triples triple wide over same allAre entriesOk entryOk listsOk dataOf withData opcodeOf numberOf ending1 ending2 ending3 statusOf retryOk trialOk phaseOk lineOk recordOk raisedIdle commandOffer raised writes noNumber acted goesOn lowered fedTo rested failed goesOnReading afterRead nextAttempt missed brokenOff verified tried checked toRead toWrite keptData lost settled reads readAnswered writeAnswered answered raiseOf lowerOf feedOf surfaceOf resetOf stepOf
+unfolding happens
 examples =
     record {
       block-0 = refl;

@@ -1,27 +1,29 @@
--- The history forbids something: lists of entries that no run gives, each against one of its rules. Blocks are one byte and zeros here.
+-- The history forbids something: lists of entries that no run gives, each against one of its rules; and not too much. Blocks
+-- are one byte and zeros here.
 use mathlib.Core.Path.{_≡_, refl, ap, sym}
 use mathlib.Core.Logic.{inl, inr}
-use mathlib.Core.Bool.{false}
+use mathlib.Core.Bool.{Bool, true, false, not, _&&_, _||_}
 use mathlib.Core.List.{List, [], _∷_, _++_}
 use Prim.Native.Nat.{ℕ}
-use borrow.Author.Tests.{eq-eqb}
+use borrow.Author.Tests.{eq-eqb, eqb-true}
 use lib.Dec.{eqb}
 use lib.ListN.{getD, replicate}
-use Rattle.logic.proofs.Bools.{clash}
-use Rattle.geometry.specs.Geometry.{homeOf}
+use Rattle.logic.proofs.Bools.{clash, and-left, and-right}
+use Rattle.geometry.specs.Geometry.{homeOf, isBlock}
 use Rattle.geometry.specs.declared.Block.{Block}
 use Rattle.lists.specs.Lists.{indexOf, memberOf, entryOk, entriesOk}
 use Rattle.table.specs.Tables.{sectorOf}
 use Rattle.image.specs.Images.{wide, triple, triples, listPart, framedPart, imageOf, narrow, entryAt, entriesFrom, framed, wellFormed, tableOf}
 use Rattle.buffer.specs.Runs.{same, allAre}
+use Rattle.buffer.proofs.Compare.{same-equal}
 use Rattle.drive.specs.declared.Offer.{Offer}
 use Rattle.drive.specs.declared.Offer.the-variants as offer
 use Rattle.drive.specs.declared.Answer.{Answer}
 use Rattle.drive.specs.declared.Answer.the-variants as answer
 use Rattle.drive.specs.declared.Refusal.the-variants as refusal
-use Rattle.drive.specs.Words.{dataOf, opcodeOf, numberOf}
+use Rattle.drive.specs.Words.{dataOf, opcodeOf, numberOf, blockOf}
 use Rattle.drive.specs.Calls.{Call, raise, lower, feed, surface, reset}
-use Rattle.drive.specs.History.{Bytes, held, unreadable, Sectors, Where, nowhere, at, Entry, History, blank, isAt, In, padded, bit, learns, acts, underway, reports, good, moves, isRead, bytesOf, touches, touchesFirst, hasWritten, placeNext, candidatesNext, heard, next, Fits, Apart, Allows}
+use Rattle.drive.specs.History.{Bytes, held, unreadable, Sectors, Where, nowhere, at, Entry, History, blank, isAt, readAsked, writeAsked, orElse, In, padded, bit, learns, acts, underway, reports, good, moves, isRead, bytesOf, touches, touchesFirst, hasWritten, placeNext, candidatesNext, heard, next, goodRead, firstAccess, Fits, Apart, Allows}
 use Rattle.drive.proofs.Transcripts.{sector, go, done, timesOut, command}
 
 -- what the rules ask at the last entry of a list
@@ -247,6 +249,57 @@ pub bytes-of-another-job-behind-short-data : Allows sevens blank notZeroed → �
 unfolding at-last
 bytes-of-another-job-behind-short-data a = not-behind (at-last sevens blank notZeroed a .0 .read-rule refl)
 
+-- It is reported good and asked for no write s, so the seven is a candidate no more.
+abbrev goodNotMade : List Entry
+goodNotMade = found [] ++ asksWrite 1 ++ (ends go 0x00 0x00 1 ∷ []) ++ readsGood 7
+
+pub old-bytes-after-a-write-reported-good-and-not-made : Allows sevens blank goodNotMade → ⊥
+unfolding at-last
+old-bytes-after-a-write-reported-good-and-not-made a = not-the-one 7 1 refl (at-last sevens blank goodNotMade a .0 .read-rule refl)
+
+-- A good read meets the rule whether the block moved or not.
+abbrev movedWithNines : List Entry
+movedWithNines = found [] ++ asksRead 17 ++ (says go (reads 17) ∷ says (garbles 9) (reads 4928) ∷ ends (gives 9) 0x08 0x04 9 ∷ [])
+
+pub bytes-never-written-with-the-sparing-bit : Allows sevens blank movedWithNines → ⊥
+unfolding at-last
+bytes-never-written-with-the-sparing-bit a = not-the-one 9 7 refl (at-last sevens blank movedWithNines a .0 .read-rule refl)
+
+-- A handshake byte other than 55 comes between the write s and the finish. So the write is not reported.
+abbrev byteInBetween : List Entry
+byteInBetween = found [] ++ asksWrite 1 ++ (says go (writes 17) ∷ ends (lower 0x00) 0x00 0x00 1 ∷ []) ++ readsGood 1
+
+pub bytes-of-a-write-that-another-byte-broke-off : Allows sevens blank byteInBetween → ⊥
+unfolding at-last
+bytes-of-a-write-that-another-byte-broke-off a = not-the-one 1 7 refl (at-last sevens blank byteInBetween a .0 .read-rule refl)
+
+-- The one was fed and the write failed. The nine that stands in the data part then is no candidate.
+abbrev failedLeft : List Entry
+failedLeft = found [] ++ asksWrite 1 ++ (says go (writes 17) ∷ ends timesOut 0x05 0x00 9 ∷ []) ++ readsGood 9
+
+not-the-two : (m n k : ℕ) → eqb m n ≡ false → eqb m k ≡ false → In (block m) (block n ∷ block k ∷ []) → ⊥
+not-the-two m n k h g (inl e) = differ m n h (ap byteOf e)
+not-the-two m n k h g (inr e) = not-the-one m k g e
+
+pub bytes-that-a-failed-write-left-in-the-buffer : Allows sevens blank failedLeft → ⊥
+unfolding at-last
+bytes-that-a-failed-write-left-in-the-buffer a = not-the-two 9 1 7 refl refl (at-last sevens blank failedLeft a .0 .read-rule refl)
+
+-- Only the last of the 532 bytes is another.
+abbrev sevenAndOne : Bytes
+sevenAndOne = 7 ∷ replicate 530 0 ++ (1 ∷ [])
+
+abbrev lastByteWrong : List Entry
+lastByteWrong = found [] ++ asksRead 17 ++ (says go (reads 17) ∷ shows sevenAndOne (surface 0 sevenAndOne) answer.Finished ∷ [])
+
+not-at-last : In sevenAndOne (block 7 ∷ []) → ⊥
+not-at-last (inl e) = differ 1 0 refl (ap (λ (x : Bytes). getD x 531 0) e)
+not-at-last (inr e) = e
+
+pub bytes-with-the-last-one-wrong : Allows sevens blank lastByteWrong → ⊥
+unfolding at-last
+bytes-with-the-last-one-wrong a = not-at-last (at-last sevens blank lastByteWrong a .0 .read-rule refl)
+
 -- Another block holds the image of a table. To read it is not to read the table.
 abbrev imageElsewhere : List Entry
 imageElsewhere =
@@ -309,6 +362,16 @@ pub a-block-read-at-its-home-after-its-move : Allows sevens blank moveForgotten 
 unfolding at-last
 a-block-read-at-its-home-after-its-move a = not-there 4928 17 refl (at-last sevens blank moveForgotten a .0 .first-rule refl .1)
 
+-- So does the sparing bit of a command that failed.
+abbrev failedAndMoved : List Entry
+failedAndMoved =
+    found [] ++ asksRead 17 ++ (says go (reads 17) ∷ says (garbles 9) (reads 4928) ∷ ends (gives 7) 0x09 0x04 7 ∷ [])
+    ++ asksRead 17 ++ (says go (reads 17) ∷ [])
+
+pub a-block-read-at-its-home-after-a-failed-command-moved-it : Allows sevens blank failedAndMoved → ⊥
+unfolding at-last
+a-block-read-at-its-home-after-a-failed-command-moved-it a = not-there 4928 17 refl (at-last sevens blank failedAndMoved a .0 .first-rule refl .1)
+
 -- The command failed, with no sparing bit: the block keeps its sector.
 abbrev spareTaken : List Entry
 spareTaken = found [] ++ movesInVain ++ asksRead 17 ++ (says go (reads 4928) ∷ [])
@@ -370,3 +433,79 @@ shared = found [] ++ asksRead 17 ++ (says go (reads 17) ∷ says (garbles 9) (re
 pub two-blocks-at-one-sector : Allows sevens blank shared → ⊥
 unfolding at-last
 two-blocks-at-one-sector a = differ 17 18 refl (ap (λ (b : Block). b .0) (at-last sevens blank shared a .1 (record { 0 = 17 }) (record { 0 = 18 }) (record { 0 = 18 }) refl refl refl refl))
+
+-- WHAT IT DOES NOT FORBID
+
+-- a test of the two rules at an entry
+abbrev isIn : Bytes → List Bytes → Bool
+isIn y [] = false
+isIn y (x ∷ xs) = same y x || isIn y xs
+
+abbrev isThere : Where → Where → Bool
+isThere nowhere w = false
+isThere (at s) nowhere = false
+isThere (at s) (at k) = eqb (s .0) (k .0)
+
+abbrev passes : History → Entry → Bool
+passes H o =
+    (not (goodRead H o) || isIn (dataOf (o .buffer)) (H .candidates (blockOf (H .command))))
+    && (not (firstAccess H o) || (isBlock (numberOf (H .command)) && isThere (H .place (blockOf (H .command))) (orElse (readAsked (o .answer)) (writeAsked (o .answer)))))
+
+abbrev allPass : Sectors → History → List Entry → Bool
+allPass start H [] = true
+allPass start H (o ∷ os) = passes H o && allPass start (next start H o) os
+
+is-in : (y : Bytes) (xs : List Bytes) → isIn y xs ≡ true → In y xs
+is-in y [] h = clash h refl
+is-in y (x ∷ xs) h = either (same y x) refl h (is-in y xs)
+  where
+    either : (b : Bool) → same y x ≡ b → (b || isIn y xs) ≡ true → (isIn y xs ≡ true → In y xs) → In y (x ∷ xs)
+    either true e g further = inl (same-equal y x e)
+    either false e g further = inr (further g)
+
+is-there : (w v : Where) → isThere w v ≡ true → w ≡ v
+is-there nowhere w h = clash h refl
+is-there (at s) nowhere h = clash h refl
+is-there (at s) (at k) h = ap (λ (n : ℕ). sector n) (eqb-true (s .0) (k .0) h)
+
+if-so : (a b : Bool) → (not a || b) ≡ true → a ≡ true → b ≡ true
+if-so true b h e = h
+if-so false b h e = clash e refl
+
+pub fits-by-test : (H : History) (o : Entry) → passes H o ≡ true → Fits H o
+fits-by-test H o h =
+    let found = isIn (dataOf (o .buffer)) (H .candidates (blockOf (H .command))) in
+    let there = isThere (H .place (blockOf (H .command))) (orElse (readAsked (o .answer)) (writeAsked (o .answer))) in
+    let block = isBlock (numberOf (H .command)) in
+    let reading = and-left (not (goodRead H o) || found) (not (firstAccess H o) || (block && there)) h in
+    let accessing = and-right (not (goodRead H o) || found) (not (firstAccess H o) || (block && there)) h in
+    record {
+      read-rule = λ g. is-in (dataOf (o .buffer)) (H .candidates (blockOf (H .command))) (if-so (goodRead H o) found reading g);
+      first-rule = λ g.
+          let both = if-so (firstAccess H o) (block && there) accessing g in (
+            and-left block there both,
+            is-there (H .place (blockOf (H .command))) (orElse (readAsked (o .answer)) (writeAsked (o .answer))) (and-right block there both),
+          );
+    }
+
+abbrev AllFit : Sectors → History → List Entry → Type 0
+AllFit start H [] = Unit {0}
+AllFit start H (o ∷ os) = Fits H o × AllFit start (next start H o) os
+
+all-fit : (start : Sectors) (H : History) (os : List Entry) → allPass start H os ≡ true → AllFit start H os
+all-fit start H [] h = tt
+all-fit start H (o ∷ os) h = (
+  fits-by-test H o (and-left (passes H o) (allPass start (next start H o) os) h),
+  all-fit start (next start H o) os (and-right (passes H o) (allPass start (next start H o) os) h),
+)
+
+-- A failed read leaves bytes that nobody wrote, after an access away from its block's sector. A good write's bytes were no
+-- candidate. After a failed write the older bytes are read, and then the same again.
+abbrev fitting : List Entry
+fitting =
+    found [] ++ asksRead 17 ++ (says go (reads 17) ∷ says (garbles 9) (reads 4928) ∷ ends timesOut 0x0D 0x00 9 ∷ [])
+    ++ writesGood 1 ++ asksWrite 2 ++ (says go (writes 17) ∷ ends timesOut 0x05 0x00 2 ∷ []) ++ readsGood 1 ++ readsGood 1
+
+pub a-list-that-fits : AllFit sevens blank fitting
+unfolding at-last
+a-list-that-fits = all-fit sevens blank fitting refl

@@ -1,8 +1,14 @@
+pub mod Transcripts
 pub mod Examples
 pub mod Reached
-pub mod Transcripts
+pub mod Codes
+pub mod Verifies
 pub mod Runs
 pub mod ShortData
 pub mod HealthBlock
 pub mod Week
+pub mod SurfaceRules
 pub mod Forged
+pub mod Reports
+pub mod ToldForged
+pub mod Statements

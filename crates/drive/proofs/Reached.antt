@@ -1,42 +1,67 @@
 -- DEMAND 1's BOUND IS REACHED: a read of 1 + 255 + 90 reads, then 33 sectors with two attempts of a write and a read each.
 use mathlib.Core.Path.{_≡_, refl}
 use mathlib.Core.List.{List, [], _∷_, _++_}
-use Prim.Native.Nat.{ℕ, zero, suc}
-use lib.ListN.{take, replicate}
-use Rattle.buffer.specs.Runs.{over, same}
-use Rattle.geometry.specs.Geometry.{homeOf}
-use Rattle.lists.specs.Lists.{memberOf, indexOf, entryOk, entriesOk}
-use Rattle.table.specs.Tables.{sectorOf, listsOk, killedNext}
-use Rattle.drive.specs.declared.Answer.the-variants as answer
-use Rattle.drive.specs.Words.{dataOf, withData, opcodeOf, numberOf, ending1, ending2, ending3, statusOf}
-use Rattle.drive.specs.Records.{retryOk, trialOk, phaseOk, lineOk, recordOk}
+use Prim.Native.Nat.{ℕ, zero, suc, _≤_}
+use lib.ListN.{replicate}
 use Rattle.drive.specs.Results.{Out}
-use Rattle.drive.specs.Handshake.{raisedIdle, commandOffer, raised, writes, noNumber, acted, goesOn, lowered, fedTo}
-use Rattle.drive.specs.Retries.{failed, goesOnReading, afterRead}
-use Rattle.drive.specs.Sparing.{nextAttempt, missed, brokenOff, verified, tried, checked}
-use Rattle.drive.specs.Access.{toRead, toWrite, keptData, lost, settled, reads, readAnswered, answered}
-use Rattle.drive.specs.Calls.{Call, surface, raiseOf, lowerOf, feedOf, surfaceOf, stepOf}
-use Rattle.drive.specs.Bound.{accesses}
-use Rattle.drive.proofs.Examples.{ready, run, asks, crc, good, reading, Ended}
+use Rattle.drive.specs.Calls.{Call, raise, lower, feed, surface, started}
+use Rattle.drive.specs.Bound.{accesses, Demand1Bound}
+use Rattle.drive.proofs.Transcripts.{happens}
+use Rattle.drive.proofs.Examples.{ready, run, asks, crc, good, timeout, reading, Ended}
 
 -- an attempt whose write is done and whose read fails, n times
-pub attempts : ℕ → List Call
+abbrev pub attempts : ℕ → List Call
 attempts zero = []
 attempts (suc n) = surface 0 [] ∷ crc ∷ attempts n
 
 -- the longest read: 345 CRC errors, one good read, 66 attempts
-pub longest : List Call
+abbrev pub longest : List Call
 longest = replicate 345 crc ++ (good ∷ attempts 66)
 
 -- the command as it begins, R 255 and T 1
-pub begun : Out
+abbrev pub begun : Out
 begun = reading 255 1 []
 
 pub reached : accesses (begun .step .drive) (begun .bytes) longest ≡ 478
-unfolding attempts longest begun ready run asks crc good reading sectorOf memberOf indexOf homeOf over same entriesOk entryOk listsOk killedNext dataOf withData opcodeOf numberOf ending1 ending2 ending3 statusOf retryOk trialOk phaseOk lineOk recordOk raisedIdle commandOffer raised writes noNumber acted goesOn lowered fedTo failed goesOnReading afterRead nextAttempt missed brokenOff verified tried checked toRead toWrite keptData lost settled reads readAnswered answered raiseOf lowerOf feedOf surfaceOf stepOf accesses
+unfolding happens accesses
 reached = refl
 
 -- and there it ends: failed, no spare unused, E 255
 pub reached-end : Ended (run (begun .step .drive) (begun .bytes) longest) (0x09 ∷ 0x40 ∷ 0x00 ∷ 0xFF ∷ [])
-unfolding attempts longest begun ready run asks crc good reading sectorOf memberOf indexOf homeOf over same entriesOk entryOk listsOk killedNext dataOf withData opcodeOf numberOf ending1 ending2 ending3 statusOf retryOk trialOk phaseOk lineOk recordOk raisedIdle commandOffer raised writes noNumber acted goesOn lowered fedTo failed goesOnReading afterRead nextAttempt missed brokenOff verified tried checked toRead toWrite keptData lost settled reads readAnswered answered raiseOf lowerOf feedOf surfaceOf stepOf
+unfolding happens
 reached-end = (refl, refl)
+
+-- the bound speaks of it
+pub within-the-bound : Demand1Bound → accesses (begun .step .drive) (begun .bytes) longest ≤ 478
+unfolding happens
+within-the-bound bound = bound (begun .step .drive) (begun .bytes) longest refl
+
+-- WHAT IS COUNTED
+
+-- a plain write of block 0, its write asked for
+abbrev pub writing : Out
+writing =
+    run ready (replicate 536 0) (raise ∷ lower 0x55 ∷ feed (1 ∷ 0 ∷ 0 ∷ 0 ∷ []) ∷ raise ∷ lower 0x55 ∷ feed (7 ∷ []) ∷ raise ∷ lower 0x55 ∷ [])
+
+-- a store, asked for after a read that failed by eleven timeouts
+abbrev pub storing : Out
+storing = run ready (replicate 536 0) (asks 0 1 (replicate 11 timeout ++ (raise ∷ [])))
+
+pub a-plain-write-is-one-access : accesses (writing .step .drive) (writing .bytes) (surface 0 [] ∷ raise ∷ surface 0 [] ∷ []) ≡ 1
+unfolding happens accesses
+a-plain-write-is-one-access = refl
+
+-- An answer of no code, bytes of a wrong length and a call out of place come between.
+pub refused-calls-are-not-counted :
+    accesses (begun .step .drive) (begun .bytes) (crc ∷ surface 4 [] ∷ crc ∷ surface 0 [] ∷ crc ∷ raise ∷ crc ∷ []) ≡ 4
+unfolding happens accesses
+refused-calls-are-not-counted = refl
+
+-- "The store at a raise belongs to no command", nor do the start's reads.
+pub a-store-belongs-to-no-command : accesses (storing .step .drive) (storing .bytes) (surface 2 [] ∷ []) ≡ 0
+unfolding happens accesses
+a-store-belongs-to-no-command = refl
+
+pub the-reads-of-a-start-belong-to-no-command : accesses started (replicate 536 0) (surface 2 [] ∷ surface 2 [] ∷ []) ≡ 0
+unfolding happens accesses
+the-reads-of-a-start-belong-to-no-command = refl

@@ -52,7 +52,7 @@ unfolding happens
 on-wednesday-it-moves-with-its-bytes old = happens old toWednesday refl
 
 -- The whole week.
-abbrev week : Run
+abbrev pub week : Run
 week =
     record {
       sectors = disk [] [];
