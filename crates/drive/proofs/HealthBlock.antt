@@ -6,8 +6,7 @@ use Rattle.lists.specs.Lists.{dead}
 use Rattle.drive.specs.declared.Drive.{Drive}
 use Rattle.drive.specs.Calls.{raise}
 use Rattle.drive.specs.History.{held, nowhere}
-use Rattle.drive.proofs.Runs.{elevenTimeouts}
-use Rattle.drive.proofs.Transcripts.{_⇒_, Run, Happens, happens, bytes, disk, sector, go, gives, timesOut, unsettled, found, opens, stores, asksRead, asksWrite, asksHealth, healthBlock, wait, offer, read, write, store, finished}
+use Rattle.drive.proofs.Transcripts.{_⇒_, Run, Happens, happens, bytes, disk, sector, go, gives, timesOut, unsettled, found, opens, stores, asksRead, asksWrite, asksHealth, healthBlock, elevenTimeouts, wait, offer, read, write, store, finished}
 
 -- After a read that left sevens in the data part. Two spares are used, one of them dead, and three blocks are bad.
 abbrev healthOfLists : Run

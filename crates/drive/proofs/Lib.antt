@@ -3,7 +3,11 @@ pub mod Examples
 pub mod Reached
 pub mod Codes
 pub mod Verifies
-pub mod Runs
+pub mod Rereads
+pub mod Moves
+pub mod BadList
+pub mod Latch
+pub mod Handshakes
 pub mod ShortData
 pub mod HealthBlock
 pub mod Week

@@ -6,7 +6,9 @@ use Rattle.drive.specs.declared.Drive.{Drive}
 use Rattle.drive.specs.History.{blank}
 use Rattle.drive.specs.Told.{Report, found, written, attempted, given, nothing, reportOf, reportsOf}
 use Rattle.drive.proofs.Transcripts.{Run, entered, happens, bytes}
-use Rattle.drive.proofs.Runs.{noSpareUnused, latched, threeBlocks, spoiledAtFirst, failedReads}
+use Rattle.drive.proofs.Rereads.{threeBlocks, spoiledAtFirst}
+use Rattle.drive.proofs.Moves.{noSpareUnused, failedReads}
+use Rattle.drive.proofs.Latch.{latched}
 use Rattle.drive.proofs.Week.{week}
 
 -- leaves out the calls that report nothing of the block

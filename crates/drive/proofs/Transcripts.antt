@@ -296,3 +296,7 @@ asksHealth status3 = asksRead 0xFFFFFD 255 0 ++ (go ⇒ finished 0x00 0x00 statu
 -- the health block of these figures
 abbrev pub healthBlock : ℕ → ℕ → ℕ → ℕ → Bytes
 healthBlock unused bads latch unstored = unused ∷ bads ∷ latch ∷ unstored ∷ replicate 528 0
+
+-- a read that fails by eleven timeouts
+abbrev pub elevenTimeouts : List Turn
+elevenTimeouts = opens ++ asksRead 17 0 1 ++ (go ⇒ read 17 ∷ []) ++ replicate 10 (timesOut ⇒ read 17) ++ (timesOut ⇒ finished 0x05 0x00 0x80 0 ∷ [])

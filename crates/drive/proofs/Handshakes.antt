@@ -1,0 +1,185 @@
+-- Handshakes, computed: no table, numbers of no block, commands broken off or dropped, resets, calls out of place.
+use mathlib.Core.Path.{refl}
+use mathlib.Core.List.{List, [], _∷_, _++_}
+use lib.ListN.{replicate}
+use Rattle.lists.specs.Lists.{dead}
+use Rattle.image.specs.Images.{imageOf}
+use Rattle.drive.specs.declared.Drive.{Drive}
+use Rattle.drive.specs.Calls.{raise, lower, feed, surface, reset}
+use Rattle.drive.specs.History.{held, nowhere}
+use Rattle.drive.proofs.Transcripts.{Turn, _⇒_, Run, Happens, happens, bytes, disk, sector, go, gives, done, garbles, timesOut, found, opens, command, asksRead, asksWrite, asksTable, elevenTimeouts, wait, offer, read, write, store, finished, refused}
+
+-- Ten reads of the start fail: bytes that are no image, an image with answer 1, timeouts.
+abbrev noTable : Run
+noTable =
+    record {
+      sectors = λ s. held (bytes 7);
+      turns =
+          (gives 7 ⇒ read 4960 ∷ surface 1 (imageOf [] []) ⇒ read 4960 ∷ []) ++ replicate 7 (timesOut ⇒ read 4960) ++ (timesOut ⇒ wait ∷ [])
+          ++ opens ++ asksRead 17 2 2 ++ (go ⇒ finished 0x01 0x08 0x80 0 ∷ [])
+          ++ opens ++ asksWrite 1 17 (bytes 1) ++ (go ⇒ finished 0x41 0x08 0x00 0 ∷ []);
+      part = bytes 1;
+      place = nowhere;
+      candidates = [];
+    }
+
+pub with-no-table-reads-and-writes-fail : (old : Drive) → Happens old noTable
+unfolding happens
+with-no-table-reads-and-writes-fail old = happens old noTable refl
+
+-- FFFFFF puts the image in the data part, and FFFFFE leaves it there. 9728 and a write to FFFFFF fail.
+abbrev notBlocks : Run
+notBlocks =
+    record {
+      sectors = disk (dead ∷ []) [];
+      turns =
+          found (dead ∷ []) []
+          ++ opens ++ asksWrite 1 0xFFFFFF (bytes 1) ++ (go ⇒ finished 0x01 0x00 0xC0 0 ∷ [])
+          ++ opens ++ asksTable 0x00
+          ++ opens ++ asksRead 0xFFFFFE 2 2 ++ (go ⇒ finished 0x00 0x00 0x00 0 ∷ [])
+          ++ opens ++ asksRead 9728 2 2 ++ (go ⇒ finished 0x01 0x00 0x40 0 ∷ []);
+      part = imageOf (dead ∷ []) [];
+      place = sector 17;
+      candidates = bytes 7 ∷ [];
+    }
+
+pub numbers-of-no-block-touch-no-block : (old : Drive) → Happens old notBlocks
+unfolding happens
+numbers-of-no-block-touch-no-block old = happens old notBlocks refl
+
+-- One write is broken off by a byte other than 55, one by reset. Then the old bytes are read.
+abbrev brokenOffAtOffer06 : Run
+brokenOffAtOffer06 =
+    record {
+      sectors = disk [] [];
+      turns =
+          found [] []
+          ++ opens ++ asksWrite 1 17 (bytes 1) ++ (lower 0xAA ⇒ finished 0x80 0x00 0x00 0 ∷ [])
+          ++ opens ++ asksWrite 2 17 (bytes 2) ++ (reset ⇒ wait ∷ [])
+          ++ opens ++ asksRead 17 2 2 ++ (go ⇒ read 17 ∷ gives 7 ⇒ finished 0x00 0x00 0x80 0 ∷ []);
+      part = bytes 7;
+      place = sector 17;
+      candidates = bytes 7 ∷ [];
+    }
+
+pub bytes-of-a-write-broken-off-do-not-count : (old : Drive) → Happens old brokenOffAtOffer06
+unfolding happens
+bytes-of-a-write-broken-off-do-not-count old = happens old brokenOffAtOffer06 refl
+
+-- A wrong handshake byte neither shows nor clears status 3 bit 7.
+abbrev strayFirst : Run
+strayFirst =
+    record {
+      sectors = disk [] [];
+      turns =
+          found [] [] ++ opens ++ (lower 0xAA ⇒ finished 0x80 0x00 0x00 0 ∷ [])
+          ++ opens ++ asksRead 17 0 1 ++ (go ⇒ read 17 ∷ gives 7 ⇒ finished 0x00 0x00 0x80 0 ∷ []);
+      part = bytes 7;
+      place = sector 17;
+      candidates = bytes 7 ∷ [];
+    }
+
+pub a-wrong-byte-leaves-the-first-finish-due : (old : Drive) → Happens old strayFirst
+unfolding happens
+a-wrong-byte-leaves-the-first-finish-due old = happens old strayFirst refl
+
+-- Short commands and an unknown opcode are dropped, with no store in between. Six bytes come in two pieces, and a seventh is ignored.
+abbrev dropped : Run
+dropped =
+    record {
+      sectors = disk [] [];
+      turns =
+          found [] [] ++ elevenTimeouts ++ (raise ⇒ store ∷ timesOut ⇒ offer 0x01 ∷ [])
+          ++ (go ⇒ wait ∷ feed (0 ∷ 0 ∷ 0 ∷ 17 ∷ 0 ∷ []) ⇒ wait ∷ raise ⇒ offer 0x01 ∷ go ⇒ wait ∷ feed (1 ∷ 0 ∷ 0 ∷ []) ⇒ wait ∷ raise ⇒ offer 0x01 ∷ [])
+          ++ (go ⇒ wait ∷ feed (2 ∷ 0 ∷ 0 ∷ []) ⇒ wait ∷ raise ⇒ offer 0x01 ∷ go ⇒ wait ∷ feed (3 ∷ 0 ∷ 0 ∷ 17 ∷ 0 ∷ 0 ∷ []) ⇒ wait ∷ raise ⇒ offer 0x01 ∷ [])
+          ++ (go ⇒ wait ∷ feed (0 ∷ 0 ∷ []) ⇒ wait ∷ feed (0 ∷ 17 ∷ 1 ∷ []) ⇒ wait ∷ feed (2 ∷ 9 ∷ []) ⇒ wait ∷ raise ⇒ offer 0x02 ∷ [])
+          ++ (go ⇒ read 17 ∷ garbles 9 ⇒ read 17 ∷ gives 7 ⇒ finished 0x08 0x00 0x00 0 ∷ []);
+      part = bytes 7;
+      place = sector 17;
+      candidates = bytes 7 ∷ [];
+    }
+
+pub short-and-unknown-commands-are-dropped : (old : Drive) → Happens old dropped
+unfolding happens
+short-and-unknown-commands-are-dropped old = happens old dropped refl
+
+-- Resets among command bytes, among data, at an offer and in idle; the mark, the table and the buffer stay.
+abbrev resets : Run
+resets =
+    record {
+      sectors = disk [] [];
+      turns =
+          found [] [] ++ elevenTimeouts ++ (raise ⇒ store ∷ timesOut ⇒ offer 0x01 ∷ go ⇒ wait ∷ feed (1 ∷ []) ⇒ wait ∷ reset ⇒ wait ∷ [])
+          ++ (raise ⇒ store ∷ timesOut ⇒ offer 0x01 ∷ [])
+          ++ (go ⇒ wait ∷ feed (command 1 17 []) ⇒ wait ∷ raise ⇒ offer 0x03 ∷ go ⇒ wait ∷ feed (bytes 3) ⇒ wait ∷ reset ⇒ wait ∷ reset ⇒ wait ∷ [])
+          ++ (raise ⇒ store ∷ done ⇒ offer 0x01 ∷ reset ⇒ wait ∷ []) ++ opens ++ asksRead 0xFFFFFE 0 0 ++ (go ⇒ finished 0x00 0x00 0x80 0 ∷ []);
+      part = bytes 3;
+      place = sector 17;
+      candidates = bytes 7 ∷ [];
+    }
+
+pub resets-keep-table-mark-and-buffer : (old : Drive) → Happens old resets
+unfolding happens
+resets-keep-table-mark-and-buffer old = happens old resets refl
+
+-- Calls out of place, answers that are none and bytes of a wrong length stand among the calls of one write.
+abbrev refusedAmong : Run
+refusedAmong =
+    record {
+      sectors = disk [] [];
+      turns =
+          (raise ⇒ refused 3 ∷ surface 4 [] ⇒ refused 4 ∷ surface 0 [] ⇒ refused 5 ∷ []) ++ found [] []
+          ++ (surface 9 [] ⇒ refused 3 ∷ lower 0x55 ⇒ refused 3 ∷ []) ++ opens ++ (feed (bytes 9) ⇒ refused 3 ∷ [])
+          ++ asksWrite 1 17 (bytes 1)
+          ++ (raise ⇒ refused 3 ∷ go ⇒ write 17 ∷ reset ⇒ refused 3 ∷ garbles 9 ⇒ refused 4 ∷ gives 9 ⇒ refused 5 ∷ done ⇒ finished 0x00 0x00 0x80 0 ∷ []);
+      part = bytes 1;
+      place = sector 17;
+      candidates = bytes 1 ∷ [];
+    }
+
+pub refused-calls-change-nothing : (old : Drive) → Happens old refusedAmong
+unfolding happens
+refused-calls-change-nothing old = happens old refusedAmong refl
+
+-- Calls out of place while an access of each kind is awaited: each time raise, lower, feed and reset are refused.
+abbrev allRefused : List Turn
+allRefused = raise ⇒ refused 3 ∷ go ⇒ refused 3 ∷ feed (bytes 9) ⇒ refused 3 ∷ reset ⇒ refused 3 ∷ []
+
+abbrev busy : Run
+busy =
+    record {
+      sectors = disk [] [];
+      turns =
+          allRefused ++ found [] [] ++ opens ++ asksRead 17 0 0
+          ++ (go ⇒ read 17 ∷ []) ++ allRefused ++ (garbles 9 ⇒ read 17 ∷ gives 7 ⇒ write 17 ∷ []) ++ allRefused
+          ++ (timesOut ⇒ write 17 ∷ done ⇒ read 17 ∷ []) ++ allRefused ++ (garbles 9 ⇒ write 4928 ∷ done ⇒ read 4928 ∷ gives 7 ⇒ finished 0x0C 0x04 0x80 0 ∷ [])
+          ++ (raise ⇒ store ∷ []) ++ allRefused ++ (gives 9 ⇒ refused 5 ∷ garbles 9 ⇒ refused 4 ∷ done ⇒ offer 0x01 ∷ []) ++ asksWrite 1 17 (bytes 1)
+          ++ (go ⇒ write 4928 ∷ []) ++ allRefused ++ (done ⇒ finished 0x00 0x00 0x00 0 ∷ []);
+      part = bytes 1;
+      place = sector 4928;
+      candidates = bytes 1 ∷ [];
+    }
+
+pub while-an-answer-is-awaited-only-it-is-in-place : (old : Drive) → Happens old busy
+unfolding happens
+while-an-answer-is-awaited-only-it-is-in-place old = happens old busy refl
+
+-- Calls out of place in idle, at an offer, among command bytes and among data.
+abbrev outOfPlace : Run
+outOfPlace =
+    record {
+      sectors = disk [] [];
+      turns =
+          found [] [] ++ (go ⇒ refused 3 ∷ feed (1 ∷ []) ⇒ refused 3 ∷ done ⇒ refused 3 ∷ [])
+          ++ opens ++ (raise ⇒ refused 3 ∷ feed (1 ∷ []) ⇒ refused 3 ∷ done ⇒ refused 3 ∷ [])
+          ++ (go ⇒ wait ∷ go ⇒ refused 3 ∷ done ⇒ refused 3 ∷ feed (command 1 17 []) ⇒ wait ∷ raise ⇒ offer 0x03 ∷ [])
+          ++ (go ⇒ wait ∷ go ⇒ refused 3 ∷ lower 0xAA ⇒ refused 3 ∷ done ⇒ refused 3 ∷ feed (bytes 1) ⇒ wait ∷ feed [] ⇒ wait ∷ raise ⇒ offer 0x06 ∷ [])
+          ++ (go ⇒ write 17 ∷ surface 4 [] ⇒ refused 4 ∷ done ⇒ finished 0x00 0x00 0x80 0 ∷ []);
+      part = bytes 1;
+      place = sector 17;
+      candidates = bytes 1 ∷ [];
+    }
+
+pub with-nothing-awaited-no-answer-is-in-place : (old : Drive) → Happens old outOfPlace
+unfolding happens
+with-nothing-awaited-no-answer-is-in-place old = happens old outOfPlace refl

@@ -1,0 +1,82 @@
+-- The latch, computed.
+use mathlib.Core.Path.{refl}
+use mathlib.Core.List.{[], _∷_, _++_}
+use Rattle.lists.specs.Lists.{dead}
+use Rattle.image.specs.Images.{imageOf}
+use Rattle.drive.specs.declared.Drive.{Drive}
+use Rattle.drive.specs.Calls.{reset}
+use Rattle.drive.proofs.Transcripts.{_⇒_, Run, Happens, happens, bytes, disk, sector, go, gives, done, garbles, timesOut, unsettled, found, opens, asksRead, asksWrite, asksTable, wait, read, write, finished}
+
+-- Answer 3 kills the spare under trial. Then a write, a rewrite at the threshold and the store are not made.
+abbrev pub latched : Run
+latched =
+    record {
+      sectors = disk [] [];
+      turns =
+          found [] [] ++ opens ++ asksWrite 2 17 (bytes 1)
+          ++ (go ⇒ write 17 ∷ timesOut ⇒ write 17 ∷ timesOut ⇒ write 4928 ∷ unsettled ⇒ finished 0x15 0x00 0x80 0 ∷ [])
+          ++ opens ++ asksWrite 1 17 (bytes 2) ++ (go ⇒ finished 0x11 0x00 0x00 0 ∷ [])
+          ++ opens ++ asksRead 17 0 0 ++ (go ⇒ read 17 ∷ garbles 9 ⇒ read 17 ∷ gives 7 ⇒ finished 0x19 0x00 0x00 0 ∷ [])
+          ++ opens ++ asksTable 0x00;
+      part = imageOf (dead ∷ []) [];
+      place = sector 17;
+      candidates = bytes 1 ∷ bytes 7 ∷ [];
+    }
+
+pub under-the-latch-no-write-is-made : (old : Drive) → Happens old latched
+unfolding happens
+under-the-latch-no-write-is-made old = happens old latched refl
+
+-- Answer 3 to a plain write latches. A reset keeps the latch, and the start's answer 3 had made none.
+abbrev writeUnsettled : Run
+writeUnsettled =
+    record {
+      sectors = disk [] [];
+      turns =
+          found [] [] ++ opens ++ asksWrite 1 17 (bytes 1) ++ (go ⇒ write 17 ∷ unsettled ⇒ finished 0x11 0x00 0x80 0 ∷ reset ⇒ wait ∷ [])
+          ++ opens ++ asksWrite 1 17 (bytes 2) ++ (go ⇒ finished 0x11 0x00 0x80 0 ∷ [])
+          ++ opens ++ asksRead 17 0 1 ++ (go ⇒ read 17 ∷ gives 7 ⇒ finished 0x00 0x00 0x00 0 ∷ []);
+      part = bytes 7;
+      place = sector 17;
+      candidates = bytes 7 ∷ [];
+    }
+
+pub a-reset-keeps-the-latch-of-a-write : (old : Drive) → Happens old writeUnsettled
+unfolding happens
+a-reset-keeps-the-latch-of-a-write old = happens old writeUnsettled refl
+
+-- Answer 3 to an attempt's write and read at the present sector latches, and kills no spare.
+abbrev attemptUnsettled : Run
+attemptUnsettled =
+    record {
+      sectors = disk (17 ∷ []) [];
+      turns =
+          found (17 ∷ []) [] ++ opens ++ asksWrite 2 17 (bytes 1)
+          ++ (go ⇒ write 4928 ∷ timesOut ⇒ write 4928 ∷ done ⇒ read 4928 ∷ unsettled ⇒ finished 0x15 0x00 0x80 0 ∷ [])
+          ++ opens ++ asksWrite 1 17 (bytes 2) ++ (go ⇒ finished 0x11 0x00 0x00 0 ∷ []) ++ opens ++ asksTable 0x00;
+      part = imageOf (17 ∷ []) [];
+      place = sector 4928;
+      candidates = bytes 1 ∷ bytes 7 ∷ [];
+    }
+
+pub answer-3-at-the-present-sector-latches-and-kills-no-spare : (old : Drive) → Happens old attemptUnsettled
+unfolding happens
+answer-3-at-the-present-sector-latches-and-kills-no-spare old = happens old attemptUnsettled refl
+
+-- Answer 3 to a spare's verify kills the spare under trial, and latches.
+abbrev verifyUnsettled : Run
+verifyUnsettled =
+    record {
+      sectors = disk [] [];
+      turns =
+          found [] [] ++ opens ++ asksWrite 2 17 (bytes 1)
+          ++ (go ⇒ write 17 ∷ timesOut ⇒ write 17 ∷ timesOut ⇒ write 4928 ∷ done ⇒ read 4928 ∷ unsettled ⇒ finished 0x15 0x00 0x80 0 ∷ [])
+          ++ opens ++ asksWrite 1 17 (bytes 2) ++ (go ⇒ finished 0x11 0x00 0x00 0 ∷ []) ++ opens ++ asksTable 0x00;
+      part = imageOf (dead ∷ []) [];
+      place = sector 17;
+      candidates = bytes 1 ∷ bytes 7 ∷ [];
+    }
+
+pub answer-3-at-a-spare-kills-it : (old : Drive) → Happens old verifyUnsettled
+unfolding happens
+answer-3-at-a-spare-kills-it old = happens old verifyUnsettled refl

@@ -1,0 +1,143 @@
+-- Moves, computed.
+use mathlib.Core.Path.{_≡_, refl}
+use mathlib.Core.List.{[], _∷_, _++_}
+use lib.ListN.{replicate}
+use Rattle.lists.specs.Lists.{dead}
+use Rattle.image.specs.Images.{imageOf}
+use Rattle.drive.specs.declared.Drive.{Drive}
+use Rattle.drive.specs.History.{unreadable}
+use Rattle.drive.proofs.Transcripts.{_⇒_, _⇏_, ended, Run, from, calls, Happens, happens, bytes, disk, sector, go, gives, done, garbles, timesOut, found, opens, stores, asksRead, asksWrite, asksTable, read, write, finished}
+
+-- E reaches T. No attempt at the present sector verifies: a write times out, then one spoils the sector.
+abbrev movedToSpare0 : Run
+movedToSpare0 =
+    record {
+      sectors = disk [] [];
+      turns =
+          found [] []
+          ++ opens ++ asksRead 17 1 1
+          ++ (go ⇒ read 17 ∷ garbles 9 ⇒ read 17 ∷ garbles 9 ⇒ read 17 ∷ gives 7 ⇒ write 17 ∷ timesOut ⇒ write 17 ∷ done ⇏ read 17 ∷ [])
+          ++ (garbles 9 ⇒ write 4928 ∷ done ⇒ read 4928 ∷ gives 7 ⇒ finished 0x0C 0x04 0x80 1 ∷ []);
+      part = bytes 7;
+      place = sector 4928;
+      candidates = bytes 7 ∷ [];
+    }
+
+pub at-the-threshold-it-moves-to-spare-0 : (old : Drive) → Happens old movedToSpare0
+unfolding happens
+at-the-threshold-it-moves-to-spare-0 old = happens old movedToSpare0 refl
+
+-- The block is at spare 0. It moves on, and the table's image then shows its old entry dead.
+abbrev movedToSpare1 : Run
+movedToSpare1 =
+    record {
+      sectors = disk (17 ∷ []) [];
+      turns =
+          found (17 ∷ []) []
+          ++ opens ++ asksWrite 2 17 (bytes 1)
+          ++ (go ⇒ write 4928 ∷ timesOut ⇒ write 4928 ∷ timesOut ⇒ write 4929 ∷ done ⇒ read 4929 ∷ gives 1 ⇒ finished 0x04 0x04 0x80 0 ∷ [])
+          ++ stores ++ asksTable 0x00;
+      part = imageOf (dead ∷ 17 ∷ []) [];
+      place = sector 4929;
+      candidates = bytes 1 ∷ [];
+    }
+
+pub a-moved-block-moves-on-to-spare-1 : (old : Drive) → Happens old movedToSpare1
+unfolding happens
+a-moved-block-moves-on-to-spare-1 old = happens old movedToSpare1 refl
+
+-- The last spare dies, and the command after finds none to try. The bytes of each failed write are candidates.
+abbrev pub noSpareUnused : Run
+noSpareUnused =
+    record {
+      sectors = disk (replicate 31 dead) [];
+      turns =
+          found (replicate 31 dead) []
+          ++ opens ++ asksWrite 2 17 (bytes 1)
+          ++ (go ⇒ write 17 ∷ timesOut ⇒ write 17 ∷ timesOut ⇒ write 4959 ∷ done ⇏ read 4959 ∷ garbles 9 ⇒ write 4959 ∷ timesOut ⇒ finished 0x0D 0x40 0x80 0 ∷ [])
+          ++ stores ++ asksWrite 2 17 (bytes 2) ++ (go ⇒ write 17 ∷ timesOut ⇒ write 17 ∷ timesOut ⇒ finished 0x05 0x40 0x00 0 ∷ []);
+      part = bytes 2;
+      place = sector 17;
+      candidates = bytes 2 ∷ bytes 1 ∷ bytes 7 ∷ [];
+    }
+
+pub with-no-spare-unused-it-keeps-its-sector : (old : Drive) → Happens old noSpareUnused
+unfolding happens
+with-no-spare-unused-it-keeps-its-sector old = happens old noSpareUnused refl
+
+-- A write done can leave a spare unreadable too.
+pub a-spare-can-be-spoiled : (old : Drive) → ended (from old noSpareUnused) (calls noSpareUnused) .sectors (record { 0 = 4959 }) ≡ unreadable
+unfolding happens
+a-spare-can-be-spoiled old = refl
+
+-- A read at its threshold is rewritten, and no sector verifies: it fails, and its bytes are no new candidate.
+abbrev pub failedReads : Run
+failedReads =
+    record {
+      sectors = disk (replicate 32 dead) [];
+      turns =
+          found (replicate 32 dead) [] ++ opens ++ asksRead 17 0 0
+          ++ (go ⇒ read 17 ∷ garbles 9 ⇒ read 17 ∷ gives 7 ⇒ write 17 ∷ timesOut ⇒ write 17 ∷ timesOut ⇒ finished 0x0D 0x40 0x80 0 ∷ []);
+      part = bytes 7;
+      place = sector 17;
+      candidates = bytes 7 ∷ [];
+    }
+
+pub a-failed-read-adds-no-candidate : (old : Drive) → Happens old failedReads
+unfolding happens
+a-failed-read-adds-no-candidate old = happens old failedReads refl
+
+-- A block of the bad list moves, and leaves the list.
+abbrev badBlockMoves : Run
+badBlockMoves =
+    record {
+      sectors = disk [] (5 ∷ 17 ∷ 6 ∷ []);
+      turns =
+          found [] (5 ∷ 17 ∷ 6 ∷ [])
+          ++ opens ++ asksWrite 1 17 (bytes 1)
+          ++ (go ⇒ write 17 ∷ timesOut ⇒ write 17 ∷ timesOut ⇒ write 4928 ∷ done ⇒ read 4928 ∷ gives 1 ⇒ finished 0x04 0x04 0x80 0 ∷ [])
+          ++ stores ++ asksTable 0x00;
+      part = imageOf (17 ∷ []) (5 ∷ 6 ∷ []);
+      place = sector 4928;
+      candidates = bytes 1 ∷ [];
+    }
+
+pub a-bad-block-that-moves-leaves-the-bad-list : (old : Drive) → Happens old badBlockMoves
+unfolding happens
+a-bad-block-that-moves-leaves-the-bad-list old = happens old badBlockMoves refl
+
+-- The block is at spare 0. A plain write and a read go there.
+abbrev atItsSpare : Run
+atItsSpare =
+    record {
+      sectors = disk (17 ∷ []) [];
+      turns =
+          found (17 ∷ []) []
+          ++ opens ++ asksWrite 1 17 (bytes 1) ++ (go ⇒ write 4928 ∷ done ⇒ finished 0x00 0x00 0x80 0 ∷ [])
+          ++ opens ++ asksRead 17 1 1 ++ (go ⇒ read 4928 ∷ garbles 9 ⇒ read 4928 ∷ gives 1 ⇒ finished 0x08 0x00 0x00 0 ∷ []);
+      part = bytes 1;
+      place = sector 4928;
+      candidates = bytes 1 ∷ [];
+    }
+
+pub a-moved-block-is-written-and-read-at-its-spare : (old : Drive) → Happens old atItsSpare
+unfolding happens
+a-moved-block-is-written-and-read-at-its-spare old = happens old atItsSpare refl
+
+-- A spoiled sector that is written again can be read.
+abbrev pub spoiledOnce : Run
+spoiledOnce =
+    record {
+      sectors = disk [] [];
+      turns =
+          found [] [] ++ opens ++ asksWrite 2 17 (bytes 1)
+          ++ (go ⇒ write 17 ∷ done ⇏ read 17 ∷ garbles 9 ⇒ write 17 ∷ done ⇒ read 17 ∷ gives 1 ⇒ finished 0x08 0x00 0x80 0 ∷ [])
+          ++ opens ++ asksTable 0x00;
+      part = imageOf [] [];
+      place = sector 17;
+      candidates = bytes 1 ∷ [];
+    }
+
+pub a-spoiled-sector-can-be-written-again : (old : Drive) → Happens old spoiledOnce
+unfolding happens
+a-spoiled-sector-can-be-written-again old = happens old spoiledOnce refl

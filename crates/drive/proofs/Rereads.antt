@@ -1,0 +1,98 @@
+-- Reads, computed: lawful lists of calls, each beside what it is answered.
+use mathlib.Core.Path.{refl}
+use mathlib.Core.Bool.{cond}
+use mathlib.Core.List.{[], _∷_, _++_}
+use lib.Dec.{eqb}
+use Rattle.image.specs.Images.{imageOf}
+use Rattle.drive.specs.declared.Drive.{Drive}
+use Rattle.drive.specs.History.{held, unreadable}
+use Rattle.drive.proofs.Transcripts.{_⇒_, Run, Happens, happens, bytes, disk, sector, go, gives, done, garbles, timesOut, found, opens, asksRead, asksWrite, read, write, finished}
+
+-- A write and a read, both good at once.
+abbrev writtenThenRead : Run
+writtenThenRead =
+    record {
+      sectors = disk [] [];
+      turns =
+          found [] []
+          ++ opens ++ asksWrite 1 17 (bytes 1) ++ (go ⇒ write 17 ∷ done ⇒ finished 0x00 0x00 0x80 0 ∷ [])
+          ++ opens ++ asksRead 17 2 2 ++ (go ⇒ read 17 ∷ gives 1 ⇒ finished 0x00 0x00 0x00 0 ∷ []);
+      part = bytes 1;
+      place = sector 17;
+      candidates = bytes 1 ∷ [];
+    }
+
+pub a-good-read-brings-the-written-bytes : (old : Drive) → Happens old writtenThenRead
+unfolding happens
+a-good-read-brings-the-written-bytes old = happens old writtenThenRead refl
+
+-- Two of three rereads fail, and T is 3. What comes garbled after the first good read is not kept.
+abbrev rereadsComeGood : Run
+rereadsComeGood =
+    record {
+      sectors = disk [] [];
+      turns =
+          found [] []
+          ++ opens ++ asksRead 17 3 3
+          ++ (go ⇒ read 17 ∷ garbles 9 ⇒ read 17 ∷ timesOut ⇒ read 17 ∷ gives 7 ⇒ read 17 ∷ garbles 9 ⇒ finished 0x0C 0x00 0x80 2 ∷ []);
+      part = bytes 7;
+      place = sector 17;
+      candidates = bytes 7 ∷ [];
+    }
+
+pub below-the-threshold-it-stays : (old : Drive) → Happens old rereadsComeGood
+unfolding happens
+below-the-threshold-it-stays old = happens old rereadsComeGood refl
+
+-- E reaches T. The bytes are written again where they were, and verify.
+abbrev verifiedInPlace : Run
+verifiedInPlace =
+    record {
+      sectors = disk [] [];
+      turns =
+          found [] []
+          ++ opens ++ asksRead 17 1 1
+          ++ (go ⇒ read 17 ∷ garbles 9 ⇒ read 17 ∷ garbles 9 ⇒ read 17 ∷ gives 7 ⇒ write 17 ∷ done ⇒ read 17 ∷ gives 7 ⇒ finished 0x08 0x00 0x80 1 ∷ []);
+      part = bytes 7;
+      place = sector 17;
+      candidates = bytes 7 ∷ [];
+    }
+
+pub at-the-threshold-it-verifies-in-place : (old : Drive) → Happens old verifiedInPlace
+unfolding happens
+at-the-threshold-it-verifies-in-place old = happens old verifiedInPlace refl
+
+-- No sector but the table's can be read as the list begins.
+abbrev pub spoiledAtFirst : Run
+spoiledAtFirst =
+    record {
+      sectors = λ s. cond (eqb (s .0) 4960) (held (imageOf [] [])) unreadable;
+      turns = found [] [] ++ opens ++ asksWrite 1 17 (bytes 1) ++ (go ⇒ write 17 ∷ done ⇒ finished 0x00 0x00 0x80 0 ∷ []);
+      part = bytes 1;
+      place = sector 17;
+      candidates = bytes 1 ∷ [];
+    }
+
+pub a-sector-that-could-not-be-read-is-written : (old : Drive) → Happens old spoiledAtFirst
+unfolding happens
+a-sector-that-could-not-be-read-is-written old = happens old spoiledAtFirst refl
+
+-- Two blocks are written, and 273 besides, whose low byte is 17.
+abbrev pub threeBlocks : Run
+threeBlocks =
+    record {
+      sectors = disk [] [];
+      turns =
+          found [] []
+          ++ opens ++ asksWrite 1 17 (bytes 1) ++ (go ⇒ write 17 ∷ done ⇒ finished 0x00 0x00 0x80 0 ∷ [])
+          ++ opens ++ asksWrite 1 18 (bytes 2) ++ (go ⇒ write 18 ∷ done ⇒ finished 0x00 0x00 0x00 0 ∷ [])
+          ++ opens ++ asksWrite 1 273 (bytes 3) ++ (go ⇒ write 273 ∷ done ⇒ finished 0x00 0x00 0x00 0 ∷ [])
+          ++ opens ++ asksRead 17 0 1 ++ (go ⇒ read 17 ∷ gives 1 ⇒ finished 0x00 0x00 0x00 0 ∷ []);
+      part = bytes 1;
+      place = sector 17;
+      candidates = bytes 1 ∷ [];
+    }
+
+pub blocks-do-not-touch-one-another : (old : Drive) → Happens old threeBlocks
+unfolding happens
+blocks-do-not-touch-one-another old = happens old threeBlocks refl
