@@ -1,18 +1,15 @@
 //! The platter: 9,792 sectors of 532 bytes, and which of them are unreadable.
-//!
-//! In a file the sectors stand one after another. An unreadable sector has its last
-//! bytes there; its number stands in a text file beside it, `NAME.unreadable`, which
-//! is there only if there is such a sector.
+
+mod file;
 
 use std::collections::BTreeMap;
-use std::path::{Path, PathBuf};
 use std::rc::Rc;
 
 use reference::geometry::{Sector, SECTORS, SECTOR_BYTES, TABLE};
 use reference::image::{self, Table};
 use reference::surface::{Access, Bytes, Left, Sectors};
 
-use crate::files;
+pub use file::unreadable_file;
 
 /// Length of a platter file.
 pub const LENGTH: usize = SECTORS as usize * SECTOR_BYTES;
@@ -58,45 +55,6 @@ impl Platter {
             remains: BTreeMap::new(),
             changed: false,
         }
-    }
-
-    /// The platter of a file; a blank one if there is no such file.
-    pub fn open(path: &Path) -> Result<Platter, String> {
-        match path.try_exists() {
-            Ok(false) => Ok(Platter::blank()),
-            _ => Platter::load(path),
-        }
-    }
-
-    /// The platter of a file.
-    pub fn load(path: &Path) -> Result<Platter, String> {
-        let bytes = files::read(path)?;
-        if bytes.len() != LENGTH {
-            return Err(format!(
-                "{} has {} bytes and is no platter, which has {LENGTH} (9792 sectors of 532)",
-                path.display(),
-                bytes.len()
-            ));
-        }
-        let mut platter = Platter::holding(&bytes);
-        for sector in load_unreadable(&unreadable_file(path))? {
-            platter.make_unreadable(sector, &platter.bytes(sector));
-        }
-        platter.changed = false;
-        Ok(platter)
-    }
-
-    /// Writes the file, and the one of the unreadable sectors. Between the two a
-    /// sector is rather called unreadable than read with other bytes.
-    pub fn save(&mut self, path: &Path) -> Result<(), String> {
-        let list = unreadable_file(path);
-        let mut either = load_unreadable(&list)?;
-        either.extend(self.remains.keys());
-        save_unreadable(&list, &either)?;
-        files::write(path, &self.all_bytes())?;
-        save_unreadable(&list, &self.unreadable())?;
-        self.changed = false;
-        Ok(())
     }
 
     /// Whether it was changed since it was made, loaded or saved.
@@ -160,43 +118,9 @@ impl Platter {
     }
 }
 
-/// The file that lists a platter's unreadable sectors.
-pub fn unreadable_file(path: &Path) -> PathBuf {
-    files::with_ending(path, ".unreadable")
-}
-
-fn load_unreadable(path: &Path) -> Result<Vec<Sector>, String> {
-    if !path.exists() {
-        return Ok(vec![]);
-    }
-    let text = String::from_utf8_lossy(&files::read(path)?).into_owned();
-    let sector = |line: &str| line.trim().parse().ok().and_then(Sector::new);
-    (1..)
-        .zip(text.lines())
-        .map(|(number, line)| {
-            sector(line).ok_or(format!(
-                "{}:{number}: {line:?} is no sector",
-                path.display()
-            ))
-        })
-        .collect()
-}
-
-fn save_unreadable(path: &Path, sectors: &[Sector]) -> Result<(), String> {
-    if sectors.is_empty() {
-        return files::remove(path);
-    }
-    let mut numbers: Vec<u32> = sectors.iter().map(|sector| sector.number()).collect();
-    numbers.sort_unstable();
-    numbers.dedup();
-    let lines: String = numbers.iter().map(|number| format!("{number}\n")).collect();
-    files::write(path, lines.as_bytes())
-}
-
 #[cfg(test)]
 mod tests {
     use super::*;
-    use std::fs;
 
     fn sector(number: u32) -> Sector {
         Sector::new(number).expect("a sector")
@@ -208,60 +132,5 @@ mod tests {
         assert_eq!(platter.all_bytes().len(), 5_209_344);
         assert_eq!(platter.table(), Table::new(vec![], vec![]));
         assert_eq!(platter.held(sector(17)).as_deref(), Some(&[0; 532][..]));
-    }
-
-    #[test]
-    fn saved_and_loaded() {
-        let folder = files::test_folder("platter");
-        let path = folder.join("a");
-        let list = folder.join("a.unreadable");
-        let mut platter = Platter::open(&path).expect("a blank one");
-        let write = |number| Access::Write(sector(number));
-        platter.leave(write(3), &[3; 532], &Left::Held(vec![3; 532]));
-        platter.leave(write(5), &[5; 532], &Left::Spoiled);
-        platter.leave(write(4), &[4; 532], &Left::Spoiled);
-        platter.save(&path).expect("saved");
-        assert_eq!(fs::read_to_string(&list).expect("a list"), "4\n5\n");
-
-        let mut again = Platter::open(&path).expect("the same");
-        assert!(!again.changed());
-        assert_eq!(again.all_bytes(), platter.all_bytes());
-        assert_eq!(again.unreadable(), [sector(4), sector(5)]);
-        assert_eq!(again.held(sector(5)), None);
-        assert_eq!(again.bytes(sector(5))[..], [5; 532]);
-        again.leave(write(5), &[6; 532], &Left::Held(vec![6; 532]));
-        again.leave(write(4), &[6; 532], &Left::Held(vec![6; 532]));
-        again.save(&path).expect("saved");
-        assert!(!list.exists());
-        fs::remove_dir_all(folder).expect("removed");
-    }
-
-    #[test]
-    fn another_size_is_refused() {
-        let folder = files::test_folder("sizes");
-        let path = folder.join("a");
-        for length in [0, 532, LENGTH - 1, LENGTH + 1, 5_175_296] {
-            fs::write(&path, vec![0; length]).expect("written");
-            let message = Platter::open(&path).expect_err("another size");
-            assert!(message.contains(&format!("has {length} bytes and is no platter")));
-            assert_eq!(fs::read(&path).expect("as it was").len(), length);
-        }
-        fs::remove_dir_all(folder).expect("removed");
-    }
-
-    #[test]
-    fn a_list_of_no_sectors_is_refused() {
-        let folder = files::test_folder("lists");
-        let path = folder.join("a");
-        Platter::blank().save(&path).expect("saved");
-        for (text, line) in [("9792\n", 1), ("17\nx\n", 2), ("\n", 1)] {
-            fs::write(unreadable_file(&path), text).expect("written");
-            let message = Platter::open(&path).expect_err("no sector");
-            assert!(
-                message.contains(&format!("a.unreadable:{line}: ")),
-                "{message}"
-            );
-        }
-        fs::remove_dir_all(folder).expect("removed");
     }
 }

@@ -1,33 +1,18 @@
 //! The command itself: its exit status, its messages and the files it leaves.
 
-use std::fs;
-use std::io::Write;
-use std::path::{Path, PathBuf};
-use std::process::{Command, Stdio};
+mod common;
 
-/// An empty folder for one test.
-fn folder(name: &str) -> PathBuf {
-    let folder = std::env::temp_dir().join(format!("workbench-{}-{name}", std::process::id()));
-    let _ = fs::remove_dir_all(&folder);
-    fs::create_dir_all(&folder).expect("a folder");
-    folder
-}
+use std::fs;
+use std::path::Path;
+use std::process::Command;
+
+use common::{ended, folder};
+
+const PROGRAM: &str = env!("CARGO_BIN_EXE_workbench");
 
 /// Runs the command in a folder. Says its exit status, its output and its messages.
 fn workbench(folder: &Path, arguments: &[&str], input: &str) -> (i32, String, String) {
-    let mut child = Command::new(env!("CARGO_BIN_EXE_workbench"))
-        .args(arguments)
-        .current_dir(folder)
-        .stdin(Stdio::piped())
-        .stdout(Stdio::piped())
-        .stderr(Stdio::piped())
-        .spawn()
-        .expect("the command");
-    let mut pipe = child.stdin.take().expect("a pipe");
-    // A command that refuses its arguments is gone before it reads.
-    let _ = pipe.write_all(input.as_bytes());
-    drop(pipe);
-    let output = child.wait_with_output().expect("its end");
+    let output = ended(Command::new(PROGRAM).args(arguments), folder, input);
     let text = |bytes| String::from_utf8(bytes).expect("text");
     let status = output.status.code().expect("a status");
     (status, text(output.stdout), text(output.stderr))
