@@ -1,0 +1,234 @@
+//! The script `workbench`, in a copy of the checkout: when it proves, and what it does
+//! if that fails. The prover, cargo and the program are stand-ins.
+
+mod common;
+
+use std::fs::{self, File, Permissions};
+use std::os::unix::fs::PermissionsExt;
+use std::path::{Path, PathBuf};
+use std::process::Command;
+use std::time::SystemTime;
+
+use common::{ended, folder};
+
+/// The checkout that is tested.
+const ROOT: &str = concat!(env!("CARGO_MANIFEST_DIR"), "/../..");
+
+/// Copies a folder, without what was built and without version control's own.
+fn copy(from: &Path, to: &Path) {
+    fs::create_dir(to).expect("a new folder");
+    for entry in fs::read_dir(from).expect("a folder") {
+        let entry = entry.expect("an entry");
+        let (name, path) = (entry.file_name(), entry.path());
+        if name == "target" || name == ".git" {
+            continue;
+        }
+        match path.is_dir() {
+            true => copy(&path, &to.join(name)),
+            false => drop(fs::copy(&path, to.join(name)).expect("copied")),
+        }
+    }
+}
+
+/// Holds a copy of the checkout with nothing built, and stand-ins on the path.
+struct Checkout {
+    /// Where `checkout`, the folder `path` and the record `proofs` are.
+    room: PathBuf,
+}
+
+/// Stands in for the prover: makes a library, unless there is a file `wrong`.
+const PROVER: &str = r#"
+if [ "$*" = version ]; then cat "$room/kit"; exit; fi
+[ "$*" = "staticlib bumivondra" ] && [ "$PWD" = "$room/checkout" ] || exit 9
+echo proved >>"$room/proofs"
+[ ! -e "$room/wrong" ] || exit 1
+mkdir -p target/staticlib
+cp "$room/proofs" target/staticlib/libbumivondra.a
+"#;
+
+/// The folder of the programs in a checkout.
+const PROGRAMS: &str = "rust/workbench/target/release";
+
+impl Checkout {
+    /// Makes a copy whose prover this stands in for.
+    fn new(name: &str, prover: &str) -> Checkout {
+        let room = folder(name).canonicalize().expect("a folder");
+        copy(Path::new(ROOT), &room.join("checkout"));
+        fs::create_dir(room.join("path")).expect("a folder");
+        fs::write(room.join("kit"), "kit 1\n").expect("written");
+        let checkout = Checkout { room };
+        checkout.stand_in("path/rt", prover);
+        checkout
+    }
+
+    /// Makes a copy that never builds a program, since stand-ins are there for all.
+    fn built(name: &str) -> Checkout {
+        let checkout = Checkout::new(name, PROVER);
+        checkout.stand_in("path/cargo", "");
+        fs::create_dir_all(checkout.file(PROGRAMS)).expect("a folder");
+        let program = format!("checkout/{PROGRAMS}/workbench");
+        checkout.stand_in(&program, "echo \"ran $*\"\n");
+        checkout
+    }
+
+    fn stand_in(&self, name: &str, lines: &str) {
+        let path = self.room.join(name);
+        let room = self.room.display();
+        fs::write(&path, format!("#!/bin/sh\nroom=\"{room}\"\n{lines}")).expect("written");
+        fs::set_permissions(&path, Permissions::from_mode(0o755)).expect("a program");
+    }
+
+    fn file(&self, name: &str) -> PathBuf {
+        self.room.join("checkout").join(name)
+    }
+
+    /// Runs the script. Says its exit status, its output and its messages.
+    fn run(&self, arguments: &[&str]) -> (Option<i32>, String, String) {
+        let path = std::env::var("PATH").expect("a path");
+        let path = format!("{}:{path}", self.room.join("path").display());
+        let mut command = Command::new(self.file("workbench"));
+        command.env("PATH", path).env_remove("BUMIVONDRA_LIB");
+        let output = ended(command.args(arguments), &self.room, "");
+        let text = |bytes| String::from_utf8(bytes).expect("text");
+        let status = output.status.code();
+        (status, text(output.stdout), text(output.stderr))
+    }
+
+    /// Counts how often something was proved.
+    fn proofs(&self) -> usize {
+        let proofs = fs::read_to_string(self.room.join("proofs"));
+        proofs.map_or(0, |lines| lines.lines().count())
+    }
+
+    /// Runs the script, which goes well. Says whether it proved the library first.
+    fn proves(&self) -> bool {
+        let before = self.proofs();
+        let (status, out, message) = self.run(&["run", "x"]);
+        assert_eq!(
+            (status, out.as_str()),
+            (Some(0), "ran run x\n"),
+            "{message}"
+        );
+        self.proofs() > before
+    }
+
+    /// Says whether the script proves the library now, and then no more.
+    fn proves_once(&self) -> bool {
+        self.proves() && !self.proves()
+    }
+
+    /// Writes a line of spaces behind a file.
+    fn append(&self, name: &str) {
+        let path = self.file(name);
+        let old = fs::read_to_string(&path).expect("a file");
+        fs::write(&path, old + " \n").expect("written");
+    }
+}
+
+impl Drop for Checkout {
+    fn drop(&mut self) {
+        // A folder that stays hurts nobody.
+        let _ = fs::remove_dir_all(&self.room);
+    }
+}
+
+const SOURCE: &str = "crates/geometry/src/lib.rt";
+const DEFINITION: &str = "crates/geometry/specs/Geometry.antt";
+const PROOF: &str = "crates/bumivondra/proofs/Lib.antt";
+const LIBRARY: &str = "target/staticlib/libbumivondra.a";
+
+#[test]
+fn the_library_is_proved_when_what_it_is_made_from_has_changed() {
+    let checkout = Checkout::built("changes");
+    assert!(!checkout.file("target").exists());
+    assert!(checkout.proves_once(), "a fresh checkout");
+    edits_are_proved(&checkout);
+    files_more_or_less_are_proved(&checkout);
+    another_kit_or_library_is_proved(&checkout);
+    other_edits_cost_no_proof(&checkout);
+}
+
+fn edits_are_proved(checkout: &Checkout) {
+    for name in [SOURCE, DEFINITION, PROOF, "crates.txt"] {
+        checkout.append(name);
+        assert!(checkout.proves_once(), "{name}");
+    }
+    checkout.append(DEFINITION);
+    let edited = File::options().append(true).open(checkout.file(DEFINITION));
+    let aged = edited.and_then(|file| file.set_modified(SystemTime::UNIX_EPOCH));
+    aged.expect("an old time");
+    assert!(checkout.proves_once(), "an edit with an old time");
+
+    checkout.append(SOURCE);
+    let late = format!("[ -e \"$room/late\" ] || echo >>{SOURCE}\n: >\"$room/late\"\n");
+    checkout.stand_in("path/rt", &[PROVER, &late].concat());
+    assert!(checkout.proves(), "an edit");
+    assert!(checkout.proves_once(), "another edit during the proof");
+}
+
+fn files_more_or_less_are_proved(checkout: &Checkout) {
+    let [more, other] =
+        ["More", "Other"].map(|name| checkout.file(&format!("crates/geometry/specs/{name}.antt")));
+    fs::write(&more, "").expect("written");
+    assert!(checkout.proves_once(), "a file more");
+    fs::rename(&more, &other).expect("renamed");
+    assert!(checkout.proves_once(), "another name");
+    fs::remove_file(&other).expect("removed");
+    assert!(checkout.proves_once(), "a file less");
+}
+
+fn another_kit_or_library_is_proved(checkout: &Checkout) {
+    fs::write(checkout.room.join("kit"), "kit 2\n").expect("written");
+    assert!(checkout.proves_once(), "another kit");
+    fs::write(checkout.file(LIBRARY), "of elsewhere").expect("written");
+    assert!(checkout.proves_once(), "another library");
+    fs::remove_file(checkout.file(LIBRARY)).expect("removed");
+    assert!(checkout.proves_once(), "no library");
+    fs::remove_dir_all(checkout.file("target")).expect("removed");
+    assert!(checkout.proves_once(), "nothing that was built");
+}
+
+fn other_edits_cost_no_proof(checkout: &Checkout) {
+    for name in [
+        "crates/geometry/must-fail/block_9728.edit",
+        "crates/trials/src/lib.rt",
+        "rust/workbench/src/lib.rs",
+        "README.md",
+    ] {
+        checkout.append(name);
+        assert!(!checkout.proves(), "{name}");
+    }
+    let source = fs::read(checkout.file(SOURCE)).expect("a source");
+    fs::write(checkout.file(SOURCE), source).expect("the same with a new time");
+    assert!(!checkout.proves(), "a new time");
+}
+
+#[test]
+fn nothing_is_run_that_is_not_proved_and_built() {
+    let checkout = Checkout::built("failures");
+    let wrong = checkout.room.join("wrong");
+    assert!(checkout.proves_once(), "a fresh checkout");
+    let library = fs::read(checkout.file(LIBRARY)).expect("a library");
+    fs::write(&wrong, "").expect("written");
+    checkout.append(PROOF);
+    for _ in 0..2 {
+        let before = checkout.proofs();
+        stops(&checkout, "the controller is not proved");
+        assert_eq!(checkout.proofs(), before + 1);
+    }
+    // The old library was there all the time.
+    assert!(fs::read(checkout.file(LIBRARY)).expect("a library") == library);
+    fs::remove_file(&wrong).expect("removed");
+    assert!(checkout.proves_once(), "a proof that is right again");
+
+    checkout.stand_in("path/cargo", "exit 101\n");
+    stops(&checkout, "the program is not built");
+}
+
+/// Checks that the script says why it runs nothing.
+fn stops(checkout: &Checkout, why: &str) {
+    let (status, out, message) = checkout.run(&["week"]);
+    assert_eq!((status, out.as_str()), (Some(3), ""));
+    let why = format!("workbench: {why}, so nothing is run\n");
+    assert!(message.ends_with(&why), "{message}");
+}
