@@ -24,7 +24,6 @@ const PATIENT: Retry = Retry {
 
 /// Writes an image onto a new platter with an empty table.
 pub fn import(image: &Path, platter: &Path) -> Result<(), String> {
-    refuse_existing(platter)?;
     let bytes = files::read(image)?;
     if bytes.len() != LENGTH {
         return Err(format!(
@@ -49,7 +48,6 @@ pub fn import(image: &Path, platter: &Path) -> Result<(), String> {
 /// the blocks that could not be read; if there are any, the image is written only
 /// if it is wanted all the same, with zeros for them.
 pub fn export(platter: &Path, image: &Path, keep_going: bool) -> Result<Vec<u32>, String> {
-    refuse_existing(image)?;
     let mut host = Host::new(Board::new(Platter::load(platter)?));
     host.start();
     if host.board.table().is_none() {
@@ -75,17 +73,6 @@ pub fn export(platter: &Path, image: &Path, keep_going: bool) -> Result<Vec<u32>
         files::write(image, &bytes)?;
     }
     Ok(lost)
-}
-
-/// Neither command writes over a file.
-fn refuse_existing(path: &Path) -> Result<(), String> {
-    match path.exists() {
-        true => Err(format!(
-            "{} is there already: remove it, or name another file",
-            path.display()
-        )),
-        false => Ok(()),
-    }
 }
 
 #[cfg(test)]
@@ -164,9 +151,6 @@ mod tests {
         let message = import(&image, &platter).expect_err("another size");
         assert!(message.contains("has 5175295 bytes and is no image"));
         assert!(!platter.exists());
-        Platter::blank().save(&platter).expect("saved");
-        let message = import(&image, &platter).expect_err("there already");
-        assert!(message.contains("is there already"));
         fs::write(&platter, vec![0; crate::platter::LENGTH]).expect("written");
         let message = export(&platter, &folder.join("b"), false).expect_err("no table");
         assert!(message.contains("has no good table"));

@@ -7,7 +7,7 @@
 //! random commands. `health` has the figures of the health block. `show`, `status` and
 //! `summary` say what happened, `progress` how far a long line is, and `picture` draws
 //! it. `image_files` brings images on a platter and takes them off; `files` reads and
-//! writes all files.
+//! writes all files. The command line is in the package `usage`.
 
 pub mod board;
 pub mod data;

@@ -7,116 +7,81 @@ use std::env;
 use std::fs::File;
 use std::io::ErrorKind::BrokenPipe;
 use std::io::{self, BufRead, BufReader, BufWriter, IsTerminal, Write};
-use std::path::{Path, PathBuf};
+use std::path::Path;
 use std::process::ExitCode;
 
 use reference::geometry::SECTOR_BYTES;
 use reference::image;
+use usage::{Asked, Plan, Work};
 use workbench::picture::{self, Moment};
 use workbench::platter::Platter;
 use workbench::run::{Run, Settings, Stop};
 use workbench::{files, image_files, show};
 
-const HELP: &str = include_str!("help.txt");
-
-/// The plans of the repository.
-const PLANS: &str = concat!(env!("CARGO_MANIFEST_DIR"), "/../../plans");
-
-/// The mission's week.
-const WEEK: &str = concat!(env!("CARGO_MANIFEST_DIR"), "/../../plans/week.plan");
-
 fn main() -> ExitCode {
-    let done = arguments().and_then(|arguments| {
-        let words: Vec<&str> = arguments.iter().map(String::as_str).collect();
-        command(&words)
+    let asked = usage::asked(env::args_os().skip(1));
+    let done = asked.and_then(|asked| match asked {
+        Asked::Answer(text) => say(&text),
+        Asked::Work(work) => carry_out(work),
     });
     match done {
         Ok(true) => ExitCode::SUCCESS,
         Ok(false) => ExitCode::from(1),
-        Err(message) => {
-            eprintln!("workbench: {message}");
-            ExitCode::from(2)
-        }
+        Err(message) => usage::refuse(message),
     }
 }
 
-/// The arguments as text.
-fn arguments() -> Result<Vec<String>, String> {
-    let words = env::args_os().skip(1).map(|word| word.into_string());
-    words
-        .collect::<Result<_, _>>()
-        .map_err(|word| format!("{} is no UTF-8 text", word.display()))
-}
-
-/// Does what the arguments say. Says whether all was as it should be.
-fn command(words: &[&str]) -> Result<bool, String> {
-    match words {
-        ["--help" | "-h" | "help"] => say(HELP),
-        ["--version"] => say(concat!("workbench ", env!("CARGO_PKG_VERSION"), "\n")),
-        ["run", rest @ ..] => run(rest),
-        ["week", rest @ ..] => run(&[rest, &[WEEK]].concat()),
-        ["import", image, platter] => {
-            image_files::import(Path::new(image), Path::new(platter))?;
+/// Does what is asked for. Says whether all was as it should be.
+fn carry_out(work: Work) -> Result<bool, String> {
+    match work {
+        Work::Run {
+            plan,
+            platter,
+            trace,
+        } => {
+            let settings = Settings {
+                platter,
+                trace,
+                ..Settings::default()
+            };
+            play(plan.as_ref(), settings, io::stdout().lock()).map(|(good, _)| good)
+        }
+        Work::Import { image, platter } => {
+            image_files::import(&image, &platter)?;
+            let (image, platter) = (image.display(), platter.display());
             say(&format!(
                 "{platter}: the 9728 blocks of {image}, with an empty table\n"
             ))
         }
-        ["export", platter, image] => export(platter, image, false),
-        ["export", "--keep-going", platter, image] => export(platter, image, true),
-        ["picture", source, to] => picture_of(source, to),
-        ["timeline", plan, to] => timeline(plan, to),
-        [] => Err(String::from("what is to be done? see --help")),
-        words => Err(format!("\"{}\" is no command; see --help", words.join(" "))),
+        Work::Export {
+            platter,
+            image,
+            keep_going,
+        } => export(&platter, &image, keep_going),
+        Work::Picture { source, to } => picture_of(&source, &to),
+        Work::Timeline { plan, to } => timeline(&plan, &to),
     }
 }
 
 /// Writes to standard output.
 fn say(text: &str) -> Result<bool, String> {
-    let written = io::stdout().write_all(text.as_bytes());
-    written.map_err(output_fault).map(|()| true)
+    usage::say(text).map(|()| true)
 }
 
-fn output_fault(error: io::Error) -> String {
-    format!("the output cannot be written: {error}")
-}
-
-/// Runs a plan and shows what happens.
-fn run(words: &[&str]) -> Result<bool, String> {
-    let mut settings = Settings::default();
-    let mut plan = None;
-    let mut words = words.iter();
-    while let Some(&word) = words.next() {
-        match word {
-            "--trace" => settings.trace = true,
-            "--platter" => {
-                let file = words.next().ok_or("--platter needs a file")?;
-                settings.platter = Some(PathBuf::from(file));
-            }
-            option if option.starts_with("--") => {
-                return Err(format!("\"{option}\" is no option of run; see --help"));
-            }
-            name if plan.is_none() => plan = Some(name),
-            more => return Err(format!("one plan is run at a time, so not \"{more}\" too")),
-        }
-    }
-    play(plan, settings, io::stdout().lock()).map(|(good, _)| good)
-}
-
-/// Runs a plan of this name, or standard input.
+/// Runs a plan, or standard input, and shows what happens.
 fn play(
-    plan: Option<&str>,
+    plan: Option<&Plan>,
     mut settings: Settings,
     out: impl Write,
 ) -> Result<(bool, Vec<Moment>), String> {
     let input = match plan {
-        Some(word) => {
-            let path = find_plan(word);
+        Some(Plan { path, .. }) => {
             settings.folder = path.parent().map(Path::to_path_buf).unwrap_or_default();
-            open(&path)?
+            open(path)?
         }
         None => standard_input(),
     };
-    let name = plan.unwrap_or("standard input");
+    let name = plan.map_or("standard input", |plan| plan.name.as_str());
     let mut run = Run::new(settings, BufWriter::new(out))?;
     let played = run.plan(input);
     let number = run.number();
@@ -125,7 +90,7 @@ fn play(
         Err(Stop::Line(message)) => Err(format!("{name}:{number}: {message}")),
         // Whoever read the output has seen enough.
         Err(Stop::Output(error)) if error.kind() == BrokenPipe => Ok((false, vec![])),
-        Err(Stop::Output(error)) => Err(output_fault(error)),
+        Err(Stop::Output(error)) => Err(usage::output_fault(error)),
     }
 }
 
@@ -143,18 +108,9 @@ fn standard_input() -> Box<dyn BufRead> {
     Box::new(io::stdin().lock())
 }
 
-/// The file of this name, or else the repository's plan of this name.
-fn find_plan(word: &str) -> PathBuf {
-    let path = PathBuf::from(word);
-    let known = Path::new(PLANS).join(format!("{word}.plan"));
-    match !path.is_file() && known.is_file() {
-        true => known,
-        false => path,
-    }
-}
-
-fn export(platter: &str, image: &str, keep_going: bool) -> Result<bool, String> {
-    let lost = image_files::export(Path::new(platter), Path::new(image), keep_going)?;
+fn export(platter: &Path, image: &Path, keep_going: bool) -> Result<bool, String> {
+    let lost = image_files::export(platter, image, keep_going)?;
+    let (platter, image) = (platter.display(), image.display());
     if lost.is_empty() {
         return say(&format!("{image}: the 9728 blocks of {platter}\n"));
     }
@@ -168,34 +124,32 @@ fn export(platter: &str, image: &str, keep_going: bool) -> Result<bool, String> 
 }
 
 /// The picture of a platter file, or of a table's image.
-fn picture_of(source: &str, to: &str) -> Result<bool, String> {
-    let path = Path::new(source);
-    let bytes = files::read(path)?;
+fn picture_of(source: &Path, to: &Path) -> Result<bool, String> {
+    let bytes = files::read(source)?;
     let (table, unreadable) = match bytes.len() {
         SECTOR_BYTES => (image::read(&bytes), vec![]),
         _ => {
-            let platter = Platter::load(path)?;
+            let platter = Platter::load(source)?;
             let unreadable = platter.unreadable();
             let numbers = unreadable.iter().map(|sector| sector.number()).collect();
             (platter.table(), numbers)
         }
     };
-    let title = path.file_name().unwrap_or_default().to_string_lossy();
+    let title = source.file_name().unwrap_or_default().to_string_lossy();
     let svg = picture::platter(&title, table.as_ref(), &unreadable);
-    files::write(Path::new(to), svg.as_bytes())?;
+    files::write(to, svg.as_bytes())?;
     Ok(true)
 }
 
 /// The picture of a plan's run, on a platter in memory.
-fn timeline(plan: &str, to: &str) -> Result<bool, String> {
+fn timeline(plan: &Plan, to: &Path) -> Result<bool, String> {
     let settings = Settings {
         moments: true,
         ..Settings::default()
     };
     let (good, moments) = play(Some(plan), settings, io::sink())?;
-    let plan = find_plan(plan);
-    let name = plan.file_name().unwrap_or_default().to_string_lossy();
+    let name = plan.path.file_name().unwrap_or_default().to_string_lossy();
     let svg = picture::timeline(&format!("The run of {name}"), &moments);
-    files::write(Path::new(to), svg.as_bytes())?;
+    files::write(to, svg.as_bytes())?;
     Ok(good)
 }

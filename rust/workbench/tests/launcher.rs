@@ -1,5 +1,6 @@
-//! The script `workbench`, in a copy of the checkout: when it proves, and what it does
-//! if that fails. The prover, cargo and the program are stand-ins.
+//! The script `workbench`, in a copy of the checkout: what it answers before a proof,
+//! when it proves, and what it does if that fails. The prover is a stand-in that tells
+//! what was asked of it, and so are cargo and the programs where they are slow.
 
 mod common;
 
@@ -7,7 +8,7 @@ use std::fs::{self, File, Permissions};
 use std::os::unix::fs::PermissionsExt;
 use std::path::{Path, PathBuf};
 use std::process::Command;
-use std::time::SystemTime;
+use std::time::{Duration, Instant, SystemTime};
 
 use common::{ended, folder};
 
@@ -66,8 +67,9 @@ impl Checkout {
         let checkout = Checkout::new(name, PROVER);
         checkout.stand_in("path/cargo", "");
         fs::create_dir_all(checkout.file(PROGRAMS)).expect("a folder");
-        let program = format!("checkout/{PROGRAMS}/workbench");
-        checkout.stand_in(&program, "echo \"ran $*\"\n");
+        for (program, lines) in [("usage", "exit 10\n"), ("workbench", "echo \"ran $*\"\n")] {
+            checkout.stand_in(&format!("checkout/{PROGRAMS}/{program}"), lines);
+        }
         checkout
     }
 
@@ -130,6 +132,57 @@ impl Drop for Checkout {
         // A folder that stays hurts nobody.
         let _ = fs::remove_dir_all(&self.room);
     }
+}
+
+/// Stands in for a prover that is not to be asked.
+const NO_PROVER: &str = "echo asked >>\"$room/proofs\"\nexit 1\n";
+
+/// Lists arguments, the exit status that they lead to without a proof, and what is said:
+/// in the output if they are right, and else in the message.
+const ANSWERS: [(&str, i32, &str); 11] = [
+    ("--help", 0, "\n  workbench week "),
+    ("--version", 0, "libbumivondra.a: not built yet\n"),
+    (
+        "--version",
+        0,
+        concat!("workbench ", env!("CARGO_PKG_VERSION")),
+    ),
+    ("", 2, "workbench: what is to be done?"),
+    ("ran", 2, "workbench: \"ran\" is no command"),
+    ("run --fast", 2, "workbench: \"--fast\" is no option"),
+    ("run --platter", 2, "workbench: --platter needs a file"),
+    ("run none.plan", 2, "workbench: none.plan cannot be read"),
+    ("import none", 2, "workbench: the usage is "),
+    ("export none image", 2, "workbench: none cannot be read"),
+    ("timeline week", 2, "workbench: the usage is "),
+];
+
+#[test]
+fn help_version_and_wrong_arguments_are_answered_before_a_proof() {
+    let checkout = Checkout::new("answers", NO_PROVER);
+    // The first answer is built from nothing.
+    let mut limit = Duration::from_secs(10);
+    for (arguments, wanted, said) in ANSWERS {
+        let words: Vec<&str> = arguments.split_whitespace().collect();
+        let began = Instant::now();
+        let (status, out, message) = checkout.run(&words);
+        let took = began.elapsed();
+        assert!(took < limit, "{arguments}: {took:?}");
+        assert_eq!(status, Some(wanted), "{arguments}: {message}");
+        let (text, silent) = match wanted {
+            0 => (out, message),
+            _ => (message, out),
+        };
+        assert!(text.contains(said), "{arguments}: {text}");
+        assert_eq!(silent, "", "{arguments}");
+        limit = Duration::from_secs(2);
+    }
+    assert_eq!(checkout.proofs(), 0);
+    assert!(!checkout.file("target").exists());
+
+    let (status, out, _) = checkout.run(&["run", "first"]);
+    assert_eq!((status, out.as_str()), (Some(3), ""));
+    assert_ne!(checkout.proofs(), 0, "right arguments lead to the prover");
 }
 
 const SOURCE: &str = "crates/geometry/src/lib.rt";

@@ -209,7 +209,7 @@ fn no_line_breaks_the_parser() {
 
 /// The examples of the help text: the last column of its lines.
 fn help_examples() -> Vec<&'static str> {
-    let help = include_str!("../help.txt");
+    let help = usage::HELP;
     let (_, lines) = help.split_once("Lines of a plan").expect("the lines");
     let (lines, _) = lines.split_once("\nBLOCKS is").expect("their end");
     let column = |line: &'static str| line.trim().rsplit_once("  ").map(|(_, last)| last);
