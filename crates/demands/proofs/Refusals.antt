@@ -37,6 +37,7 @@ use Rattle.drive.specs.Retries.{afterRead}
 use Rattle.drive.specs.Sparing.{nextAttempt, missed, brokenOff, verified, tried, checked}
 use Rattle.drive.specs.Access.{toRead, toWrite, startAnswered, storeAnswered, lost, settled, reads, readAnswered, writeAnswered, answered}
 use Rattle.drive.specs.Calls.{Call, raise, lower, feed, surface, reset, raiseOf, lowerOf, feedOf, surfaceOf, resetOf, stepOf, startOf, imageOutOf}
+use Rattle.drive.specs.Values.{recordRefused, Code1Exactly}
 use Rattle.drive.specs.History.{isRefused}
 use Rattle.demands.proofs.Rest.{ruled, loads}
 
@@ -283,7 +284,8 @@ pub image-writes : (d : Drive) (u : List ℕ) → recordOk d ≡ true → length
 unfolding imageOutOf
 image-writes d u o q k = rw (o, eq-eqb (length u) 532 q, k) (refl, refl)
 
--- CODE 1 IS RETURNED FOR A RECORD THAT IS NOT VALID, and for no other.
+-- CODE 1 IS RETURNED FOR A RECORD THAT IS NOT VALID, and for no other. A valid one is not refused with it by raise, lower, feed,
+-- surface and reset,
 pub code-1-only : (c : Call) (d : Drive) (u : List ℕ) → recordOk d ≡ true → isCode1 (stepOf c d u .step .answer) ≡ false
 unfolding stepOf raiseOf lowerOf feedOf surfaceOf resetOf
 code-1-only c d u h = go (isCode1 (stepOf c d u .step .answer)) refl
@@ -314,3 +316,37 @@ code-1-only c d u h = go (isCode1 (stepOf c d u .step .answer)) refl
     go : (q : Bool) → isCode1 (stepOf c d u .step .answer) ≡ q → q ≡ false
     go true e = absurd (never c e)
     go false e = refl
+
+-- nor by image.
+image-code-1-only : (d : Drive) (u : List ℕ) → recordOk d ≡ true → isCode1 (imageOutOf d u .step .answer) ≡ false
+unfolding imageOutOf
+image-code-1-only d u h = rw h (branch N (eqb (length u) 532) (λ q. branch N (d .line .marks .known) (λ k. refl) (λ k. refl)) (λ q. refl))
+  where
+    N : Out → Type 0
+    N x = isCode1 (x .step .answer) ≡ false
+
+-- One that is not valid is refused with it by each of them, and nothing changes.
+damaged-step : (c : Call) (d : Drive) (u : List ℕ) → recordOk d ≡ false → stepOf c d u ≡ recordRefused d u
+unfolding stepOf raiseOf lowerOf feedOf surfaceOf resetOf
+damaged-step raise d u h = rw h
+damaged-step (lower b) d u h = rw h
+damaged-step (feed bs) d u h = rw h
+damaged-step (surface a bs) d u h = rw h
+damaged-step reset d u h = rw h
+
+damaged-image : (d : Drive) (u : List ℕ) → recordOk d ≡ false → imageOutOf d u ≡ recordRefused d u
+unfolding imageOutOf
+damaged-image d u h = rw h
+
+-- Start refuses no record.
+start-code-1 : (d : Drive) (u : List ℕ) → isCode1 (startOf d u .step .answer) ≡ false
+unfolding startOf
+start-code-1 d u = branch (λ (x : Out). isCode1 (x .step .answer) ≡ false) (eqb (length u) 536) (λ q. refl) (λ q. refl)
+
+pub code-1-exactly : Code1Exactly
+code-1-exactly =
+    record {
+      step = λ c d u. record { damaged = damaged-step c d u; valid = code-1-only c d u };
+      image = λ d u. record { damaged = damaged-image d u; valid = image-code-1-only d u };
+      start = start-code-1;
+    }
