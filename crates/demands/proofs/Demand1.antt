@@ -241,7 +241,7 @@ module _ (d : Drive) (u : List ℕ) (cm : isCommand (d .line .phase) ≡ true) w
       (λ e. branch (λ (y : Result). Lower (outOf (d .table) bs y)) (eqb (length u) 536) (λ q. f e) (λ q. λ z. clash refl z))
       (λ e. λ z. clash refl z)
 
-  raising : (p : Phase) → isCommand p ≡ true → isRefused (raised p (d .line) u .answer) ≡ true
+  pub raising : (p : Phase) → isCommand p ≡ true → isRefused (raised p (d .line) u .answer) ≡ true
   unfolding raised
   raising phase.Idle c = clash c refl
   raising (phase.Offered o) c = refl
@@ -254,7 +254,7 @@ module _ (d : Drive) (u : List ℕ) (cm : isCommand (d .line .phase) ≡ true) w
   raising (phase.Trying r) c = refl
   raising (phase.Checking r) c = refl
 
-  lowering : (p : Phase) (b : ℕ) → isCommand p ≡ true → isRefused (lowered p (d .line) (d .table) u b .answer) ≡ true
+  pub lowering : (p : Phase) (b : ℕ) → isCommand p ≡ true → isRefused (lowered p (d .line) (d .table) u b .answer) ≡ true
   unfolding lowered
   lowering phase.Idle b c = refl
   lowering (phase.Offered o) b c = clash c refl
@@ -267,7 +267,7 @@ module _ (d : Drive) (u : List ℕ) (cm : isCommand (d .line .phase) ≡ true) w
   lowering (phase.Trying r) b c = refl
   lowering (phase.Checking r) b c = refl
 
-  feeding : (p : Phase) (bs : List ℕ) → isCommand p ≡ true → isRefused (fedTo p (d .line) u bs .answer) ≡ true
+  pub feeding : (p : Phase) (bs : List ℕ) → isCommand p ≡ true → isRefused (fedTo p (d .line) u bs .answer) ≡ true
   unfolding fedTo
   feeding phase.Idle bs c = refl
   feeding (phase.Offered o) bs c = refl
@@ -280,7 +280,7 @@ module _ (d : Drive) (u : List ℕ) (cm : isCommand (d .line .phase) ≡ true) w
   feeding (phase.Trying r) bs c = refl
   feeding (phase.Checking r) bs c = refl
 
-  resetting : (p : Phase) → isCommand p ≡ true → isRefused (rested p (d .line) u .answer) ≡ true
+  pub resetting : (p : Phase) → isCommand p ≡ true → isRefused (rested p (d .line) u .answer) ≡ true
   unfolding rested
   resetting phase.Idle c = c
   resetting (phase.Offered o) c = c

@@ -12,7 +12,9 @@ pub mod Refusals
 pub mod TableRead
 pub mod HealthRead
 pub mod Valid
+pub mod Lengths
 pub mod Demand1
+pub mod Over
 pub mod Told
 pub mod ShutOut
 pub mod Allowed

@@ -429,13 +429,17 @@ module _ (t : Table) (l : Line) (f : Fine t l) where
     guards : (ok : Bool) (x : Result) → Ok x → Ok (guarded ok 536 l u x)
     guards ok x h = branch Ok ok (λ e. branch Ok (eqb (length u) 536) (λ e. h) (λ e. f)) (λ e. f)
 
--- EACH CALL RETURNS A VALID RECORD FROM A VALID ONE
+-- EACH CALL RETURNS A VALID RECORD FROM A VALID ONE. A surface call does so whatever its bytes are.
+pub surface-fine : (d : Drive) (u : List ℕ) (a : ℕ) (bs : List ℕ) → Fine (d .table) (d .line) → Fine (surfaceOf d u a bs .step .drive .table) (surfaceOf d u a bs .step .drive .line)
+unfolding surfaceOf
+surface-fine d u a bs f = guards (d .table) (d .line) f u bs (recordOk d) _ (surfaces (d .table) (d .line) f u bs (d .line .phase) (f .phase) a)
+
 pub step-fine : (c : Call) (d : Drive) (u : List ℕ) → TypedCall c → Fine (d .table) (d .line) → Fine (stepOf c d u .step .drive .table) (stepOf c d u .step .drive .line)
-unfolding stepOf raiseOf lowerOf feedOf surfaceOf resetOf
+unfolding stepOf raiseOf lowerOf feedOf resetOf
 step-fine raise d u y f = guards (d .table) (d .line) f u [] (recordOk d) _ (raises (d .table) (d .line) f u [] (d .line .phase))
 step-fine (lower b) d u y f = guards (d .table) (d .line) f u [] (recordOk d) _ (lowers (d .table) (d .line) f u [] (d .line .phase) b)
 step-fine (feed xs) d u y f = guards (d .table) (d .line) f u [] (recordOk d) _ (feeds (d .table) (d .line) f u [] (d .line .phase) xs y)
-step-fine (surface a bs) d u y f = guards (d .table) (d .line) f u bs (recordOk d) _ (surfaces (d .table) (d .line) f u bs (d .line .phase) (f .phase) a)
+step-fine (surface a bs) d u y f = surface-fine d u a bs f
 step-fine reset d u y f = guards (d .table) (d .line) f u [] (recordOk d) _ (rests (d .table) (d .line) f u [] (d .line .phase))
 
 pub step-valid : (c : Call) (d : Drive) (u : List ℕ) → TypedCall c → Typed d → recordOk d ≡ true → recordOk (stepOf c d u .step .drive) ≡ true
