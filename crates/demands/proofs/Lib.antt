@@ -15,6 +15,7 @@ pub mod Valid
 pub mod Lengths
 pub mod Demand1
 pub mod Over
+pub mod Status4
 pub mod Told
 pub mod ShutOut
 pub mod Allowed

@@ -1,20 +1,20 @@
 -- WHAT DEMAND 2 SHUTS OUT, of the definitions: the controller that fails all commands, that answers from its buffer, that reports
--- writes good that were never made, a status 4 that is not E, "no spare" while one is unused, one that obeys an earlier command.
+-- writes good that were never made, "no spare" while one is unused, one that obeys an earlier command. A status 4 that is not E
+-- is shut out by Status4.
 use mathlib.Core.Path.{_≡_, refl, sym, ap, subst, _∙_}
-use mathlib.Core.Bool.{Bool, true, false, cond, not, _&&_, _||_}
-use mathlib.Core.List.{List, [], _∷_, _++_}
-use Prim.Native.Nat.{ℕ, zero, suc, _+_, _-_, _/_, _%_, _≤_, _<_}
+use mathlib.Core.Bool.{Bool, true, false, cond, not, _&&_}
+use mathlib.Core.List.{List, [], _++_}
+use Prim.Native.Nat.{ℕ, _+_, _≤_}
 use native.Mathlib.Omega.{arith}
-use lib.Dec.{eqb, ltb, leb}
-use lib.ListN.{length, take, drop, getD}
-use borrow.Author.Tests.{eqb-true, eq-eqb, ne-eqb, ltb-true, ltb-false, le-ltb}
-use Rattle.geometry.specs.Geometry.{isBlock, tableSector}
+use lib.Dec.{eqb, ltb}
+use lib.ListN.{length, getD}
+use borrow.Author.Tests.{eqb-true, eq-eqb, ne-eqb, ltb-false, le-ltb}
+use Rattle.geometry.specs.Geometry.{isBlock}
 use Rattle.geometry.specs.declared.Block.{Block}
 use Rattle.logic.proofs.Bools.{branch, clash, and-left, and-right}
 use Rattle.lists.specs.Lists.{memberOf}
 use Rattle.table.specs.declared.Table.{Table}
-use Rattle.table.specs.Tables.{spareList, badList, sectorOf, killedNext}
-use Rattle.image.specs.Images.{wellFormed}
+use Rattle.table.specs.Tables.{spareList, badList, killedNext}
 use Rattle.buffer.specs.Runs.{same}
 use Rattle.buffer.proofs.Compare.{same-equal}
 use Rattle.drive.specs.declared.Drive.{Drive}
@@ -26,7 +26,6 @@ use Rattle.drive.specs.declared.Retry.{Retry}
 use Rattle.drive.specs.declared.Trial.{Trial}
 use Rattle.drive.specs.declared.Phase.{Phase}
 use Rattle.drive.specs.declared.Phase.the-variants as phase
-use Rattle.drive.specs.declared.Answer.{Answer}
 use Rattle.drive.specs.declared.Answer.the-variants as answer
 use Rattle.drive.specs.declared.Ending.{Ending}
 use Rattle.drive.specs.declared.Ending.the-variants as ending
@@ -39,10 +38,10 @@ use Rattle.drive.specs.Records.{recordOk}
 use Rattle.drive.specs.Values.{Typed}
 use Rattle.drive.specs.Results.{Out, Result, changed, outOf, finish, altered, clean}
 use Rattle.drive.specs.Handshake.{writes, noNumber, acted, firstRead, goesOn, lowered}
-use Rattle.drive.specs.Retries.{met, passed, failed, isReread, goesOnReading, afterRead}
+use Rattle.drive.specs.Retries.{met, afterRead}
 use Rattle.drive.specs.Sparing.{nextAttempt, missed, brokenOff, verified, tried, checked}
-use Rattle.drive.specs.Access.{toRead, toWrite, keptData, startAnswered, storeAnswered, lost, settled, reads, readAnswered, writeAnswered, answered}
-use Rattle.drive.specs.Calls.{Call, lower, surface, lowerOf, surfaceOf, stepOf}
+use Rattle.drive.specs.Access.{toRead, keptData, lost, settled, reads, readAnswered, writeAnswered, answered}
+use Rattle.drive.specs.Calls.{lower, surface, lowerOf, surfaceOf, stepOf}
 use Rattle.drive.specs.History.{bit, isFinished, good}
 use Rattle.demands.proofs.Statuses.{fails, good-is}
 use Rattle.demands.proofs.Sim.{Ln}
@@ -220,181 +219,6 @@ module _ (l : Line) (t : Table) (u bs : List ℕ) where
       branch Full (memberOf (r .block .0) (badList t)) (λ e. quiet ending.Failed _ _ v refl)
       (λ e. branch Full (ltb (t .nbads) 100) (λ y. quiet ending.Failed _ _ v refl) (λ y. quiet ending.BadFull _ _ v refl))
   reads-quiet (outcome.Stop r) v = quiet ending.Latched _ _ v refl
-
--- STATUS 4 IS E: the number of the R rereads that were answered 1 or 2.
-abbrev pub failures : List ℕ → ℕ
-failures [] = 0
-failures (a ∷ xs) = cond (eqb a 1 || eqb a 2) (suc (failures xs)) (failures xs)
-
--- the retry of an outcome
-abbrev pub retryIn : Outcome → Retry
-retryIn (outcome.Done r) = r
-retryIn (outcome.Again r) = r
-retryIn (outcome.Settle r) = r
-retryIn (outcome.Lost r) = r
-retryIn (outcome.Stop r) = r
-
--- the answers of the surface one after the other, as long as the command goes on reading
-unfoldable pub follow : Outcome → List ℕ → Outcome
-follow (outcome.Done r) [] = outcome.Done r
-follow (outcome.Again r) [] = outcome.Again r
-follow (outcome.Settle r) [] = outcome.Settle r
-follow (outcome.Lost r) [] = outcome.Lost r
-follow (outcome.Stop r) [] = outcome.Stop r
-follow (outcome.Done r) (a ∷ xs) = outcome.Done r
-follow (outcome.Again r) (a ∷ xs) = follow (afterRead r a) xs
-follow (outcome.Settle r) (a ∷ xs) = outcome.Settle r
-follow (outcome.Lost r) (a ∷ xs) = outcome.Lost r
-follow (outcome.Stop r) (a ∷ xs) = outcome.Stop r
-
--- every answer of the list was one to a read of the command
-abbrev pub Heard : Outcome → List ℕ → Type 0
-Heard (outcome.Done r) [] = Unit {0}
-Heard (outcome.Done r) (a ∷ xs) = ⊥
-Heard (outcome.Again r) [] = Unit {0}
-Heard (outcome.Again r) (a ∷ xs) = (a ≤ 3) × Heard (afterRead r a) xs
-Heard (outcome.Settle r) [] = Unit {0}
-Heard (outcome.Settle r) (a ∷ xs) = ⊥
-Heard (outcome.Lost r) [] = Unit {0}
-Heard (outcome.Lost r) (a ∷ xs) = ⊥
-Heard (outcome.Stop r) [] = Unit {0}
-Heard (outcome.Stop r) (a ∷ xs) = ⊥
-
-abbrev errorsOf : Outcome → ℕ
-errorsOf x = retryIn x .seen .errors
-
-follow-end : (x : Outcome) → follow x [] ≡ x
-unfolding follow
-follow-end (outcome.Done r) = refl
-follow-end (outcome.Again r) = refl
-follow-end (outcome.Settle r) = refl
-follow-end (outcome.Lost r) = refl
-follow-end (outcome.Stop r) = refl
-
-follow-on : (r : Retry) (a : ℕ) (xs : List ℕ) → follow (outcome.Again r) (a ∷ xs) ≡ follow (afterRead r a) xs
-unfolding follow
-follow-on r a xs = refl
-
-none-failed : (n : ℕ) → failures (take n []) ≡ 0
-none-failed zero = refl
-none-failed (suc n) = refl
-
--- a retry that goes on, if it does, has its failures counted among those that are left
-going : (p : Retry) (xs : List ℕ) → (Heard (outcome.Again p) xs → errorsOf (follow (outcome.Again p) xs) ≡ p .seen .errors + failures (take (p .left) xs))
-    → Heard (goesOnReading p) xs → errorsOf (follow (goesOnReading p) xs) ≡ p .seen .errors + failures (take (p .left) xs)
-unfolding goesOnReading
-going p xs again =
-    branch Q (ltb 0 (p .left)) (λ e. again) (λ e. branch Q (p .good) (λ z. settled-here xs) (λ z. branch Q (ltb (p .spent) 90) (λ y. again) (λ y. lost-here xs)))
-  where
-    Q : Outcome → Type 0
-    Q x = Heard x xs → errorsOf (follow x xs) ≡ p .seen .errors + failures (take (p .left) xs)
-
-    settled-here : (ys : List ℕ) → Heard (outcome.Settle p) ys → errorsOf (follow (outcome.Settle p) ys) ≡ p .seen .errors + failures (take (p .left) ys)
-    settled-here [] h = rw (follow-end (outcome.Settle p), none-failed (p .left)) (omega arith)
-    settled-here (a ∷ ys) h = absurd h
-
-    lost-here : (ys : List ℕ) → Heard (outcome.Lost p) ys → errorsOf (follow (outcome.Lost p) ys) ≡ p .seen .errors + failures (take (p .left) ys)
-    lost-here [] h = rw (follow-end (outcome.Lost p), none-failed (p .left)) (omega arith)
-    lost-here (a ∷ ys) h = absurd h
-
--- one answer counted, or not: with a reread left, and with none
-count-good : (n : ℕ) (xs : List ℕ) → failures (take n (0 ∷ xs)) ≡ failures (take (n - 1) xs)
-count-good zero xs = let e : 0 - 1 ≡ 0 = omega arith in rw e
-count-good (suc n) xs = let e : suc n - 1 ≡ n = omega arith in rw e
-
-count-bad : (n a : ℕ) (xs : List ℕ) → (eqb a 1 || eqb a 2) ≡ true → 0 < n → failures (take n (a ∷ xs)) ≡ suc (failures (take (n - 1) xs))
-count-bad zero a xs h p = absurd (omega arith)
-count-bad (suc n) a xs h p = let e : suc n - 1 ≡ n = omega arith in rw (h, e)
-
-one-or-two : (a : ℕ) → a ≤ 3 → eqb a 0 ≡ false → eqb a 3 ≡ false → (eqb a 1 || eqb a 2) ≡ true
-one-or-two zero h p q = clash refl p
-one-or-two (suc zero) h p q = refl
-one-or-two (suc (suc zero)) h p q = refl
-one-or-two (suc (suc (suc zero))) h p q = clash refl q
-one-or-two (suc (suc (suc (suc a)))) h p q = absurd (omega arith)
-
-not-first : (r : Retry) (a : ℕ) → failed r a .first ≡ false
-unfolding failed
-not-first r a = refl
-
--- what a failure does to the count: it is one of the R rereads, or none of them is left
-bad-counted : (r : Retry) (a : ℕ) (xs : List ℕ) → r .first ≡ false → (eqb a 1 || eqb a 2) ≡ true
-    → failed r a .seen .errors + failures (take (failed r a .left) xs) ≡ r .seen .errors + failures (take (r .left) (a ∷ xs))
-unfolding failed
-bad-counted r a xs f h = rw f (go (ltb 0 (r .left)) refl)
-  where
-    go : (q : Bool) → ltb 0 (r .left) ≡ q → cond q (r .seen .errors + 1) (r .seen .errors) + failures (take (cond q (r .left - 1) (r .left)) xs) ≡ r .seen .errors + failures (take (r .left) (a ∷ xs))
-    go true q = rw (count-bad (r .left) a xs h (ltb-true 0 (r .left) q)) (omega arith)
-    go false q = let z : r .left ≡ 0 = omega (arith, ltb-false 0 (r .left) q) in rw z
-
-errors-follow : (xs : List ℕ) (r : Retry) → r .first ≡ false → Heard (outcome.Again r) xs → errorsOf (follow (outcome.Again r) xs) ≡ r .seen .errors + failures (take (r .left) xs)
-unfolding afterRead
-errors-follow [] r f h = rw (follow-end (outcome.Again r), none-failed (r .left)) (omega arith)
-errors-follow (a ∷ xs) r f h = rw (follow-on r a xs) (go (λ p f' k. errors-follow xs p f' k) (eqb a 0) refl (eqb a 3) refl (h .1))
-  where
-    Q : Outcome → Type 0
-    Q x = Heard x xs → errorsOf (follow x xs) ≡ r .seen .errors + failures (take (r .left) (a ∷ xs))
-
-    IH : Type 0
-    IH = (p : Retry) → p .first ≡ false → Heard (outcome.Again p) xs → errorsOf (follow (outcome.Again p) xs) ≡ p .seen .errors + failures (take (p .left) xs)
-
-    good-case : IH → eqb a 0 ≡ true → Q (goesOnReading (passed r))
-    good-case ih e k =
-        let z = eqb-true a 0 e in
-        let c : failures (take (r .left) (a ∷ xs)) ≡ failures (take (r .left - 1) xs) = rw z (count-good (r .left) xs) in
-        rw c (going (passed r) xs (λ k'. ih (passed r) f k') k)
-
-    bad-case : IH → eqb a 0 ≡ false → eqb a 3 ≡ false → Q (goesOnReading (failed r a))
-    bad-case ih e e' k = going (failed r a) xs (λ k'. ih (failed r a) (not-first r a) k') k ∙ bad-counted r a xs f (one-or-two a (h .0) e e')
-
-    stop-case : (ys : List ℕ) → eqb a 3 ≡ true → Heard (outcome.Stop r) ys → errorsOf (follow (outcome.Stop r) ys) ≡ r .seen .errors + failures (take (r .left) (a ∷ ys))
-    stop-case [] e k = rw (follow-end (outcome.Stop r), eqb-true a 3 e) (at-most (r .left))
-      where
-        at-most : (n : ℕ) → r .seen .errors ≡ r .seen .errors + failures (take n (3 ∷ []))
-        at-most zero = omega arith
-        at-most (suc n) = rw (none-failed n) (omega arith)
-    stop-case (y ∷ ys) e k = absurd k
-
-    pick : IH → eqb a 0 ≡ true → (q : Bool) → r .first ≡ q → Q (cond q (outcome.Done r) (goesOnReading (passed r)))
-    pick ih p true e = clash e f
-    pick ih p false e = good-case ih p
-
-    go : IH → (p : Bool) → eqb a 0 ≡ p → (q : Bool) → eqb a 3 ≡ q → Q (cond p (cond (r .first) (outcome.Done r) (goesOnReading (passed r))) (cond q (outcome.Stop r) (goesOnReading (failed r a))))
-    go ih true p q q' = pick ih p (r .first) refl
-    go ih false p true q' = stop-case xs q'
-    go ih false p false q' = bad-case ih p q'
-
--- the first read's failure is not counted in E, and leaves all R rereads
-same-count : (r : Retry) (a : ℕ) → r .first ≡ true → (xs : List ℕ) → failed r a .seen .errors + failures (take (failed r a .left) xs) ≡ r .seen .errors + failures (take (r .left) xs)
-unfolding failed
-same-count r a f xs = rw f
-
-pub status-4 : (r : Retry) (a : ℕ) (xs : List ℕ) → r .first ≡ true → Heard (outcome.Again r) (a ∷ xs) → errorsOf (follow (outcome.Again r) (a ∷ xs)) ≡ r .seen .errors + failures (take (r .left) xs)
-unfolding afterRead
-status-4 r a xs f h = rw (follow-on r a xs) (go (eqb a 0) (eqb a 3) (h .1))
-  where
-    Q : Outcome → Type 0
-    Q x = Heard x xs → errorsOf (follow x xs) ≡ r .seen .errors + failures (take (r .left) xs)
-
-    over : (x : Outcome) (ys : List ℕ) → retryIn x ≡ r → (Heard x ys → ys ≡ []) → Heard x ys → errorsOf (follow x ys) ≡ r .seen .errors + failures (take (r .left) ys)
-    over x ys e g k = rw (g k, follow-end x, none-failed (r .left)) (ap (λ (p : Retry). p .seen .errors) e ∙ omega arith)
-
-    done : (ys : List ℕ) → Heard (outcome.Done r) ys → ys ≡ []
-    done [] k = refl
-    done (y ∷ ys) k = absurd k
-
-    stopped : (ys : List ℕ) → Heard (outcome.Stop r) ys → ys ≡ []
-    stopped [] k = refl
-    stopped (y ∷ ys) k = absurd k
-
-    pick : (q : Bool) → r .first ≡ q → Q (cond q (outcome.Done r) (goesOnReading (passed r)))
-    pick true e = over (outcome.Done r) xs refl (done xs)
-    pick false e = clash f e
-
-    go : (p q : Bool) → Q (cond p (cond (r .first) (outcome.Done r) (goesOnReading (passed r))) (cond q (outcome.Stop r) (goesOnReading (failed r a))))
-    go true q = pick (r .first) refl
-    go false true = over (outcome.Stop r) xs refl (stopped xs)
-    go false false = λ k. going (failed r a) xs (λ k'. errors-follow xs (failed r a) (not-first r a) k') k ∙ same-count r a f xs
 
 -- A READ OF A BLOCK WHOSE FIRST ANSWER IS 0 FINISHES GOOD WITH THOSE BYTES.
 module _ (t : Table) (mk : Marks) (c u bs : List ℕ) (n f : ℕ)
