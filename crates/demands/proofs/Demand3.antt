@@ -66,7 +66,7 @@ left-is true x y e = not-unreadable e
 left-is false x y e = sym (held-inj e)
 
 -- no access of a command is at the table
-not-at-table : (t : Table) (b : Block) (r : Trial) → length (spareList t) ≤ 32 → Spot t b r → eqb (r .sector .0) (tableSector .0) ≡ false
+pub not-at-table : (t : Table) (b : Block) (r : Trial) → length (spareList t) ≤ 32 → Spot t b r → eqb (r .sector .0) (tableSector .0) ≡ false
 not-at-table t b r l st = go (r .spare) refl
   where
     apart : (s : Sector) → (s ≡ tableSector → ⊥) → eqb (s .0) (tableSector .0) ≡ false
@@ -277,7 +277,7 @@ module _ {start : Sectors} {w : World} {H : History} (m : Sim start w H) where
       (λ q. declined x sp refusal.Buffer (loads x) m))
       (λ o. declined x sp refusal.Record (loads x) m)
 
-  step : (x : Call) (sp : Bool) → Good start w H (ev x sp) (made w (ev x sp))
+  pub step : (x : Call) (sp : Bool) → Good start w H (ev x sp) (made w (ev x sp))
   unfolding stepOf raiseOf lowerOf feedOf surfaceOf resetOf
   step raise sp = guards raise sp
   step (lower b) sp = guards (lower b) sp

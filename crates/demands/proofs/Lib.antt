@@ -18,4 +18,6 @@ pub mod Over
 pub mod Status4
 pub mod Told
 pub mod ShutOut
+pub mod Made
+pub mod MadeForged
 pub mod Allowed

@@ -58,7 +58,7 @@ unfolding answered toRead readAnswered afterRead reads keptData
 first-good r l t u bs f g n = rw (f, g, eq-eqb (length bs) 532 n)
 
 -- an ending that is a failure is not fine
-bad-finish : (e : Ending) (s : Seen) (n : Bool) (u : List ℕ) → fails e ≡ true → not (bit 1 (getD (statusOf e s n ++ dataOf u) 0 0)) ≡ true → ⊥
+pub bad-finish : (e : Ending) (s : Seen) (n : Bool) (u : List ℕ) → fails e ≡ true → not (bit 1 (getD (statusOf e s n ++ dataOf u) 0 0)) ≡ true → ⊥
 unfolding good
 bad-finish e s n u f h = clash h (good-is (surface 0 []) answer.Finished e s n u ∙ ap not f)
 
@@ -113,11 +113,11 @@ module _ (l : Line) (t : Table) (r : Trial) (u : List ℕ) where
   unfolding nextAttempt
   next-unchecked j m ch s = branch Unchecked (ltb j 32) (λ e. refl) (λ e. refl)
 
-  missed-unchecked : (s : Seen) → Unchecked (missed l t r s u)
+  pub missed-unchecked : (s : Seen) → Unchecked (missed l t r s u)
   unfolding missed
   missed-unchecked s = branch Unchecked (ltb (r .attempts) 2) (λ e. refl) (λ e. branch Unchecked (r .spare) (λ z. next-unchecked _ _ _ s) (λ z. next-unchecked _ _ _ s))
 
-  broken-unchecked : Unchecked (brokenOff l r u)
+  pub broken-unchecked : Unchecked (brokenOff l r u)
   unfolding brokenOff
   broken-unchecked = branch Unchecked (r .spare) (λ z. refl) (λ z. refl)
 
@@ -135,13 +135,13 @@ module _ (l : Line) (t : Table) (r : Trial) (u : List ℕ) where
   unfolding nextAttempt
   next-not-fine j m ch s = branch (λ (x : Result). Fine x ≡ true → ⊥) (ltb j 32) (λ e. λ h. clash h refl) (λ e. bad-finish ending.NoSpare s _ u refl)
 
-  missed-not-fine : (s : Seen) → Fine (missed l t r s u) ≡ true → ⊥
+  pub missed-not-fine : (s : Seen) → Fine (missed l t r s u) ≡ true → ⊥
   unfolding missed
   missed-not-fine s =
       branch (λ (x : Result). Fine x ≡ true → ⊥) (ltb (r .attempts) 2) (λ e. λ h. clash h refl)
       (λ e. branch (λ (x : Result). Fine x ≡ true → ⊥) (r .spare) (λ z. next-not-fine _ _ _ s) (λ z. next-not-fine _ _ _ s))
 
-  broken-not-fine : Fine (brokenOff l r u) ≡ true → ⊥
+  pub broken-not-fine : Fine (brokenOff l r u) ≡ true → ⊥
   unfolding brokenOff
   broken-not-fine = branch (λ (x : Result). Fine x ≡ true → ⊥) (r .spare) (λ z. bad-finish ending.Latched (r .seen) _ u refl) (λ z. bad-finish ending.Latched (r .seen) _ u refl)
 
