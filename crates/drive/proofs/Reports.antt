@@ -2,10 +2,14 @@
 use mathlib.Core.Path.{_≡_, refl}
 use mathlib.Core.List.{List, [], _∷_}
 use Prim.Native.Nat.{ℕ}
+use Rattle.image.specs.Images.{imageOf}
 use Rattle.drive.specs.declared.Drive.{Drive}
+use Rattle.drive.specs.declared.Answer.the-variants as answer
+use Rattle.drive.specs.declared.Refusal.the-variants as refusal
+use Rattle.drive.specs.Calls.{surface}
 use Rattle.drive.specs.History.{blank}
 use Rattle.drive.specs.Told.{Report, found, written, attempted, given, nothing, reportOf, reportsOf}
-use Rattle.drive.proofs.Transcripts.{Run, entered, happens, bytes}
+use Rattle.drive.proofs.Transcripts.{Run, entered, happens, bytes, disk}
 use Rattle.drive.proofs.Rereads.{threeBlocks, spoiledAtFirst}
 use Rattle.drive.proofs.Moves.{noSpareUnused, failedReads}
 use Rattle.drive.proofs.Latch.{latched}
@@ -56,3 +60,9 @@ a-failed-read-is-not-told old = refl
 pub an-unreadable-sector-is-not-found : (old : Drive) → toldOf 17 old spoiledAtFirst ≡ found [] ∷ written (bytes 1) ∷ []
 unfolding happens reportOf
 an-unreadable-sector-is-not-found old = refl
+
+-- The image of a table in a call that was refused.
+pub a-refused-call-reports-nothing :
+    reportOf (record { 0 = 17 }) (disk [] []) blank (record { call = surface 0 (imageOf [] []); answer = answer.Refused refusal.Buffer; buffer = [] }) ≡ nothing
+unfolding happens reportOf
+a-refused-call-reports-nothing = refl
