@@ -258,8 +258,8 @@ module _ (t : Table) (mk : Marks) (c u bs : List ℕ) (n f : ℕ)
   unfolding surfaceOf
   gives-it = rw (asked-ok, eq-eqb (length u) 536 lu) (ap (outOf t bs) (first-good _ (asked .step .drive .line) t u bs refl refl lb))
 
--- ACTING ON A COMMAND DEPENDS ON NOTHING OF EARLIER COMMANDS but table, marks, latch and buffer: two lines that differ in
--- whatever an earlier command left in them give the same answer, bytes, change of the table, phase and marks.
+-- ACTING ON A COMMAND DEPENDS ON ITS OWN OPCODE, NUMBER, R, T AND COUNT OF DATA BYTES, ON TABLE, MARKS AND BUFFER, and on nothing
+-- else: two lines that differ in all else give the same answer, bytes, change of the table, phase and marks.
 pub record Alike (x y : Result) : Type 0 where
   pub answer : x .answer ≡ y .answer
   pub change : x .change ≡ y .change

@@ -6,6 +6,7 @@ use lib.ListN.{replicate}
 use Rattle.image.specs.Images.{imageOf}
 use Rattle.drive.specs.declared.Drive.{Drive}
 use Rattle.drive.specs.Calls.{raise, lower, reset}
+use Rattle.drive.proofs.Computing.{computed}
 use Rattle.drive.proofs.Transcripts.{Turn, _⇒_, Run, Happens, happens, bytes, disk, sector, go, gives, done, timesOut, unsettled, found, opens, stores, asksRead, asksWrite, asksTable, elevenTimeouts, wait, offer, read, write, store, finished}
 
 -- The block is entered in the bad list. A store that times out is made again at the next raise; one that is done is not.
@@ -23,7 +24,7 @@ storedOnce =
     }
 
 pub a-done-store-is-not-made-again : (old : Drive) → Happens old storedOnce
-unfolding happens
+unfolding computed
 a-done-store-is-not-made-again old = happens old storedOnce refl
 
 -- A write to a block in the bad list is write/verify. It removes the block.
@@ -41,7 +42,7 @@ leavesTheBadList =
     }
 
 pub a-write-that-verifies-leaves-the-bad-list : (old : Drive) → Happens old leavesTheBadList
-unfolding happens
+unfolding computed
 a-write-that-verifies-leaves-the-bad-list old = happens old leavesTheBadList refl
 
 -- A listed block is not listed again, and marks nothing.
@@ -56,7 +57,7 @@ listedAlready =
     }
 
 pub a-listed-bad-block-is-not-entered-again : (old : Drive) → Happens old listedAlready
-unfolding happens
+unfolding computed
 a-listed-bad-block-is-not-entered-again old = happens old listedAlready refl
 
 -- k, k + 1, and so on, n of them
@@ -84,5 +85,5 @@ badListFull =
     }
 
 pub the-101st-bad-block-is-not-entered : (old : Drive) → Happens old badListFull
-unfolding happens
+unfolding computed
 the-101st-bad-block-is-not-entered old = happens old badListFull refl

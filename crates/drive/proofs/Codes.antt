@@ -15,7 +15,7 @@ use Rattle.drive.specs.declared.Phase.the-variants as phase
 use Rattle.drive.specs.Words.{codeIn}
 use Rattle.drive.specs.Records.{recordOk}
 use Rattle.drive.specs.Calls.{Call, raise, lower, feed, surface, reset, stepOf, imageOutOf}
-use Rattle.drive.proofs.Transcripts.{happens}
+use Rattle.drive.proofs.Computing.{computed}
 use Rattle.drive.proofs.Examples.{blocks}
 
 -- THE RECORDS
@@ -96,7 +96,7 @@ pub record Code1 : Type 0 where
   pub no-block : Fails (lists (9728 ∷ []) 1 [] 0) × Fails (lists [] 0 (9728 ∷ []) 1) × Fails (lists [] 0 (dead ∷ []) 1)
 
 pub code-1 : Code1
-unfolding happens
+unfolding computed
 code-1 =
     record {
       command-bytes = (refl, refl);
@@ -182,7 +182,7 @@ pub record InOrder : Type 0 where
       × (codeOfImage (at true phase.Idle) 532 ≡ 0)
 
 pub in-order : InOrder
-unfolding happens imageOutOf
+unfolding computed imageOutOf
 in-order =
     record {
       first-1 = (refl, refl, refl, refl, refl, refl);

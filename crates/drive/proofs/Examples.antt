@@ -14,7 +14,7 @@ use Rattle.drive.specs.declared.Phase.the-variants as phase
 use Rattle.drive.specs.declared.Answer.the-variants as answer
 use Rattle.drive.specs.Results.{Out}
 use Rattle.drive.specs.Calls.{Call, raise, lower, feed, surface, stepOf}
-use Rattle.drive.proofs.Transcripts.{happens}
+use Rattle.drive.proofs.Computing.{computed}
 
 -- the sector at which a table with no spare in use has block n
 abbrev pub at-home : ℕ → ℕ
@@ -93,7 +93,7 @@ pub record Examples : Type 0 where
   pub bads-101 : wellFormed (counted 0 101) ≡ false
 
 pub examples : Examples
-unfolding happens
+unfolding computed
 examples =
     record {
       block-0 = refl;

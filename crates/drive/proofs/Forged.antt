@@ -9,21 +9,20 @@ use borrow.Author.Tests.{eq-eqb, eqb-true}
 use lib.Dec.{eqb}
 use lib.ListN.{getD, replicate}
 use Rattle.logic.proofs.Bools.{clash, and-left, and-right}
-use Rattle.geometry.specs.Geometry.{homeOf, isBlock}
+use Rattle.geometry.specs.Geometry.{isBlock}
 use Rattle.geometry.specs.declared.Block.{Block}
-use Rattle.lists.specs.Lists.{indexOf, memberOf, entryOk, entriesOk}
-use Rattle.table.specs.Tables.{sectorOf}
-use Rattle.image.specs.Images.{wide, triple, triples, listPart, framedPart, imageOf, narrow, entryAt, entriesFrom, framed, wellFormed, tableOf}
-use Rattle.buffer.specs.Runs.{same, allAre}
+use Rattle.image.specs.Images.{imageOf}
+use Rattle.buffer.specs.Runs.{same}
 use Rattle.buffer.proofs.Compare.{same-equal}
 use Rattle.drive.specs.declared.Offer.{Offer}
 use Rattle.drive.specs.declared.Offer.the-variants as offer
 use Rattle.drive.specs.declared.Answer.{Answer}
 use Rattle.drive.specs.declared.Answer.the-variants as answer
 use Rattle.drive.specs.declared.Refusal.the-variants as refusal
-use Rattle.drive.specs.Words.{dataOf, opcodeOf, numberOf, blockOf}
+use Rattle.drive.specs.Words.{dataOf, numberOf, blockOf}
 use Rattle.drive.specs.Calls.{Call, raise, lower, feed, surface, reset}
-use Rattle.drive.specs.History.{Bytes, held, unreadable, Sectors, Where, nowhere, at, Entry, History, blank, isAt, readAsked, writeAsked, orElse, In, padded, bit, learns, acts, underway, reports, good, moves, isRead, bytesOf, touches, touchesFirst, hasWritten, placeNext, candidatesNext, heard, next, goodRead, firstAccess, Fits, Apart, Allows}
+use Rattle.drive.specs.History.{Bytes, held, unreadable, Sectors, Where, nowhere, at, Entry, History, blank, isAt, readAsked, writeAsked, orElse, In, next, goodRead, firstAccess, Fits, Apart, Allows}
+use Rattle.drive.proofs.Computing.{computed}
 use Rattle.drive.proofs.Transcripts.{sector, go, done, timesOut, command}
 
 -- what the rules ask at the last entry of a list
@@ -32,9 +31,7 @@ AtLast start H [] = Unit {0}
 AtLast start H (o ∷ []) = Fits H o × Apart (next start H o .place)
 AtLast start H (o ∷ p ∷ os) = AtLast start (next start H o) (p ∷ os)
 
--- A proof that unfolds this one unfolds all that its line names: what the history's computation has to see through.
-at-last : (start : Sectors) (H : History) (os : List Entry) → Allows start H os → AtLast start H os
-unfolding homeOf indexOf memberOf entryOk entriesOk sectorOf wide triple triples listPart framedPart imageOf narrow entryAt entriesFrom framed wellFormed tableOf same allAre dataOf opcodeOf numberOf padded bit learns acts underway reports good moves isRead bytesOf touches touchesFirst hasWritten placeNext candidatesNext heard next
+pub at-last : (start : Sectors) (H : History) (os : List Entry) → Allows start H os → AtLast start H os
 at-last start H [] a = tt
 at-last start H (o ∷ []) a = (a .0, a .1)
 at-last start H (o ∷ p ∷ os) a = at-last start (next start H o) (p ∷ os) (a .2)
@@ -127,7 +124,7 @@ abbrev neverWritten : List Entry
 neverWritten = found [] ++ readsGood 9
 
 pub bytes-never-written : Allows sevens blank neverWritten → ⊥
-unfolding at-last
+unfolding computed
 bytes-never-written a = not-the-one 9 7 refl (at-last sevens blank neverWritten a .0 .read-rule refl)
 
 -- The nine came with answer 1, and the read is reported good with the bit of a CRC error.
@@ -135,7 +132,7 @@ abbrev garbledKept : List Entry
 garbledKept = found [] ++ asksRead 17 ++ (says go (reads 17) ∷ says (garbles 9) (reads 17) ∷ ends (gives 7) 0x08 0x00 9 ∷ [])
 
 pub garbled-bytes-reported-good : Allows sevens blank garbledKept → ⊥
-unfolding at-last
+unfolding computed
 garbled-bytes-reported-good a = not-the-one 9 7 refl (at-last sevens blank garbledKept a .0 .read-rule refl)
 
 -- The two was written since.
@@ -143,7 +140,7 @@ abbrev stale : List Entry
 stale = found [] ++ writesGood 1 ++ writesGood 2 ++ readsGood 1
 
 pub old-bytes-after-a-good-write : Allows sevens blank stale → ⊥
-unfolding at-last
+unfolding computed
 old-bytes-after-a-good-write a = not-the-one 1 2 refl (at-last sevens blank stale a .0 .read-rule refl)
 
 -- After a failed write of the one either is a candidate, but not first the one and then the seven.
@@ -153,7 +150,7 @@ changing =
     ++ readsGood 1 ++ readsGood 7
 
 pub bytes-that-change-between-two-good-reads : Allows sevens blank changing → ⊥
-unfolding at-last
+unfolding computed
 bytes-that-change-between-two-good-reads a = not-the-one 7 1 refl (at-last sevens blank changing a .0 .read-rule refl)
 
 -- A handshake byte other than 55 at offer 06: this finish reports nothing, though bit 0 is clear.
@@ -161,7 +158,7 @@ abbrev brokenOff : List Entry
 brokenOff = found [] ++ asksWrite 1 ++ (ends (lower 0x00) 0x80 0x00 1 ∷ []) ++ readsGood 1
 
 pub bytes-of-a-write-broken-off : Allows sevens blank brokenOff → ⊥
-unfolding at-last
+unfolding computed
 bytes-of-a-write-broken-off a = not-the-one 1 7 refl (at-last sevens blank brokenOff a .0 .read-rule refl)
 
 -- The write of the two fails with no write s of its own, after a command that asked for one.
@@ -169,7 +166,7 @@ abbrev notMade : List Entry
 notMade = found [] ++ writesGood 1 ++ asksWrite 2 ++ (ends go 0x11 0x00 2 ∷ []) ++ readsGood 2
 
 pub bytes-of-a-write-not-made : Allows sevens blank notMade → ⊥
-unfolding at-last
+unfolding computed
 bytes-of-a-write-not-made a = not-the-one 2 1 refl (at-last sevens blank notMade a .0 .read-rule refl)
 
 -- The same, where it asks for a read s.
@@ -177,7 +174,7 @@ abbrev notMadeAfterARead : List Entry
 notMadeAfterARead = found [] ++ writesGood 1 ++ asksWrite 2 ++ (says go (reads 17) ∷ ends timesOut 0x05 0x00 2 ∷ []) ++ readsGood 2
 
 pub bytes-of-a-write-not-made-after-a-read : Allows sevens blank notMadeAfterARead → ⊥
-unfolding at-last
+unfolding computed
 bytes-of-a-write-not-made-after-a-read a = not-the-one 2 1 refl (at-last sevens blank notMadeAfterARead a .0 .read-rule refl)
 
 -- A failed read adds no candidate, even after a write s of its own.
@@ -185,7 +182,7 @@ abbrev failedRead : List Entry
 failedRead = found [] ++ asksRead 17 ++ (says go (reads 17) ∷ says (garbles 9) (writes 17) ∷ ends timesOut 0x0D 0x00 9 ∷ []) ++ readsGood 9
 
 pub bytes-of-a-failed-read : Allows sevens blank failedRead → ⊥
-unfolding at-last
+unfolding computed
 bytes-of-a-failed-read a = not-the-one 9 7 refl (at-last sevens blank failedRead a .0 .read-rule refl)
 
 -- The first finish reports it failed with nothing written. A second one, with bit 0 clear, reports nothing.
@@ -193,7 +190,7 @@ abbrev finishedTwice : List Entry
 finishedTwice = found [] ++ asksWrite 1 ++ (ends go 0x11 0x00 1 ∷ ends timesOut 0x00 0x00 1 ∷ []) ++ readsGood 1
 
 pub bytes-of-a-write-that-finished-twice : Allows sevens blank finishedTwice → ⊥
-unfolding at-last
+unfolding computed
 bytes-of-a-write-that-finished-twice a = not-the-one 1 7 refl (at-last sevens blank finishedTwice a .0 .read-rule refl)
 
 -- The one was not taken, so zeros were written.
@@ -205,7 +202,7 @@ fedInVain =
     ++ readsGood 1
 
 pub bytes-of-a-refused-feed : Allows sevens blank fedInVain → ⊥
-unfolding at-last
+unfolding computed
 bytes-of-a-refused-feed a = not-the-one 1 0 refl (at-last sevens blank fedInVain a .0 .read-rule refl)
 
 -- A reset breaks the write off, so the finish after it reports nothing.
@@ -213,7 +210,7 @@ abbrev resetInBetween : List Entry
 resetInBetween = found [] ++ asksWrite 1 ++ (says go (writes 17) ∷ says reset answer.Wait ∷ ends done 0x00 0x00 1 ∷ []) ++ readsGood 1
 
 pub bytes-of-a-write-that-was-reset : Allows sevens blank resetInBetween → ⊥
-unfolding at-last
+unfolding computed
 bytes-of-a-write-that-was-reset a = not-the-one 1 7 refl (at-last sevens blank resetInBetween a .0 .read-rule refl)
 
 -- The one was fed, and a nine stands in the data part at the finish.
@@ -221,7 +218,7 @@ abbrev leftBehind : List Entry
 leftBehind = found [] ++ asksWrite 1 ++ (says go (writes 17) ∷ ends done 0x00 0x00 9 ∷ []) ++ readsGood 9
 
 pub bytes-that-a-good-write-left-in-the-buffer : Allows sevens blank leftBehind → ⊥
-unfolding at-last
+unfolding computed
 bytes-that-a-good-write-left-in-the-buffer a = not-the-one 9 1 refl (at-last sevens blank leftBehind a .0 .read-rule refl)
 
 -- The data part holds another job's nines at offer 03. The one is fed alone, and the nines behind it are written and read.
@@ -246,7 +243,7 @@ not-behind (inl e) = differ 9 0 refl (ap (λ (x : Bytes). getD x 1 0) e)
 not-behind (inr e) = e
 
 pub bytes-of-another-job-behind-short-data : Allows sevens blank notZeroed → ⊥
-unfolding at-last
+unfolding computed
 bytes-of-another-job-behind-short-data a = not-behind (at-last sevens blank notZeroed a .0 .read-rule refl)
 
 -- It is reported good and asked for no write s, so the seven is a candidate no more.
@@ -254,7 +251,7 @@ abbrev goodNotMade : List Entry
 goodNotMade = found [] ++ asksWrite 1 ++ (ends go 0x00 0x00 1 ∷ []) ++ readsGood 7
 
 pub old-bytes-after-a-write-reported-good-and-not-made : Allows sevens blank goodNotMade → ⊥
-unfolding at-last
+unfolding computed
 old-bytes-after-a-write-reported-good-and-not-made a = not-the-one 7 1 refl (at-last sevens blank goodNotMade a .0 .read-rule refl)
 
 -- A good read meets the rule whether the block moved or not.
@@ -262,7 +259,7 @@ abbrev movedWithNines : List Entry
 movedWithNines = found [] ++ asksRead 17 ++ (says go (reads 17) ∷ says (garbles 9) (reads 4928) ∷ ends (gives 9) 0x08 0x04 9 ∷ [])
 
 pub bytes-never-written-with-the-sparing-bit : Allows sevens blank movedWithNines → ⊥
-unfolding at-last
+unfolding computed
 bytes-never-written-with-the-sparing-bit a = not-the-one 9 7 refl (at-last sevens blank movedWithNines a .0 .read-rule refl)
 
 -- A handshake byte other than 55 comes between the write s and the finish. So the write is not reported.
@@ -270,7 +267,7 @@ abbrev byteInBetween : List Entry
 byteInBetween = found [] ++ asksWrite 1 ++ (says go (writes 17) ∷ ends (lower 0x00) 0x00 0x00 1 ∷ []) ++ readsGood 1
 
 pub bytes-of-a-write-that-another-byte-broke-off : Allows sevens blank byteInBetween → ⊥
-unfolding at-last
+unfolding computed
 bytes-of-a-write-that-another-byte-broke-off a = not-the-one 1 7 refl (at-last sevens blank byteInBetween a .0 .read-rule refl)
 
 -- The one was fed and the write failed. The nine that stands in the data part then is no candidate.
@@ -282,7 +279,7 @@ not-the-two m n k h g (inl e) = differ m n h (ap byteOf e)
 not-the-two m n k h g (inr e) = not-the-one m k g e
 
 pub bytes-that-a-failed-write-left-in-the-buffer : Allows sevens blank failedLeft → ⊥
-unfolding at-last
+unfolding computed
 bytes-that-a-failed-write-left-in-the-buffer a = not-the-two 9 1 7 refl refl (at-last sevens blank failedLeft a .0 .read-rule refl)
 
 -- Only the last of the 532 bytes is another.
@@ -297,7 +294,7 @@ not-at-last (inl e) = differ 1 0 refl (ap (λ (x : Bytes). getD x 531 0) e)
 not-at-last (inr e) = e
 
 pub bytes-with-the-last-one-wrong : Allows sevens blank lastByteWrong → ⊥
-unfolding at-last
+unfolding computed
 bytes-with-the-last-one-wrong a = not-at-last (at-last sevens blank lastByteWrong a .0 .read-rule refl)
 
 -- Another block holds the image of a table. To read it is not to read the table.
@@ -307,7 +304,7 @@ imageElsewhere =
     ++ asksRead 18 ++ (says go (reads 18) ∷ ends (surface 0 (imageOf [] [])) 0x01 0x00 0 ∷ []) ++ readsGood 7
 
 pub old-bytes-after-an-image-read-elsewhere : Allows sevens blank imageElsewhere → ⊥
-unfolding at-last
+unfolding computed
 old-bytes-after-an-image-read-elsewhere a = not-the-one 7 1 refl (at-last sevens blank imageElsewhere a .0 .read-rule refl)
 
 -- No sector holds anything as the list begins, and nothing is written.
@@ -315,7 +312,7 @@ abbrev spoiledAtFirst : List Entry
 spoiledAtFirst = found [] ++ readsGood 7
 
 pub a-good-read-of-a-spoiled-sector : Allows (λ s. unreadable) blank spoiledAtFirst → ⊥
-unfolding at-last
+unfolding computed
 a-good-read-of-a-spoiled-sector a = at-last (λ s. unreadable) blank spoiledAtFirst a .0 .read-rule refl
 
 -- Without an access, as from the buffer.
@@ -323,7 +320,7 @@ abbrev beforeTheTable : List Entry
 beforeTheTable = foundNone ++ asksRead 17 ++ (ends go 0x00 0x00 7 ∷ [])
 
 pub a-good-read-before-any-table : Allows sevens blank beforeTheTable → ⊥
-unfolding at-last
+unfolding computed
 a-good-read-before-any-table a = at-last sevens blank beforeTheTable a .0 .read-rule refl
 
 -- FIRST ACCESSES
@@ -333,7 +330,7 @@ abbrev farFromHome : List Entry
 farFromHome = found [] ++ asksRead 4927 ++ (says go (reads 4991) ∷ [])
 
 pub a-first-read-elsewhere : Allows sevens blank farFromHome → ⊥
-unfolding at-last
+unfolding computed
 a-first-read-elsewhere a = not-there 4927 4991 refl (at-last sevens blank farFromHome a .0 .first-rule refl .1)
 
 -- A write at the sector beside.
@@ -341,7 +338,7 @@ abbrev nextDoor : List Entry
 nextDoor = found [] ++ asksWrite 1 ++ (says go (writes 18) ∷ [])
 
 pub a-first-write-elsewhere : Allows sevens blank nextDoor → ⊥
-unfolding at-last
+unfolding computed
 a-first-write-elsewhere a = not-there 17 18 refl (at-last sevens blank nextDoor a .0 .first-rule refl .1)
 
 -- The table has it at spare 0.
@@ -349,7 +346,7 @@ abbrev spareForgotten : List Entry
 spareForgotten = found (17 ∷ []) ++ asksRead 17 ++ (says go (reads 17) ∷ [])
 
 pub a-moved-block-read-at-its-home : Allows sevens blank spareForgotten → ⊥
-unfolding at-last
+unfolding computed
 a-moved-block-read-at-its-home a = not-there 4928 17 refl (at-last sevens blank spareForgotten a .0 .first-rule refl .1)
 
 -- The sparing bit told of the move to spare 0.
@@ -359,7 +356,7 @@ moveForgotten =
     ++ asksRead 17 ++ (says go (reads 17) ∷ [])
 
 pub a-block-read-at-its-home-after-its-move : Allows sevens blank moveForgotten → ⊥
-unfolding at-last
+unfolding computed
 a-block-read-at-its-home-after-its-move a = not-there 4928 17 refl (at-last sevens blank moveForgotten a .0 .first-rule refl .1)
 
 -- So does the sparing bit of a command that failed.
@@ -369,7 +366,7 @@ failedAndMoved =
     ++ asksRead 17 ++ (says go (reads 17) ∷ [])
 
 pub a-block-read-at-its-home-after-a-failed-command-moved-it : Allows sevens blank failedAndMoved → ⊥
-unfolding at-last
+unfolding computed
 a-block-read-at-its-home-after-a-failed-command-moved-it a = not-there 4928 17 refl (at-last sevens blank failedAndMoved a .0 .first-rule refl .1)
 
 -- The command failed, with no sparing bit: the block keeps its sector.
@@ -377,7 +374,7 @@ abbrev spareTaken : List Entry
 spareTaken = found [] ++ movesInVain ++ asksRead 17 ++ (says go (reads 4928) ∷ [])
 
 pub a-block-read-at-a-spare-after-a-failed-move : Allows sevens blank spareTaken → ⊥
-unfolding at-last
+unfolding computed
 a-block-read-at-a-spare-after-a-failed-move a = not-there 17 4928 refl (at-last sevens blank spareTaken a .0 .first-rule refl .1)
 
 -- The sparing bit stands in the finish of a command broken off, which moves nothing.
@@ -387,7 +384,7 @@ movedAtABreak =
     ++ asksRead 17 ++ (says go (reads 4928) ∷ [])
 
 pub a-block-read-at-a-spare-after-a-break : Allows sevens blank movedAtABreak → ⊥
-unfolding at-last
+unfolding computed
 a-block-read-at-a-spare-after-a-break a = not-there 17 4928 refl (at-last sevens blank movedAtABreak a .0 .first-rule refl .1)
 
 -- A write tells of a move and has no read s of its own.
@@ -397,7 +394,7 @@ movedByAnother =
     ++ asksRead 17 ++ (says go (reads 4928) ∷ [])
 
 pub a-block-read-where-the-command-before-had-read : Allows sevens blank movedByAnother → ⊥
-unfolding at-last
+unfolding computed
 a-block-read-where-the-command-before-had-read a = not-anywhere 4928 (at-last sevens blank movedByAnother a .0 .first-rule refl .1)
 
 -- The first access comes after the lower, and the command before had one.
@@ -405,7 +402,7 @@ abbrev late : List Entry
 late = found [] ++ writesGood 1 ++ asksRead 17 ++ (says go answer.Wait ∷ says timesOut (reads 18) ∷ [])
 
 pub a-late-first-access-elsewhere : Allows sevens blank late → ⊥
-unfolding at-last
+unfolding computed
 a-late-first-access-elsewhere a = not-there 17 18 refl (at-last sevens blank late a .0 .first-rule refl .1)
 
 -- No block has a sector yet.
@@ -413,7 +410,7 @@ abbrev accessFirst : List Entry
 accessFirst = foundNone ++ asksRead 17 ++ (says go (reads 17) ∷ [])
 
 pub an-access-before-any-table : Allows sevens blank accessFirst → ⊥
-unfolding at-last
+unfolding computed
 an-access-before-any-table a = not-anywhere 17 (at-last sevens blank accessFirst a .0 .first-rule refl .1)
 
 -- 9728 is no block.
@@ -421,7 +418,7 @@ abbrev noBlock : List Entry
 noBlock = found [] ++ asksRead 9728 ++ (says go (reads 9728) ∷ [])
 
 pub an-access-for-a-number-of-no-block : Allows sevens blank noBlock → ⊥
-unfolding at-last
+unfolding computed
 an-access-for-a-number-of-no-block a = clash (at-last sevens blank noBlock a .0 .first-rule refl .0) refl
 
 -- SECTORS
@@ -431,7 +428,7 @@ abbrev shared : List Entry
 shared = found [] ++ asksRead 17 ++ (says go (reads 17) ∷ says (garbles 9) (reads 18) ∷ ends (gives 7) 0x08 0x04 7 ∷ [])
 
 pub two-blocks-at-one-sector : Allows sevens blank shared → ⊥
-unfolding at-last
+unfolding computed
 two-blocks-at-one-sector a = differ 17 18 refl (ap (λ (b : Block). b .0) (at-last sevens blank shared a .1 (record { 0 = 17 }) (record { 0 = 18 }) (record { 0 = 18 }) refl refl refl refl))
 
 -- WHAT IT DOES NOT FORBID
@@ -507,5 +504,5 @@ fitting =
     ++ writesGood 1 ++ asksWrite 2 ++ (says go (writes 17) ∷ ends timesOut 0x05 0x00 2 ∷ []) ++ readsGood 1 ++ readsGood 1
 
 pub a-list-that-fits : AllFit sevens blank fitting
-unfolding at-last
+unfolding computed
 a-list-that-fits = all-fit sevens blank fitting refl

@@ -7,6 +7,7 @@ use Rattle.image.specs.Images.{imageOf}
 use Rattle.drive.specs.declared.Drive.{Drive}
 use Rattle.drive.specs.Calls.{raise, lower, feed, surface, reset}
 use Rattle.drive.specs.History.{held, nowhere}
+use Rattle.drive.proofs.Computing.{computed}
 use Rattle.drive.proofs.Transcripts.{Turn, _⇒_, Run, Happens, happens, bytes, disk, sector, go, gives, done, garbles, timesOut, found, opens, command, asksRead, asksWrite, asksTable, elevenTimeouts, wait, offer, read, write, store, finished, refused}
 
 -- Ten reads of the start fail: bytes that are no image, an image with answer 1, timeouts.
@@ -24,7 +25,7 @@ noTable =
     }
 
 pub with-no-table-reads-and-writes-fail : (old : Drive) → Happens old noTable
-unfolding happens
+unfolding computed
 with-no-table-reads-and-writes-fail old = happens old noTable refl
 
 -- FFFFFF puts the image in the data part, and FFFFFE leaves it there. 9728 and a write to FFFFFF fail.
@@ -44,7 +45,7 @@ notBlocks =
     }
 
 pub numbers-of-no-block-touch-no-block : (old : Drive) → Happens old notBlocks
-unfolding happens
+unfolding computed
 numbers-of-no-block-touch-no-block old = happens old notBlocks refl
 
 -- One write is broken off by a byte other than 55, one by reset. Then the old bytes are read.
@@ -63,7 +64,7 @@ brokenOffAtOffer06 =
     }
 
 pub bytes-of-a-write-broken-off-do-not-count : (old : Drive) → Happens old brokenOffAtOffer06
-unfolding happens
+unfolding computed
 bytes-of-a-write-broken-off-do-not-count old = happens old brokenOffAtOffer06 refl
 
 -- A wrong handshake byte neither shows nor clears status 3 bit 7.
@@ -80,7 +81,7 @@ strayFirst =
     }
 
 pub a-wrong-byte-leaves-the-first-finish-due : (old : Drive) → Happens old strayFirst
-unfolding happens
+unfolding computed
 a-wrong-byte-leaves-the-first-finish-due old = happens old strayFirst refl
 
 -- Short commands and an unknown opcode are dropped, with no store in between. Six bytes come in two pieces, and a seventh is ignored.
@@ -100,7 +101,7 @@ dropped =
     }
 
 pub short-and-unknown-commands-are-dropped : (old : Drive) → Happens old dropped
-unfolding happens
+unfolding computed
 short-and-unknown-commands-are-dropped old = happens old dropped refl
 
 -- Resets among command bytes, among data, at an offer and in idle; the mark, the table and the buffer stay.
@@ -119,7 +120,7 @@ resets =
     }
 
 pub resets-keep-table-mark-and-buffer : (old : Drive) → Happens old resets
-unfolding happens
+unfolding computed
 resets-keep-table-mark-and-buffer old = happens old resets refl
 
 -- Calls out of place, answers that are none and bytes of a wrong length stand among the calls of one write.
@@ -138,7 +139,7 @@ refusedAmong =
     }
 
 pub refused-calls-change-nothing : (old : Drive) → Happens old refusedAmong
-unfolding happens
+unfolding computed
 refused-calls-change-nothing old = happens old refusedAmong refl
 
 -- Calls out of place while an access of each kind is awaited: each time raise, lower, feed and reset are refused.
@@ -161,7 +162,7 @@ busy =
     }
 
 pub while-an-answer-is-awaited-only-it-is-in-place : (old : Drive) → Happens old busy
-unfolding happens
+unfolding computed
 while-an-answer-is-awaited-only-it-is-in-place old = happens old busy refl
 
 -- Calls out of place in idle, at an offer, among command bytes and among data.
@@ -181,5 +182,25 @@ outOfPlace =
     }
 
 pub with-nothing-awaited-no-answer-is-in-place : (old : Drive) → Happens old outOfPlace
-unfolding happens
+unfolding computed
 with-nothing-awaited-no-answer-is-in-place old = happens old outOfPlace refl
+
+-- A refused answer 0 writes nothing: the seven is read. A call refused in between does not take the write away: the two is read.
+abbrev refusedAnswers : Run
+refusedAnswers =
+    record {
+      sectors = disk [] [];
+      turns =
+          found [] []
+          ++ opens ++ asksWrite 1 17 (bytes 1) ++ (go ⇒ write 17 ∷ gives 9 ⇒ refused 5 ∷ timesOut ⇒ finished 0x05 0x00 0x80 0 ∷ [])
+          ++ opens ++ asksRead 17 0 1 ++ (go ⇒ read 17 ∷ gives 7 ⇒ finished 0x00 0x00 0x00 0 ∷ [])
+          ++ opens ++ asksWrite 1 17 (bytes 2) ++ (go ⇒ write 17 ∷ raise ⇒ refused 3 ∷ done ⇒ finished 0x00 0x00 0x00 0 ∷ [])
+          ++ opens ++ asksRead 17 0 1 ++ (go ⇒ read 17 ∷ gives 2 ⇒ finished 0x00 0x00 0x00 0 ∷ []);
+      part = bytes 2;
+      place = sector 17;
+      candidates = bytes 2 ∷ [];
+    }
+
+pub a-refused-answer-writes-nothing : (old : Drive) → Happens old refusedAnswers
+unfolding computed
+a-refused-answer-writes-nothing old = happens old refusedAnswers refl

@@ -6,6 +6,7 @@ use Rattle.lists.specs.Lists.{dead}
 use Rattle.drive.specs.declared.Drive.{Drive}
 use Rattle.drive.specs.Calls.{raise}
 use Rattle.drive.specs.History.{held, nowhere}
+use Rattle.drive.proofs.Computing.{computed}
 use Rattle.drive.proofs.Transcripts.{_⇒_, Run, Happens, happens, bytes, disk, sector, go, gives, timesOut, unsettled, found, opens, stores, asksRead, asksWrite, asksHealth, healthBlock, elevenTimeouts, wait, offer, read, write, store, finished}
 
 -- After a read that left sevens in the data part. Two spares are used, one of them dead, and three blocks are bad.
@@ -23,7 +24,7 @@ healthOfLists =
     }
 
 pub the-health-block-counts-both-lists : (old : Drive) → Happens old healthOfLists
-unfolding happens
+unfolding computed
 the-health-block-counts-both-lists old = happens old healthOfLists refl
 
 -- It is the first finish after the start, and then no more.
@@ -38,7 +39,7 @@ healthFirst =
     }
 
 pub the-health-block-shows-the-first-finish-once : (old : Drive) → Happens old healthFirst
-unfolding happens
+unfolding computed
 the-health-block-shows-the-first-finish-once old = happens old healthFirst refl
 
 -- A read fails, so its block is bad; the store times out.
@@ -53,7 +54,7 @@ healthUnstored =
     }
 
 pub after-a-failed-store-the-health-block-shows-the-mark : (old : Drive) → Happens old healthUnstored
-unfolding happens
+unfolding computed
 after-a-failed-store-the-health-block-shows-the-mark old = happens old healthUnstored refl
 
 -- The same where the store is done.
@@ -68,7 +69,7 @@ healthStored =
     }
 
 pub after-a-done-store-the-health-block-shows-no-mark : (old : Drive) → Happens old healthStored
-unfolding happens
+unfolding computed
 after-a-done-store-the-health-block-shows-no-mark old = happens old healthStored refl
 
 -- Answer 3 to a read latches, and changes no entry.
@@ -83,7 +84,7 @@ healthUnsettled =
     }
 
 pub the-health-block-shows-a-latch-with-nothing-unstored : (old : Drive) → Happens old healthUnsettled
-unfolding happens
+unfolding computed
 the-health-block-shows-a-latch-with-nothing-unstored old = happens old healthUnsettled refl
 
 -- Answer 3 kills the spare under trial, and under the latch that is not stored.
@@ -101,7 +102,7 @@ healthLatched =
     }
 
 pub the-health-block-shows-a-latch-and-the-mark : (old : Drive) → Happens old healthLatched
-unfolding happens
+unfolding computed
 the-health-block-shows-a-latch-and-the-mark old = happens old healthLatched refl
 
 -- With no table a read of FFFFFD fails as any read does, and leaves the part; a write to it is an invalid number all the same.
@@ -119,7 +120,7 @@ healthUnknown =
     }
 
 pub with-no-table-there-is-no-health-block : (old : Drive) → Happens old healthUnknown
-unfolding happens
+unfolding computed
 with-no-table-there-is-no-health-block old = happens old healthUnknown refl
 
 -- Neither write to FFFFFD is good, and with 533 bytes fed it is those that it fails for.
@@ -138,5 +139,5 @@ healthWritten =
     }
 
 pub a-write-to-FFFFFD-is-an-invalid-number : (old : Drive) → Happens old healthWritten
-unfolding happens
+unfolding computed
 a-write-to-FFFFFD-is-an-invalid-number old = happens old healthWritten refl

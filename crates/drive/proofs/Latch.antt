@@ -5,6 +5,7 @@ use Rattle.lists.specs.Lists.{dead}
 use Rattle.image.specs.Images.{imageOf}
 use Rattle.drive.specs.declared.Drive.{Drive}
 use Rattle.drive.specs.Calls.{reset}
+use Rattle.drive.proofs.Computing.{computed}
 use Rattle.drive.proofs.Transcripts.{_⇒_, Run, Happens, happens, bytes, disk, sector, go, gives, done, garbles, timesOut, unsettled, found, opens, asksRead, asksWrite, asksTable, wait, read, write, finished}
 
 -- Answer 3 kills the spare under trial. Then a write, a rewrite at the threshold and the store are not made.
@@ -24,7 +25,7 @@ latched =
     }
 
 pub under-the-latch-no-write-is-made : (old : Drive) → Happens old latched
-unfolding happens
+unfolding computed
 under-the-latch-no-write-is-made old = happens old latched refl
 
 -- Answer 3 to a plain write latches. A reset keeps the latch, and the start's answer 3 had made none.
@@ -42,7 +43,7 @@ writeUnsettled =
     }
 
 pub a-reset-keeps-the-latch-of-a-write : (old : Drive) → Happens old writeUnsettled
-unfolding happens
+unfolding computed
 a-reset-keeps-the-latch-of-a-write old = happens old writeUnsettled refl
 
 -- Answer 3 to an attempt's write and read at the present sector latches, and kills no spare.
@@ -60,7 +61,7 @@ attemptUnsettled =
     }
 
 pub answer-3-at-the-present-sector-latches-and-kills-no-spare : (old : Drive) → Happens old attemptUnsettled
-unfolding happens
+unfolding computed
 answer-3-at-the-present-sector-latches-and-kills-no-spare old = happens old attemptUnsettled refl
 
 -- Answer 3 to a spare's verify kills the spare under trial, and latches.
@@ -78,5 +79,5 @@ verifyUnsettled =
     }
 
 pub answer-3-at-a-spare-kills-it : (old : Drive) → Happens old verifyUnsettled
-unfolding happens
+unfolding computed
 answer-3-at-a-spare-kills-it old = happens old verifyUnsettled refl

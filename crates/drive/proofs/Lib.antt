@@ -1,3 +1,4 @@
+pub mod Computing
 pub mod Transcripts
 pub mod Examples
 pub mod Reached

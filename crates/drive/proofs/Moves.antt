@@ -6,6 +6,7 @@ use Rattle.lists.specs.Lists.{dead}
 use Rattle.image.specs.Images.{imageOf}
 use Rattle.drive.specs.declared.Drive.{Drive}
 use Rattle.drive.specs.History.{unreadable}
+use Rattle.drive.proofs.Computing.{computed}
 use Rattle.drive.proofs.Transcripts.{_⇒_, _⇏_, ended, Run, from, calls, Happens, happens, bytes, disk, sector, go, gives, done, garbles, timesOut, found, opens, stores, asksRead, asksWrite, asksTable, read, write, finished}
 
 -- E reaches T. No attempt at the present sector verifies: a write times out, then one spoils the sector.
@@ -24,7 +25,7 @@ movedToSpare0 =
     }
 
 pub at-the-threshold-it-moves-to-spare-0 : (old : Drive) → Happens old movedToSpare0
-unfolding happens
+unfolding computed
 at-the-threshold-it-moves-to-spare-0 old = happens old movedToSpare0 refl
 
 -- The block is at spare 0. It moves on, and the table's image then shows its old entry dead.
@@ -43,7 +44,7 @@ movedToSpare1 =
     }
 
 pub a-moved-block-moves-on-to-spare-1 : (old : Drive) → Happens old movedToSpare1
-unfolding happens
+unfolding computed
 a-moved-block-moves-on-to-spare-1 old = happens old movedToSpare1 refl
 
 -- The last spare dies, and the command after finds none to try. The bytes of each failed write are candidates.
@@ -62,12 +63,12 @@ noSpareUnused =
     }
 
 pub with-no-spare-unused-it-keeps-its-sector : (old : Drive) → Happens old noSpareUnused
-unfolding happens
+unfolding computed
 with-no-spare-unused-it-keeps-its-sector old = happens old noSpareUnused refl
 
 -- A write done can leave a spare unreadable too.
 pub a-spare-can-be-spoiled : (old : Drive) → ended (from old noSpareUnused) (calls noSpareUnused) .sectors (record { 0 = 4959 }) ≡ unreadable
-unfolding happens
+unfolding computed
 a-spare-can-be-spoiled old = refl
 
 -- A read at its threshold is rewritten, and no sector verifies: it fails, and its bytes are no new candidate.
@@ -84,7 +85,7 @@ failedReads =
     }
 
 pub a-failed-read-adds-no-candidate : (old : Drive) → Happens old failedReads
-unfolding happens
+unfolding computed
 a-failed-read-adds-no-candidate old = happens old failedReads refl
 
 -- A block of the bad list moves, and leaves the list.
@@ -103,7 +104,7 @@ badBlockMoves =
     }
 
 pub a-bad-block-that-moves-leaves-the-bad-list : (old : Drive) → Happens old badBlockMoves
-unfolding happens
+unfolding computed
 a-bad-block-that-moves-leaves-the-bad-list old = happens old badBlockMoves refl
 
 -- The block is at spare 0. A plain write and a read go there.
@@ -121,7 +122,7 @@ atItsSpare =
     }
 
 pub a-moved-block-is-written-and-read-at-its-spare : (old : Drive) → Happens old atItsSpare
-unfolding happens
+unfolding computed
 a-moved-block-is-written-and-read-at-its-spare old = happens old atItsSpare refl
 
 -- A spoiled sector that is written again can be read.
@@ -139,5 +140,5 @@ spoiledOnce =
     }
 
 pub a-spoiled-sector-can-be-written-again : (old : Drive) → Happens old spoiledOnce
-unfolding happens
+unfolding computed
 a-spoiled-sector-can-be-written-again old = happens old spoiledOnce refl

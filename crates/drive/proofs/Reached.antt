@@ -6,7 +6,7 @@ use lib.ListN.{replicate}
 use Rattle.drive.specs.Results.{Out}
 use Rattle.drive.specs.Calls.{Call, raise, lower, feed, surface, started}
 use Rattle.drive.specs.Bound.{accesses, Demand1Bound}
-use Rattle.drive.proofs.Transcripts.{happens}
+use Rattle.drive.proofs.Computing.{computed}
 use Rattle.drive.proofs.Examples.{ready, run, asks, crc, good, timeout, reading, Ended}
 
 -- an attempt whose write is done and whose read fails, n times
@@ -23,17 +23,17 @@ abbrev pub begun : Out
 begun = reading 255 1 []
 
 pub reached : accesses (begun .step .drive) (begun .bytes) longest ≡ 478
-unfolding happens accesses
+unfolding computed accesses
 reached = refl
 
 -- and there it ends: failed, no spare unused, E 255
 pub reached-end : Ended (run (begun .step .drive) (begun .bytes) longest) (0x09 ∷ 0x40 ∷ 0x00 ∷ 0xFF ∷ [])
-unfolding happens
+unfolding computed
 reached-end = (refl, refl)
 
 -- the bound speaks of it
 pub within-the-bound : Demand1Bound → accesses (begun .step .drive) (begun .bytes) longest ≤ 478
-unfolding happens
+unfolding computed
 within-the-bound bound = bound (begun .step .drive) (begun .bytes) longest refl
 
 -- WHAT IS COUNTED
@@ -48,20 +48,20 @@ abbrev pub storing : Out
 storing = run ready (replicate 536 0) (asks 0 1 (replicate 11 timeout ++ (raise ∷ [])))
 
 pub a-plain-write-is-one-access : accesses (writing .step .drive) (writing .bytes) (surface 0 [] ∷ raise ∷ surface 0 [] ∷ []) ≡ 1
-unfolding happens accesses
+unfolding computed accesses
 a-plain-write-is-one-access = refl
 
 -- An answer of no code, bytes of a wrong length and a call out of place come between.
 pub refused-calls-are-not-counted :
     accesses (begun .step .drive) (begun .bytes) (crc ∷ surface 4 [] ∷ crc ∷ surface 0 [] ∷ crc ∷ raise ∷ crc ∷ []) ≡ 4
-unfolding happens accesses
+unfolding computed accesses
 refused-calls-are-not-counted = refl
 
 -- "The store at a raise belongs to no command", nor do the start's reads.
 pub a-store-belongs-to-no-command : accesses (storing .step .drive) (storing .bytes) (surface 2 [] ∷ []) ≡ 0
-unfolding happens accesses
+unfolding computed accesses
 a-store-belongs-to-no-command = refl
 
 pub the-reads-of-a-start-belong-to-no-command : accesses started (replicate 536 0) (surface 2 [] ∷ surface 2 [] ∷ []) ≡ 0
-unfolding happens accesses
+unfolding computed accesses
 the-reads-of-a-start-belong-to-no-command = refl

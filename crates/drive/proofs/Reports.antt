@@ -9,7 +9,8 @@ use Rattle.drive.specs.declared.Refusal.the-variants as refusal
 use Rattle.drive.specs.Calls.{surface}
 use Rattle.drive.specs.History.{blank}
 use Rattle.drive.specs.Told.{Report, found, written, attempted, given, nothing, reportOf, reportsOf}
-use Rattle.drive.proofs.Transcripts.{Run, entered, happens, bytes, disk}
+use Rattle.drive.proofs.Computing.{computed}
+use Rattle.drive.proofs.Transcripts.{Run, entered, bytes, disk}
 use Rattle.drive.proofs.Rereads.{threeBlocks, spoiledAtFirst}
 use Rattle.drive.proofs.Moves.{noSpareUnused, failedReads}
 use Rattle.drive.proofs.Latch.{latched}
@@ -31,38 +32,38 @@ toldOf n old r = spoken (reportsOf (record { 0 = n }) (r .sectors) blank (entere
 pub the-week-is-told :
     (old : Drive) → toldOf 17 old week
     ≡ found (bytes 7 ∷ []) ∷ written (bytes 1) ∷ given (bytes 1) ∷ given (bytes 1) ∷ given (bytes 1) ∷ written (bytes 2) ∷ given (bytes 2) ∷ []
-unfolding happens reportOf
+unfolding computed reportOf
 the-week-is-told old = refl
 
 pub failed-writes-are-told : (old : Drive) → toldOf 17 old noSpareUnused ≡ found (bytes 7 ∷ []) ∷ attempted (bytes 1) ∷ attempted (bytes 2) ∷ []
-unfolding happens reportOf
+unfolding computed reportOf
 failed-writes-are-told old = refl
 
 -- The write under the latch asked for no write s, and the read at its threshold failed.
 pub a-write-that-is-not-made-is-not-told : (old : Drive) → toldOf 17 old latched ≡ found (bytes 7 ∷ []) ∷ attempted (bytes 1) ∷ []
-unfolding happens reportOf
+unfolding computed reportOf
 a-write-that-is-not-made-is-not-told old = refl
 
 -- of each block its own
 pub of-block-17 : (old : Drive) → toldOf 17 old threeBlocks ≡ found (bytes 7 ∷ []) ∷ written (bytes 1) ∷ given (bytes 1) ∷ []
-unfolding happens reportOf
+unfolding computed reportOf
 of-block-17 old = refl
 
 pub of-block-18 : (old : Drive) → toldOf 18 old threeBlocks ≡ found (bytes 7 ∷ []) ∷ written (bytes 2) ∷ []
-unfolding happens reportOf
+unfolding computed reportOf
 of-block-18 old = refl
 
 -- A read at its threshold writes and fails: nothing is told of it. What could not be read as the list began was not found.
 pub a-failed-read-is-not-told : (old : Drive) → toldOf 17 old failedReads ≡ found (bytes 7 ∷ []) ∷ []
-unfolding happens reportOf
+unfolding computed reportOf
 a-failed-read-is-not-told old = refl
 
 pub an-unreadable-sector-is-not-found : (old : Drive) → toldOf 17 old spoiledAtFirst ≡ found [] ∷ written (bytes 1) ∷ []
-unfolding happens reportOf
+unfolding computed reportOf
 an-unreadable-sector-is-not-found old = refl
 
 -- The image of a table in a call that was refused.
 pub a-refused-call-reports-nothing :
     reportOf (record { 0 = 17 }) (disk [] []) blank (record { call = surface 0 (imageOf [] []); answer = answer.Refused refusal.Buffer; buffer = [] }) ≡ nothing
-unfolding happens reportOf
+unfolding computed reportOf
 a-refused-call-reports-nothing = refl

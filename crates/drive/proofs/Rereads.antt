@@ -6,6 +6,7 @@ use lib.Dec.{eqb}
 use Rattle.image.specs.Images.{imageOf}
 use Rattle.drive.specs.declared.Drive.{Drive}
 use Rattle.drive.specs.History.{held, unreadable}
+use Rattle.drive.proofs.Computing.{computed}
 use Rattle.drive.proofs.Transcripts.{_⇒_, Run, Happens, happens, bytes, disk, sector, go, gives, done, garbles, timesOut, found, opens, asksRead, asksWrite, read, write, finished}
 
 -- A write and a read, both good at once.
@@ -23,7 +24,7 @@ writtenThenRead =
     }
 
 pub a-good-read-brings-the-written-bytes : (old : Drive) → Happens old writtenThenRead
-unfolding happens
+unfolding computed
 a-good-read-brings-the-written-bytes old = happens old writtenThenRead refl
 
 -- Two of three rereads fail, and T is 3. What comes garbled after the first good read is not kept.
@@ -41,7 +42,7 @@ rereadsComeGood =
     }
 
 pub below-the-threshold-it-stays : (old : Drive) → Happens old rereadsComeGood
-unfolding happens
+unfolding computed
 below-the-threshold-it-stays old = happens old rereadsComeGood refl
 
 -- E reaches T. The bytes are written again where they were, and verify.
@@ -59,7 +60,7 @@ verifiedInPlace =
     }
 
 pub at-the-threshold-it-verifies-in-place : (old : Drive) → Happens old verifiedInPlace
-unfolding happens
+unfolding computed
 at-the-threshold-it-verifies-in-place old = happens old verifiedInPlace refl
 
 -- No sector but the table's can be read as the list begins.
@@ -74,7 +75,7 @@ spoiledAtFirst =
     }
 
 pub a-sector-that-could-not-be-read-is-written : (old : Drive) → Happens old spoiledAtFirst
-unfolding happens
+unfolding computed
 a-sector-that-could-not-be-read-is-written old = happens old spoiledAtFirst refl
 
 -- Two blocks are written, and 273 besides, whose low byte is 17.
@@ -94,5 +95,5 @@ threeBlocks =
     }
 
 pub blocks-do-not-touch-one-another : (old : Drive) → Happens old threeBlocks
-unfolding happens
+unfolding computed
 blocks-do-not-touch-one-another old = happens old threeBlocks refl

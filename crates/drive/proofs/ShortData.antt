@@ -4,6 +4,7 @@ use mathlib.Core.List.{List, [], _∷_, _++_}
 use lib.ListN.{replicate}
 use Rattle.drive.specs.declared.Drive.{Drive}
 use Rattle.drive.specs.Calls.{raise, lower, feed, surface, reset}
+use Rattle.drive.proofs.Computing.{computed}
 use Rattle.drive.proofs.Transcripts.{Turn, _⇒_, Run, Happens, happens, bytes, disk, sector, go, gives, done, found, opens, command, asksRead, asksWrite, wait, offer, read, write, finished}
 
 -- SHORT DATA, each time after a read that left sevens in the data part.
@@ -25,7 +26,7 @@ shortAndLong =
     }
 
 pub short-data-ends-in-zeros-and-long-data-is-refused : (old : Drive) → Happens old shortAndLong
-unfolding happens
+unfolding computed
 short-data-ends-in-zeros-and-long-data-is-refused old = happens old shortAndLong refl
 
 -- A verify compares with the zeros too.
@@ -43,7 +44,7 @@ shortVerified =
     }
 
 pub short-data-is-verified-with-its-zeros : (old : Drive) → Happens old shortVerified
-unfolding happens
+unfolding computed
 short-data-is-verified-with-its-zeros old = happens old shortVerified refl
 
 -- One byte to FFFFFE.
@@ -58,7 +59,7 @@ shortToTheBuffer =
     }
 
 pub a-short-write-to-FFFFFE-leaves-zeros : (old : Drive) → Happens old shortToTheBuffer
-unfolding happens
+unfolding computed
 a-short-write-to-FFFFFE-leaves-zeros old = happens old shortToTheBuffer refl
 
 -- No byte to a number of no block.
@@ -73,7 +74,7 @@ noneFed =
     }
 
 pub with-no-byte-fed-the-whole-part-is-zeroed : (old : Drive) → Happens old noneFed
-unfolding happens
+unfolding computed
 with-no-byte-fed-the-whole-part-is-zeroed old = happens old noneFed refl
 
 -- Broken off at offer 06 the zeros stay; broken off before that raise nothing is zeroed.
@@ -88,7 +89,7 @@ shortBrokenOff =
     }
 
 pub the-zeros-of-a-write-broken-off-stay : (old : Drive) → Happens old shortBrokenOff
-unfolding happens
+unfolding computed
 the-zeros-of-a-write-broken-off-stay old = happens old shortBrokenOff refl
 
 abbrev brokenOffBeforeTheRaise : Run
@@ -104,5 +105,5 @@ brokenOffBeforeTheRaise =
     }
 
 pub before-that-raise-nothing-is-zeroed : (old : Drive) → Happens old brokenOffBeforeTheRaise
-unfolding happens
+unfolding computed
 before-that-raise-nothing-is-zeroed old = happens old brokenOffBeforeTheRaise refl

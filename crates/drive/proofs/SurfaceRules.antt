@@ -11,7 +11,8 @@ use Rattle.drive.specs.declared.Drive.{Drive}
 use Rattle.drive.specs.Calls.{Call, raise, surface, startOf}
 use Rattle.drive.specs.History.{Content, held, unreadable, Sectors}
 use Rattle.drive.specs.Run.{Event, World, after, Permits, made, Lawful, begins}
-use Rattle.drive.proofs.Transcripts.{Turn, _⇒_, _⇏_, offer, read, write, wait, finished, events, happens, bytes, disk, go, done, gives, garbles, timesOut, found, opens, asksRead, asksWrite}
+use Rattle.drive.proofs.Computing.{computed}
+use Rattle.drive.proofs.Transcripts.{Turn, _⇒_, _⇏_, offer, read, write, wait, finished, events, bytes, disk, go, done, gives, garbles, timesOut, found, opens, asksRead, asksWrite}
 
 -- what the rules ask at the last call of a list
 abbrev AtLast : World → List Event → Type 0
@@ -59,7 +60,7 @@ abbrev lies : List Turn
 lies = found [] [] ++ readOf17 ++ (gives 9 ⇒ finished 0x00 0x00 0x80 0 ∷ [])
 
 pub answer-0-with-other-bytes : (old : Drive) → LawfulRun old sevens lies → ⊥
-unfolding happens
+unfolding computed
 answer-0-with-other-bytes old l = differ 7 9 refl (ap firstByte (at-last (from old sevens) (events lies) l))
 
 -- The write done left its bytes, so the old ones cannot come.
@@ -69,7 +70,7 @@ staleAnswer =
     ++ readOf17 ++ (gives 7 ⇒ finished 0x00 0x00 0x00 0 ∷ [])
 
 pub answer-0-with-old-bytes : (old : Drive) → LawfulRun old sevens staleAnswer → ⊥
-unfolding happens
+unfolding computed
 answer-0-with-old-bytes old l = differ 1 7 refl (ap firstByte (at-last (from old sevens) (events staleAnswer) l))
 
 -- A write that timed out left the sector.
@@ -79,7 +80,7 @@ lateAnswer =
     ++ readOf17 ++ (gives 1 ⇒ finished 0x00 0x00 0x00 0 ∷ [])
 
 pub answer-0-with-the-bytes-of-a-timeout : (old : Drive) → LawfulRun old sevens lateAnswer → ⊥
-unfolding happens
+unfolding computed
 answer-0-with-the-bytes-of-a-timeout old l = differ 7 1 refl (ap firstByte (at-last (from old sevens) (events lateAnswer) l))
 
 -- The write done left a spoiled sector.
@@ -89,15 +90,15 @@ spoiledAnswer =
     ++ readOf17 ++ (gives 1 ⇒ finished 0x00 0x00 0x00 0 ∷ [])
 
 pub answer-0-from-a-spoiled-sector : (old : Drive) → LawfulRun old sevens spoiledAnswer → ⊥
-unfolding happens
+unfolding computed
 answer-0-from-a-spoiled-sector old l = not-held (bytes 1) (at-last (from old sevens) (events spoiledAnswer) l)
 
 -- LAWFUL, whatever the sectors hold: answer 1 with any bytes, an answer 0 that is refused, and calls that are no answer
 
 pub answer-1-with-any-bytes : (old : Drive) (sectors : Sectors) → LawfulRun old sectors (garbles 9 ⇒ read 4960 ∷ garbles 8 ⇒ read 4960 ∷ [])
-unfolding happens
+unfolding computed
 answer-1-with-any-bytes old sectors = (tt, (tt, tt))
 
 pub a-refused-answer-and-a-raise : (old : Drive) (sectors : Sectors) → LawfulRun old sectors (surface 0 (9 ∷ []) ⇒ read 4960 ∷ raise ⇒ wait ∷ [])
-unfolding happens
+unfolding computed
 a-refused-answer-and-a-raise old sectors = (tt, (tt, tt))

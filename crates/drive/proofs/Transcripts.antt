@@ -6,25 +6,17 @@ use Prim.Native.Nat.{ℕ, _+_, _/_, _%_}
 use lib.Dec.{eqb}
 use lib.ListN.{getD, replicate}
 use Rattle.logic.proofs.Bools.{clash, and-left, and-right}
-use Rattle.geometry.specs.Geometry.{homeOf, tableSector}
 use Rattle.geometry.specs.declared.Block.{Block}
-use Rattle.lists.specs.Lists.{dead, indexOf, memberOf, entryOk, entriesOk}
-use Rattle.table.specs.Tables.{listsOk, sectorOf, listed, killedNext, withBad, removed, withoutBad}
-use Rattle.image.specs.Images.{wide, triple, triples, listPart, framedPart, imageOf, narrow, entryAt, entriesFrom, framed, wellFormed, tableOf}
-use Rattle.buffer.specs.Runs.{over, same, allAre}
+use Rattle.image.specs.Images.{imageOf}
+use Rattle.buffer.specs.Runs.{same}
 use Rattle.buffer.proofs.Compare.{same-equal}
 use Rattle.drive.specs.declared.Drive.{Drive}
 use Rattle.drive.specs.declared.Answer.{Answer}
 use Rattle.drive.specs.declared.Answer.the-variants as answer
-use Rattle.drive.specs.Words.{response, codeOf, dataOf, withData, opcodeOf, numberOf, ending1, ending2, ending3, statusOf}
-use Rattle.drive.specs.Records.{retryOk, trialOk, phaseOk, lineOk, recordOk}
+use Rattle.drive.specs.Words.{response, codeOf, dataOf}
 use Rattle.drive.specs.Results.{Out}
-use Rattle.drive.specs.Handshake.{raisedIdle, commandOffer, raised, writes, noNumber, health, acted, goesOn, lowered, fedTo, rested}
-use Rattle.drive.specs.Retries.{failed, goesOnReading, afterRead}
-use Rattle.drive.specs.Sparing.{nextAttempt, missed, brokenOff, verified, tried, checked}
-use Rattle.drive.specs.Access.{toRead, toWrite, startAnswered, storeAnswered, keptData, lost, settled, reads, readAnswered, writeAnswered, answered}
-use Rattle.drive.specs.Calls.{Call, raise, lower, feed, surface, reset, raiseOf, lowerOf, feedOf, surfaceOf, resetOf, startOf, stepOf}
-use Rattle.drive.specs.History.{Bytes, Content, held, unreadable, Sectors, Where, nowhere, at, Entry, History, blank, isRefused, readAsked, padded, bit, learns, acts, underway, reports, good, moves, isRead, bytesOf, touches, touchesFirst, hasWritten, placeNext, candidatesNext, heard, next, Allows}
+use Rattle.drive.specs.Calls.{Call, raise, lower, feed, surface, reset, startOf}
+use Rattle.drive.specs.History.{Bytes, Content, held, unreadable, Sectors, Where, nowhere, at, Entry, History, blank, isRefused, readAsked, next}
 use Rattle.drive.specs.Surface.{brings}
 use Rattle.drive.specs.Run.{Event, World, after, rule, unless, made, Lawful, entries, entryOf, begins}
 
@@ -218,9 +210,7 @@ played old r = plays (r .sectors) (from old r) blank (r .turns)
 abbrev pub expected : Run → Played
 expected r = record { lawful = true; says = answers (r .turns); part = r .part; place = r .place; candidates = r .candidates }
 
--- A proof that unfolds this one unfolds all that its line names: what a run's computation has to see through.
-unfoldable pub happens : (old : Drive) (r : Run) → played old r ≡ expected r → Happens old r
-unfolding homeOf indexOf memberOf entryOk entriesOk listsOk sectorOf listed killedNext withBad removed withoutBad wide triple triples listPart framedPart imageOf narrow entryAt entriesFrom framed wellFormed tableOf over same allAre dataOf withData opcodeOf numberOf ending1 ending2 ending3 statusOf retryOk trialOk phaseOk lineOk recordOk raisedIdle commandOffer raised writes noNumber health acted goesOn lowered fedTo rested failed goesOnReading afterRead nextAttempt missed brokenOff verified tried checked toRead toWrite startAnswered storeAnswered keptData lost settled reads readAnswered writeAnswered answered raiseOf lowerOf feedOf surfaceOf resetOf startOf stepOf padded bit learns acts underway reports good moves isRead bytesOf touches touchesFirst hasWritten placeNext candidatesNext heard next
+pub happens : (old : Drive) (r : Run) → played old r ≡ expected r → Happens old r
 happens old r e =
     let h = ties (r .sectors) (from old r) blank (r .turns) in
     record {

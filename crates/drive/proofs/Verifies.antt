@@ -6,7 +6,7 @@ use lib.ListN.{replicate}
 use Rattle.drive.specs.declared.Answer.the-variants as answer
 use Rattle.drive.specs.Results.{Out}
 use Rattle.drive.specs.Calls.{Call, raise, lower, feed, surface}
-use Rattle.drive.proofs.Transcripts.{happens}
+use Rattle.drive.proofs.Computing.{computed}
 use Rattle.drive.proofs.Examples.{ready, run, timeout, Ended}
 
 -- a write/verify of sevens to block 0, and the surface's answers to it
@@ -40,6 +40,6 @@ pub record Verifies : Type 0 where
   pub to-a-spare : verifying (done ∷ firstWrong ∷ timeout ∷ []) .step .answer ≡ answer.Write (record { 0 = 4928 })
 
 pub verifies : Verifies
-unfolding happens
+unfolding computed
 verifies =
     record { equal-bytes = (refl, refl); first-byte = (refl, refl); middle-byte = (refl, refl); last-byte = (refl, refl); answer-1 = (refl, refl); to-a-spare = refl }

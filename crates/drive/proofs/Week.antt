@@ -5,6 +5,7 @@ use Rattle.geometry.specs.Geometry.{tableSector}
 use Rattle.image.specs.Images.{imageOf}
 use Rattle.drive.specs.declared.Drive.{Drive}
 use Rattle.drive.specs.History.{held, unreadable, Sectors}
+use Rattle.drive.proofs.Computing.{computed}
 use Rattle.drive.proofs.Transcripts.{Turn, _⇒_, _⇏_, ended, Run, from, calls, Happens, happens, bytes, disk, sector, go, gives, done, garbles, timesOut, found, opens, stores, asksRead, asksWrite, read, write, finished}
 
 -- THE WEEK OF ONE BLOCK. The host asks for two rereads and sets the threshold at 2.
@@ -48,7 +49,7 @@ toWednesday =
     }
 
 pub on-wednesday-it-moves-with-its-bytes : (old : Drive) → Happens old toWednesday
-unfolding happens
+unfolding computed
 on-wednesday-it-moves-with-its-bytes old = happens old toWednesday refl
 
 -- The whole week.
@@ -63,7 +64,7 @@ week =
     }
 
 pub on-saturday-the-new-bytes-are-read : (old : Drive) → Happens old week
-unfolding happens
+unfolding computed
 on-saturday-the-new-bytes-are-read old = happens old week refl
 
 -- what the week leaves on the disk
@@ -71,11 +72,11 @@ abbrev weekend : Drive → Sectors
 weekend old = ended (from old week) (calls week) .sectors
 
 pub the-week-leaves-its-table-on-the-disk : (old : Drive) → weekend old tableSector ≡ held (imageOf (17 ∷ []) [])
-unfolding happens
+unfolding computed
 the-week-leaves-its-table-on-the-disk old = refl
 
 pub the-week-leaves-the-old-sector-spoiled : (old : Drive) → weekend old (record { 0 = 17 }) ≡ unreadable
-unfolding happens
+unfolding computed
 the-week-leaves-the-old-sector-spoiled old = refl
 
 -- the next start, and a read
@@ -90,5 +91,5 @@ weekAfter old =
     }
 
 pub the-next-start-finds-the-block-at-its-spare : (old : Drive) → Happens old (weekAfter old)
-unfolding happens
+unfolding computed
 the-next-start-finds-the-block-at-its-spare old = happens old (weekAfter old) refl
