@@ -142,3 +142,21 @@ spoiledOnce =
 pub a-spoiled-sector-can-be-written-again : (old : Drive) → Happens old spoiledOnce
 unfolding computed
 a-spoiled-sector-can-be-written-again old = happens old spoiledOnce refl
+
+-- The first spare fails twice and becomes dead; the block moves to the second.
+abbrev spareDies : Run
+spareDies =
+    record {
+      sectors = disk [] [];
+      turns =
+          found [] [] ++ opens ++ asksWrite 2 17 (bytes 1)
+          ++ (go ⇒ write 17 ∷ timesOut ⇒ write 17 ∷ timesOut ⇒ write 4928 ∷ done ⇏ read 4928 ∷ garbles 9 ⇒ write 4928 ∷ timesOut ⇒ write 4929 ∷ [])
+          ++ (done ⇒ read 4929 ∷ gives 1 ⇒ finished 0x0C 0x04 0x80 0 ∷ []) ++ stores ++ asksTable 0x00;
+      part = imageOf (dead ∷ 17 ∷ []) [];
+      place = sector 4929;
+      candidates = bytes 1 ∷ [];
+    }
+
+pub a-spare-that-fails-becomes-dead : (old : Drive) → Happens old spareDies
+unfolding computed
+a-spare-that-fails-becomes-dead old = happens old spareDies refl
