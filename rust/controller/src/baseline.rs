@@ -2,6 +2,8 @@
 //! against. It tests in each call what document 01 asks each call to test, and is
 //! run beside the library by `fuzz`.
 
+mod packing;
+
 use crate::{Answer, Code, Offer, Sector, BUFFER, GO_ON, SECTOR_BYTES, STATUS, TABLE};
 
 const SPARES: usize = 32;

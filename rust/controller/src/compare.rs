@@ -1,9 +1,14 @@
 //! The library beside the second implementation, `reference`: the same calls on
 //! both, and what must be the same after each.
 //!
-//! `mapping` leads from the library's record to the reference's, `damage` makes
-//! records that no call returned, `beside` makes the calls.
+//! `mapping` leads from the library's record to the reference's. `beside` makes a
+//! call on all implementations, `trial` the seven calls on a record that no call
+//! returned. `damage` and `bounds` make such records, and `clauses` names those on
+//! either side of a bound of code 1.
 
 pub mod beside;
+pub mod bounds;
+pub mod clauses;
 pub mod damage;
 pub mod mapping;
+pub mod trial;

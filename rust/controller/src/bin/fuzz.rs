@@ -5,8 +5,9 @@
 use std::env;
 use std::process::ExitCode;
 
-use controller::compare::beside::{self, Beside, Fate, MOST_LENT};
-use controller::compare::damage;
+use controller::compare::beside::{Beside, Fate, MOST_LENT};
+use controller::compare::trial::{self, length};
+use controller::compare::{bounds, clauses, damage};
 use controller::raw;
 use reference::controller::{Awaited, Offer, Phase};
 use reference::coverage;
@@ -22,49 +23,82 @@ usage: fuzz SEEDS CALLS [FIRST]   a list of about so many calls for each seed, w
 ";
 
 fn main() -> ExitCode {
-    let numbers: Option<Vec<u64>> = env::args().skip(1).map(|word| word.parse().ok()).collect();
-    let (seeds, calls, first) = match numbers.as_deref() {
-        Some(&[seeds, calls]) => (seeds, calls, 1),
-        Some(&[seeds, calls, first]) => (seeds, calls, first),
-        _ => {
-            eprint!("{USAGE}");
-            return ExitCode::from(2);
-        }
+    let Some(plan) = plan() else {
+        eprint!("{USAGE}");
+        return ExitCode::from(2);
     };
     let mut tally = Tally::default();
-    let mut rng = Rng::new(first);
+    match compared(&plan, &mut tally) {
+        Ok(sides) => {
+            tally.report(&plan, sides);
+            ExitCode::SUCCESS
+        }
+        Err(difference) => {
+            println!("after {} calls, {difference}", tally.calls());
+            ExitCode::FAILURE
+        }
+    }
+}
+
+/// Which lists are made.
+struct Plan {
+    /// So many seeds, from the first on.
+    first: u64,
+    seeds: u64,
+    /// About so many calls for each.
+    calls: usize,
+}
+
+/// The plan of the arguments.
+fn plan() -> Option<Plan> {
+    let words = env::args().skip(1);
+    let numbers: Option<Vec<u64>> = words.map(|word| word.parse().ok()).collect();
+    let (seeds, calls, first) = match numbers?[..] {
+        [seeds, calls] => (seeds, calls, 1),
+        [seeds, calls, first] => (seeds, calls, first),
+        _ => return None,
+    };
+    Some(Plan {
+        first,
+        seeds,
+        calls: calls.try_into().ok()?,
+    })
+}
+
+/// Compares all there is. Says how many names of code 1 were met, or the first
+/// thing that is not as it must be.
+fn compared(plan: &Plan, tally: &mut Tally) -> Result<usize, String> {
+    let mut rng = Rng::new(plan.first);
+    let sides = code_1(&mut rng, tally)?;
     for record in damage::sweep() {
-        if let Err(difference) = tried(&record, &mut rng, &mut tally) {
-            println!("a record with one field changed: {difference}");
-            return ExitCode::FAILURE;
-        }
+        tried(&record, &mut rng, tally)
+            .map_err(|difference| format!("a record with one field changed: {difference}"))?;
     }
-    for seed in first..first + seeds {
-        if let Err(difference) = list(seed, calls as usize, &mut tally) {
-            println!("seed {seed}, after {} calls: {difference}", tally.calls());
-            return ExitCode::FAILURE;
-        }
+    for number in 0..plan.seeds {
+        let seed = plan.first.wrapping_add(number);
+        list(seed, plan.calls, tally).map_err(|difference| format!("seed {seed}: {difference}"))?;
     }
-    let names = coverage::report();
-    println!("{}", names.lines().last().unwrap_or_default());
-    println!(
-        "{} calls of {seeds} lists, {} of {} short lists that leave them, \
-         {} with every length from 0 to {MOST_LENT}",
-        tally.listed, tally.short_calls, tally.short_lists, tally.lengths
-    );
-    println!(
-        "{} calls on {} damaged records: {} refused as no packing, {} with 1, {} with another code, \
-         {} taken alike, {} taken where document 01 is silent",
-        tally.damaged(),
-        tally.records,
-        tally.no_packing,
-        tally.refused,
-        tally.other_code,
-        tally.taken,
-        tally.unsettled
-    );
-    println!("{} calls agreed", tally.calls());
-    ExitCode::SUCCESS
+    Ok(sides)
+}
+
+/// Makes the calls on records at and beyond each bound of code 1. Every name must
+/// be met.
+fn code_1(rng: &mut Rng, tally: &mut Tally) -> Result<usize, String> {
+    let mut met = clauses::Met::default();
+    for record in bounds::records() {
+        let refused = tried(&record, rng, tally)
+            .map_err(|difference| format!("a record for code 1: {difference}"))?;
+        met.count(&record, refused)
+            .map_err(|said| format!("a record for code 1: {said}\n{record:?}"))?;
+    }
+    match met.missed()[..] {
+        [] => Ok(clauses::names().len()),
+        ref missed => Err(format!(
+            "{} names of code 1 were not met:\n{}",
+            missed.len(),
+            missed.join("\n")
+        )),
+    }
 }
 
 /// How many calls were made.
@@ -89,6 +123,30 @@ impl Tally {
 
     fn calls(&self) -> u64 {
         self.listed + self.short_calls + self.lengths + self.damaged()
+    }
+
+    /// Says what agreed; so many names of code 1 were met.
+    fn report(&self, plan: &Plan, sides: usize) {
+        let names = coverage::report();
+        println!("{}", names.lines().last().unwrap_or_default());
+        println!("all {sides} names of code 1 were met");
+        println!(
+            "{} calls of {} lists, {} of {} short lists that leave them, \
+             {} with every length from 0 to {MOST_LENT}",
+            self.listed, plan.seeds, self.short_calls, self.short_lists, self.lengths
+        );
+        println!(
+            "{} calls on {} damaged records: {} refused as no packing, {} with 1, \
+             {} with another code, {} taken alike, {} taken where document 01 is silent",
+            self.damaged(),
+            self.records,
+            self.no_packing,
+            self.refused,
+            self.other_code,
+            self.taken,
+            self.unsettled
+        );
+        println!("{} calls agreed", self.calls());
     }
 }
 
@@ -218,55 +276,11 @@ fn sector(rng: &mut Rng) -> Vec<u8> {
     reference::surface::plain_bytes(rng)
 }
 
-/// A length to lend, near what is asked for more often than not.
-fn length(call: &Call, rng: &mut Rng) -> usize {
-    let wanted = beside::length_of(call);
-    match rng.below(4) {
-        0 => rng.place(MOST_LENT + 1),
-        1 => wanted,
-        _ => wanted - 6 + rng.place(13),
-    }
-}
-
-/// The seven calls on a damaged record.
-fn tried(record: &raw::Drive, rng: &mut Rng, tally: &mut Tally) -> Result<(), String> {
+/// The seven calls on a damaged record; says whether code 1 refused it.
+fn tried(record: &raw::Drive, rng: &mut Rng, tally: &mut Tally) -> Result<bool, String> {
+    let tried = trial::all_calls(record, rng)?;
     tally.records += 1;
-    let fed = rng.pick(&[0, 3, 6, 533]);
-    let calls = [
-        Call::Start,
-        Call::Raise,
-        Call::Lower(rng.pick(&[0x55, 0x55, 0x55, 0xAA])),
-        Call::Feed(vec![rng.byte(); fed]),
-        match rng.below(6) {
-            0 => Call::Surface(rng.byte(), vec![]),
-            1 => Call::Surface(rng.below(4) as u8, vec![0; rng.pick(&[0, 531, 532, 533])]),
-            2 => Call::Surface(2, vec![]),
-            3 => Call::Surface(3, vec![]),
-            n => Call::Surface(
-                n as u8 - 4,
-                match rng.one_in(2) {
-                    true => sector(rng),
-                    false => vec![],
-                },
-            ),
-        },
-        Call::Reset,
-        Call::Image,
-    ];
-    let filled = rng.byte();
-    for call in calls {
-        let length = match rng.one_in(8) {
-            true => length(&call, rng),
-            false => beside::length_of(&call),
-        };
-        let lent = vec![filled; length];
-        let fate = beside::damaged(record, &lent, &call).map_err(|difference| {
-            let line = Line {
-                lend: Some(length),
-                call: call.clone(),
-            };
-            format!("{}\non {record:?}\n{difference}", script::show(&line))
-        })?;
+    for fate in tried.fates {
         *match fate {
             Fate::NoPacking => &mut tally.no_packing,
             Fate::Refused => &mut tally.refused,
@@ -275,5 +289,5 @@ fn tried(record: &raw::Drive, rng: &mut Rng, tally: &mut Tally) -> Result<(), St
             Fate::Unsettled => &mut tally.unsettled,
         } += 1;
     }
-    Ok(())
+    Ok(tried.refused)
 }

@@ -260,68 +260,137 @@ pub enum Fate {
     Refused,
     /// Refused with another code.
     OtherCode,
-    /// Taken, and what came of it is the same on both.
+    /// Taken, and what came of it is the same on all.
     Taken,
     /// Taken where document 01 does not say what comes of it.
     Unsettled,
 }
 
+impl Fate {
+    /// True if code 1 was answered.
+    pub fn is_code_1(self) -> bool {
+        matches!(self, Fate::NoPacking | Fate::Refused)
+    }
+}
+
 /// Makes one call on a record that no call returned, and says what is not as it
 /// must be.
 pub fn damaged(record: &raw::Drive, lent: &[u8], call: &Call) -> Result<Fate, String> {
-    let before = Drive::from(*record);
-    let mut drive = before.clone();
-    let mut buffer = Lent::new(lent, lent.len());
-    let answer = on_library(&mut drive, buffer.bytes_mut(), call);
-    if !buffer.margins_stay() {
-        return Err(String::from("bytes around the buffer were changed"));
+    let left = Left::by_library(record, lent, call)?;
+    let packed = record_of(record);
+    if packed.is_none() && *call != Call::Start {
+        return match left.answer {
+            Answer::Refused(Code::Record) => Ok(Fate::NoPacking),
+            answer => Err(format!("no packing, and answered {answer:?}")),
+        };
     }
-    let unchanged = drive == before && buffer.bytes() == lent;
-    let refused = matches!(answer, Answer::Refused(_));
-    if refused && !unchanged {
-        return Err(format!("refused with {answer:?}, and changed"));
+    // Start takes any numbers; the others begin there with a new record.
+    let numbers = match packed {
+        Some(_) => record,
+        None => &raw::Drive::NEW,
+    };
+    let sure = settled(record, call);
+    let reference = Left::by_reference(packed.unwrap_or_default(), lent, call);
+    left.agrees(&reference, "reference", sure)?;
+    let baseline = Left::by_baseline(numbers, lent, call);
+    left.agrees(&baseline, "baseline", sure)?;
+    left.fate(sure)
+}
+
+/// What a call left behind.
+struct Left {
+    answer: Answer,
+    /// The record, if its numbers are the packing of one.
+    record: Option<other::Record>,
+    lent: Vec<u8>,
+}
+
+impl Left {
+    /// Calls the library. A refusal must leave everything.
+    fn by_library(record: &raw::Drive, lent: &[u8], call: &Call) -> Result<Left, String> {
+        let before = Drive::from(*record);
+        let mut drive = before.clone();
+        let mut buffer = Lent::new(lent, lent.len());
+        let answer = on_library(&mut drive, buffer.bytes_mut(), call);
+        if !buffer.margins_stay() {
+            return Err(String::from("bytes around the buffer were changed"));
+        }
+        let unchanged = drive == before && buffer.bytes() == lent;
+        if matches!(answer, Answer::Refused(_)) && !unchanged {
+            return Err(format!("refused with {answer:?}, and changed"));
+        }
+        Ok(Left {
+            answer,
+            record: record_of(drive.record()),
+            lent: buffer.bytes().to_vec(),
+        })
     }
 
-    let mut other_buffer: Vec<u8> = lent.to_vec();
-    let packed = record_of(record);
-    let (wanted, next) = match packed {
-        None if *call != Call::Start => (Answer::Refused(Code::Record), None),
-        packed => {
-            let mut other = packed.unwrap_or_default();
-            let answer = on_reference(&mut other, &mut other_buffer, call);
-            (told(answer), Some(other))
+    fn by_reference(mut record: other::Record, lent: &[u8], call: &Call) -> Left {
+        let mut lent = lent.to_vec();
+        let answer = told(on_reference(&mut record, &mut lent, call));
+        let record = Some(record);
+        Left {
+            answer,
+            record,
+            lent,
         }
-    };
-    let Some(next) = next else {
-        return match answer == wanted {
-            true => Ok(Fate::NoPacking),
-            false => Err(format!("no packing, and answered {answer:?}")),
-        };
-    };
-    let wanted_refused = matches!(wanted, Answer::Refused(_));
-    let sure = settled(record, call);
-    if refused || wanted_refused || sure {
+    }
+
+    fn by_baseline(numbers: &raw::Drive, lent: &[u8], call: &Call) -> Left {
+        let mut lent = lent.to_vec();
+        let mut drive = baseline::Drive::unpacked(numbers);
+        let answer = on_baseline(&mut drive, &mut lent, call);
+        let record = record_of(&drive.packed());
+        Left {
+            answer,
+            record,
+            lent,
+        }
+    }
+
+    fn refused(&self) -> bool {
+        matches!(self.answer, Answer::Refused(_))
+    }
+
+    /// Says in what another implementation differs. Where document 01 is silent
+    /// they agree if both take the call.
+    fn agrees(&self, other: &Left, name: &str, sure: bool) -> Result<(), String> {
+        if !sure && !self.refused() && !other.refused() {
+            return Ok(());
+        }
+        let (answer, wanted) = (self.answer, other.answer);
         if answer != wanted {
             return Err(format!(
-                "the library answers {answer:?}, the reference {wanted:?}"
+                "the library answers {answer:?}, the {name} {wanted:?}"
             ));
         }
-        if buffer.bytes() != other_buffer {
-            return Err(String::from("the buffers differ"));
+        if self.lent != other.lent {
+            return Err(format!("the buffer is not that of the {name}"));
+        }
+        match (&self.record, &other.record) {
+            (Some(left), Some(wanted)) if alike(left, wanted) => Ok(()),
+            // A refused start left numbers that are no packing.
+            (None, _) if self.refused() => Ok(()),
+            (left, wanted) => Err(format!(
+                "the record is {left:?}\nand that of the {name} {wanted:?}"
+            )),
         }
     }
-    if answer == Answer::Refused(Code::Record) {
-        return Ok(Fate::Refused);
-    }
-    if refused {
-        return Ok(Fate::OtherCode);
-    }
-    match record_of(drive.record()) {
-        None => Err(String::from("the record left is no packing")),
-        Some(left) if !left.valid() => Err(format!("a record is left that is refused: {left:?}")),
-        Some(_) if !sure => Ok(Fate::Unsettled),
-        Some(left) if alike(&left, &next) => Ok(Fate::Taken),
-        Some(left) => Err(format!("the records differ: {left:?}\nand {next:?}")),
+
+    /// Says how the call went. One that is taken leaves a record that code 1 lets
+    /// pass.
+    fn fate(&self, sure: bool) -> Result<Fate, String> {
+        match (self.answer, &self.record) {
+            (Answer::Refused(Code::Record), _) => Ok(Fate::Refused),
+            (Answer::Refused(_), _) => Ok(Fate::OtherCode),
+            (_, None) => Err(String::from("the record left is no packing")),
+            (_, Some(left)) if !left.valid() => {
+                Err(format!("a record is left that is refused: {left:?}"))
+            }
+            _ if sure => Ok(Fate::Taken),
+            _ => Ok(Fate::Unsettled),
+        }
     }
 }
 

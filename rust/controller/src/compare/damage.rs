@@ -225,7 +225,7 @@ const COUNTS: [fn(&mut raw::Drive) -> &mut usize; 4] = [
 /// changed: a byte to each of its values, another number to each one near a bound.
 pub fn sweep() -> Vec<raw::Drive> {
     let mut records = Vec::new();
-    for sound in (0..10).flat_map(specimens).chain([health_read()]) {
+    for sound in sound_ones().into_iter().chain([health_read()]) {
         let mut with = |change: &dyn Fn(&mut raw::Drive)| {
             let mut drive = sound;
             change(&mut drive);
@@ -257,6 +257,14 @@ pub fn sweep() -> Vec<raw::Drive> {
         }
     }
     records
+}
+
+/// Sound records in every phase, with some entries in both lists.
+pub fn sound_ones() -> Vec<raw::Drive> {
+    let [_, mut further_read] = specimens(kind::READ);
+    further_read.stage.left = 0;
+    let kinds = kind::IDLE..=kind::ATTEMPT_READ;
+    kinds.flat_map(specimens).chain([further_read]).collect()
 }
 
 /// At offer 02 of a read of FFFFFD, which shows counts and flags.
