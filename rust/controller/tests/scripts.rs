@@ -93,5 +93,5 @@ fn stored_scripts() {
             count += 1;
         }
     }
-    assert!(count >= 58, "only {count} scripts were found");
+    assert_eq!(count, reference::scripts::all().len(), "stored scripts");
 }

@@ -4,7 +4,10 @@ use std::fs;
 use std::io;
 use std::path::Path;
 
-use crate::{damaged, images, script, scripts};
+use crate::{images, script, scripts};
+
+/// The folder of the stored scripts.
+const SCRIPTS: &str = "tests/scripts";
 
 /// A file below the root, and what it should hold.
 #[derive(Clone, Debug, PartialEq, Eq)]
@@ -25,7 +28,6 @@ impl Fixture {
 /// All files.
 pub fn all() -> Vec<Fixture> {
     let mut fixtures = of_images();
-    fixtures.push(of_damaged());
     fixtures.extend(of_scripts());
     fixtures
 }
@@ -40,16 +42,11 @@ pub fn of_images() -> Vec<Fixture> {
     ]
 }
 
-/// What the calls do with damaged records.
-pub fn of_damaged() -> Fixture {
-    Fixture::new("crates/damaged/stdout", damaged::transcript())
-}
-
 /// The stored scripts, each with its transcript.
 pub fn of_scripts() -> Vec<Fixture> {
     let mut fixtures = vec![];
     for stored in scripts::all() {
-        let path = format!("tests/scripts/{}", stored.name);
+        let path = format!("{SCRIPTS}/{}", stored.name);
         let transcript = script::transcript(&stored.text);
         fixtures.push(Fixture::new(format!("{path}.script"), stored.text));
         fixtures.push(Fixture::new(format!("{path}.expected"), transcript));
@@ -75,16 +72,34 @@ pub fn regenerate(root: &Path) -> io::Result<()> {
 
 /// What is not current below the root, a message for each file.
 pub fn stale(root: &Path) -> Vec<String> {
-    all()
-        .iter()
-        .filter_map(|fixture| {
-            let path = root.join(&fixture.path);
-            let fault = match fs::read(&path) {
-                Ok(found) => difference(&found, fixture.contents.as_bytes())?,
-                Err(error) => format!("cannot be read: {error}"),
-            };
-            Some(format!("{}: {fault}", path.display()))
-        })
+    let fixtures = all();
+    let stale = fixtures.iter().filter_map(|fixture| {
+        let path = root.join(&fixture.path);
+        let fault = match fs::read(&path) {
+            Ok(found) => difference(&found, fixture.contents.as_bytes())?,
+            Err(error) => format!("cannot be read: {error}"),
+        };
+        Some(format!("{}: {fault}", path.display()))
+    });
+    stale.chain(strays(root, &fixtures)).collect()
+}
+
+/// Files in the folder of the stored scripts that are not made from here.
+fn strays(root: &Path, fixtures: &[Fixture]) -> Vec<String> {
+    let mut paths = match paths_in(root, SCRIPTS) {
+        Ok(paths) => paths,
+        Err(error) => return vec![format!("{SCRIPTS}: cannot be read: {error}")],
+    };
+    paths.retain(|path| fixtures.iter().all(|fixture| fixture.path != *path));
+    paths.sort();
+    let said = |path| format!("{path}: is not made from here");
+    paths.into_iter().map(said).collect()
+}
+
+/// The files of a folder below the root, as fixtures have them.
+fn paths_in(root: &Path, folder: &str) -> io::Result<Vec<String>> {
+    fs::read_dir(root.join(folder))?
+        .map(|file| Ok(format!("{folder}/{}", file?.file_name().display())))
         .collect()
 }
 
@@ -163,11 +178,32 @@ mod tests {
     }
 
     #[test]
+    fn what_is_not_current_is_named() {
+        let root = std::env::temp_dir().join(format!("reference-fixtures-{}", std::process::id()));
+        fs::create_dir_all(&root).expect("a folder");
+        regenerate(&root).expect("written");
+        assert_eq!(stale(&root), [""; 0]);
+        let file = |name: &str| root.join(SCRIPTS).join(name);
+        fs::write(file("week.script"), "start\n").expect("written");
+        fs::remove_file(file("clean.expected")).expect("removed");
+        fs::write(file("weak.script"), "start\n").expect("written");
+        let stale = stale(&root);
+        assert_eq!(stale.len(), 3, "{stale:?}");
+        for (said, part) in stale.iter().zip([
+            "clean.expected: cannot be read",
+            "week.script: not current",
+            "tests/scripts/weak.script: is not made from here",
+        ]) {
+            assert!(said.contains(part), "{said}");
+        }
+        fs::remove_dir_all(root).expect("removed");
+    }
+
+    #[test]
     fn names_are_known() {
         let paths: Vec<String> = all().into_iter().map(|fixture| fixture.path).collect();
         assert_eq!(paths[..2], ["crates/images/stdin", "crates/images/stdout"]);
-        assert_eq!(paths[2], "crates/damaged/stdout");
-        for (pair, stored) in paths[3..].chunks(2).zip(scripts::all()) {
+        for (pair, stored) in paths[2..].chunks(2).zip(scripts::all()) {
             let path = format!("tests/scripts/{}", stored.name);
             assert_eq!(pair, [format!("{path}.script"), format!("{path}.expected")]);
         }

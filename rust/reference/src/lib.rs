@@ -4,13 +4,12 @@
 //! It makes inputs for test programs and says what output is expected.
 //! `geometry`, `image` and `controller` are the rules of the document, `ledger`
 //! is its ledger; `rng`, `text`, `coverage`, `drive`, `script` and `surface` are
-//! tools; `images`, `scripts` and `damaged` make the cases; `fixtures` knows the
-//! files they go to; `compare` runs scripts on another program.
+//! tools; `images` and `scripts` make the cases; `fixtures` knows the files they go
+//! to; `compare` runs scripts on another program.
 
 pub mod compare;
 pub mod controller;
 pub mod coverage;
-pub mod damaged;
 pub mod drive;
 pub mod fixtures;
 pub mod geometry;

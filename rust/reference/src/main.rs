@@ -7,7 +7,7 @@ use std::path::Path;
 use std::process::ExitCode;
 
 use reference::compare::{self, Plan, Verdict};
-use reference::{coverage, damaged, fixtures, images, script, scripts};
+use reference::{coverage, fixtures, images, script, scripts};
 
 const USAGE: &str = "\
 usage: reference images-input              print the input of image cases
@@ -17,7 +17,6 @@ usage: reference images-input              print the input of image cases
        reference script-run                read a call script, print the transcript
        reference random-script SEED CALLS  print a random script of about so many calls
        reference coverage                  say what the stored scripts meet
-       reference damaged                   print what the calls do with damaged records
        reference compare PROGRAM SEEDS CALLS [FIRST]
                                            run random scripts on a program, which is a
                                            command and its arguments in one word, and
@@ -56,7 +55,6 @@ fn run(arguments: &[OsString]) -> Option<io::Result<ExitCode>> {
             print(&scripts::random(seed, calls))
         }
         (&"coverage", []) => print(&scripts::coverage_report()),
-        (&"damaged", []) => print(&damaged::transcript()),
         (&"compare", [program, seeds, calls, first @ ..]) => {
             let first = match first {
                 [] => 1,

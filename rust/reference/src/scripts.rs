@@ -56,7 +56,6 @@ pub fn all() -> Vec<Stored> {
         settle::all(),
         refusals::all(),
         week::all(),
-        host::all(),
         errors::all(),
     ]
     .concat()

@@ -3,10 +3,9 @@
 
 mod temper;
 
-use temper::{Temper, EVEN};
+use temper::Temper;
 
 use super::bench::{Bench, Tally};
-use super::Stored;
 use crate::controller::{Answer, Awaited, Offer, Phase, Stage, BUFFER, GO_ON};
 use crate::drive::Call;
 use crate::geometry::{BLOCKS, TABLE};
@@ -17,30 +16,15 @@ use crate::script::{show, Line};
 use crate::surface::{plain_bytes, Mood, Policy};
 use crate::text::show_bytes_varied;
 
-pub fn all() -> Vec<Stored> {
-    let stored = |name, seed, lies| {
-        let (text, tally) = simulate(seed, 150, lies, &EVEN);
-        Stored { name, text, tally }
-    };
-    vec![
-        stored("random-1", 11, Lies::Never),
-        stored("random-2", 12, Lies::Never),
-        stored("random-lies", 13, Lies::Always),
-    ]
-}
+/// After how many of four starts the surface breaks its rules.
+type Lies = u32;
 
-/// Whether the surface breaks its rules.
-#[derive(Clone, Copy, Debug, PartialEq, Eq)]
-enum Lies {
-    Never,
-    /// After some starts.
-    Sometimes,
-    Always,
-}
+/// What random scripts have.
+const SOMETIMES: Lies = 1;
 
 /// A random script of about so many calls, in the temper of its seed.
 pub fn random(seed: u64, calls: usize) -> String {
-    let (text, _) = simulate(seed, calls, Lies::Sometimes, Temper::of(seed));
+    let (text, _) = simulate(seed, calls, SOMETIMES, Temper::of(seed));
     text
 }
 
@@ -267,11 +251,7 @@ impl Host {
                 self.bench.sectors.hold(TABLE, &bytes);
             }
         }
-        self.policy.lies = match self.lies {
-            Lies::Never => false,
-            Lies::Sometimes => self.rng.one_in(4),
-            Lies::Always => true,
-        };
+        self.policy.lies = self.rng.below(4) < self.lies;
         self.longest = false;
         self.policy.mood = Mood::Calm;
         if self.rng.one_in(self.temper.bad_start) {

@@ -1,10 +1,13 @@
 //! Random scripts against the ledger.
 
-use super::temper::{FAILING, HOSTILE, PATIENT, WORN};
+use super::temper::{EVEN, FAILING, HOSTILE, PATIENT, WORN};
 use super::*;
 use crate::coverage;
 use crate::script;
 use crate::scripts::bench::MOST_ACCESSES;
+
+const NEVER: Lies = 0;
+const ALWAYS: Lies = 4;
 
 /// What random runs over some seeds add up to.
 fn together(seeds: std::ops::Range<u64>, calls: usize, lies: Lies) -> Tally {
@@ -24,7 +27,7 @@ fn together(seeds: std::ops::Range<u64>, calls: usize, lies: Lies) -> Tally {
 #[test]
 fn the_ledger_allows_every_list_of_a_surface_that_keeps_its_rules() {
     // The bench itself fails when a list is not allowed.
-    let tally = together(100..106, 3000, Lies::Never);
+    let tally = together(100..106, 3000, NEVER);
     assert!(tally.calls >= 18_000, "{tally:?}");
     assert!(tally.listed_calls > 15_000, "{tally:?}");
     assert!(tally.good_reads > 200, "{tally:?}");
@@ -35,14 +38,14 @@ fn the_ledger_allows_every_list_of_a_surface_that_keeps_its_rules() {
 #[test]
 #[ignore = "takes a minute"]
 fn the_ledger_allows_many_more_lists() {
-    let tally = together(1000..1200, 20_000, Lies::Never);
+    let tally = together(1000..1200, 20_000, NEVER);
     println!("{tally:?}");
     assert_eq!(tally.other_lists, 0, "{tally:?}");
 }
 
 #[test]
 fn the_ledger_finds_lies() {
-    let tally = together(200..204, 2000, Lies::Always);
+    let tally = together(200..204, 2000, ALWAYS);
     assert!(tally.other_lists > 20, "{tally:?}");
     assert!(tally.disallowed > 10, "{tally:?}");
 }
@@ -64,7 +67,7 @@ fn random_scripts_are_scripts() {
 fn random_scripts_reach_most_names() {
     coverage::clear();
     for seed in 300..303 {
-        simulate(seed, 3000, Lies::Sometimes, &EVEN);
+        simulate(seed, 3000, SOMETIMES, &EVEN);
     }
     assert_eq!(coverage::strangers(), [""; 0]);
     // Refusals have very many names, so only the others are counted.
@@ -81,7 +84,7 @@ fn random_scripts_reach_most_names() {
 fn random_scripts_read_and_write_the_health_block() {
     coverage::clear();
     for temper in temper::ALL {
-        simulate(500, 4000, Lies::Sometimes, temper);
+        simulate(500, 4000, SOMETIMES, temper);
     }
     // Its rarer states are for longer runs.
     for (name, least) in [
@@ -97,7 +100,7 @@ fn random_scripts_read_and_write_the_health_block() {
 /// How often a name was met in a script of this temper, and its tally.
 fn tempered(temper: &'static Temper, name: &str) -> (u64, Tally) {
     coverage::clear();
-    let (_, tally) = simulate(400, 4000, Lies::Never, temper);
+    let (_, tally) = simulate(400, 4000, NEVER, temper);
     (coverage::count(name), tally)
 }
 
@@ -123,7 +126,7 @@ fn tempers_differ() {
 
 #[test]
 fn a_worn_drive_makes_the_longest_read() {
-    let (_, tally) = simulate(401, 10_000, Lies::Never, &WORN);
+    let (_, tally) = simulate(401, 10_000, NEVER, &WORN);
     assert_eq!(tally.most_accesses, MOST_ACCESSES);
 }
 
