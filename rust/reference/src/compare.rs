@@ -3,20 +3,37 @@
 
 use std::fmt;
 use std::io::{self, BufRead, BufReader, Write};
+use std::num::{NonZeroU64, NonZeroUsize};
 use std::process::{Child, Command, Stdio};
 use std::sync::mpsc::{self, Receiver};
 use std::thread;
 
 use crate::{script, scripts, text};
 
-/// Which random scripts are run.
+/// Which random scripts are run. With none there is nothing to agree on.
 #[derive(Clone, Copy, Debug, PartialEq, Eq)]
 pub struct Plan {
     /// So many seeds, from the first on.
     pub first: u64,
-    pub seeds: u64,
+    pub seeds: NonZeroU64,
     /// About so many calls for each.
-    pub calls: usize,
+    pub calls: NonZeroUsize,
+}
+
+impl Plan {
+    /// Makes the plan of these counts, unless one is 0.
+    pub fn new(first: u64, seeds: u64, calls: usize) -> Option<Plan> {
+        Some(Plan {
+            first,
+            seeds: NonZeroU64::new(seeds)?,
+            calls: NonZeroUsize::new(calls)?,
+        })
+    }
+
+    /// The seeds, one by one.
+    pub fn each_seed(self) -> impl Iterator<Item = u64> {
+        (0..self.seeds.get()).map(move |number| self.first.wrapping_add(number))
+    }
 }
 
 /// What was compared without a difference.
@@ -68,11 +85,13 @@ pub fn compare(program: &[&str], plan: Plan) -> io::Result<Verdict> {
         if let Some(difference) = run(program, &script, &transcript)? {
             return Ok(Verdict::Differ(seed, difference));
         }
-        agreed.calls += transcript.lines().count();
+        let calls = transcript.lines().count();
+        assert!(calls > 0, "the script of seed {seed} has no call");
+        agreed.calls += calls;
         agreed.seeds += 1;
     }
     // They stop early if one cannot be made.
-    assert_eq!(agreed.seeds, plan.seeds, "not all scripts were made");
+    assert_eq!(agreed.seeds, plan.seeds.get(), "not all scripts were made");
     Ok(Verdict::Agreed(agreed))
 }
 
@@ -81,9 +100,8 @@ pub fn compare(program: &[&str], plan: Plan) -> io::Result<Verdict> {
 fn scripts_of(plan: Plan) -> Receiver<(u64, String)> {
     let (sender, scripts) = mpsc::sync_channel(1);
     thread::spawn(move || {
-        for number in 0..plan.seeds {
-            let seed = plan.first.wrapping_add(number);
-            let script = scripts::random(seed, plan.calls);
+        for seed in plan.each_seed() {
+            let script = scripts::random(seed, plan.calls.get());
             if sender.send((seed, script)).is_err() {
                 // There was a difference, and nobody waits for more.
                 return;
@@ -281,23 +299,24 @@ mod tests {
 
     #[test]
     fn seeds_from_the_first_on() {
-        let plan = Plan {
-            first: 7,
-            seeds: 3,
-            calls: 50,
-        };
+        let plan = Plan::new(7, 3, 50).expect("something to compare");
         let made: Vec<(u64, String)> = scripts_of(plan).into_iter().collect();
         let wanted = [7, 8, 9].map(|seed| (seed, scripts::random(seed, 50)));
         assert_eq!(made, wanted);
+        let last = Plan::new(u64::MAX, 2, 1).expect("something to compare");
+        assert_eq!(last.each_seed().collect::<Vec<u64>>(), [u64::MAX, 0]);
+    }
+
+    #[test]
+    fn nothing_to_compare_is_no_plan() {
+        for (seeds, calls) in [(0, 50), (3, 0), (0, 0)] {
+            assert_eq!(Plan::new(7, seeds, calls), None);
+        }
     }
 
     #[test]
     fn a_difference_in_words() {
-        let plan = Plan {
-            first: 7,
-            seeds: 2,
-            calls: 50,
-        };
+        let plan = Plan::new(7, 2, 50).expect("something to compare");
         // The first line of a transcript is no line of a script.
         let Verdict::Differ(7, difference) = compare(&["cat"], plan).expect("cat runs") else {
             panic!("a script is no transcript");

@@ -20,7 +20,8 @@ usage: reference images-input              print the input of image cases
        reference compare PROGRAM SEEDS CALLS [FIRST]
                                            run random scripts on a program, which is a
                                            command and its arguments in one word, and
-                                           compare its transcripts with those made here
+                                           compare its transcripts with those made here;
+                                           SEEDS and CALLS are at least 1
        reference regenerate ROOT           write the kept files below ROOT
        reference check ROOT                say whether the kept files are current
 ";
@@ -61,10 +62,11 @@ fn run(arguments: &[OsString]) -> Option<io::Result<ExitCode>> {
                 [first] => (*first)?.parse().ok()?,
                 _ => return None,
             };
-            let plan = Plan {
-                first,
-                seeds: (*seeds)?.parse().ok()?,
-                calls: (*calls)?.parse().ok()?,
+            let seeds = (*seeds)?.parse().ok()?;
+            let calls = (*calls)?.parse().ok()?;
+            let Some(plan) = Plan::new(first, seeds, calls) else {
+                eprintln!("reference: with 0 seeds or 0 calls nothing is compared");
+                return None;
             };
             return Some(compare((*program)?, plan));
         }

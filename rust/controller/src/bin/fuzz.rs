@@ -9,6 +9,7 @@ use controller::compare::beside::{Beside, Fate, MOST_LENT};
 use controller::compare::trial::{self, length};
 use controller::compare::{bounds, clauses, damage};
 use controller::raw;
+use reference::compare::Plan;
 use reference::controller::{Awaited, Offer, Phase};
 use reference::coverage;
 use reference::drive::Call;
@@ -19,7 +20,8 @@ use reference::{scripts, text};
 
 const USAGE: &str = "\
 usage: fuzz SEEDS CALLS [FIRST]   a list of about so many calls for each seed, with
-                                  short lists that leave it and damaged records
+                                  short lists that leave it and damaged records;
+                                  SEEDS and CALLS are at least 1
 ";
 
 fn main() -> ExitCode {
@@ -40,16 +42,7 @@ fn main() -> ExitCode {
     }
 }
 
-/// Which lists are made.
-struct Plan {
-    /// So many seeds, from the first on.
-    first: u64,
-    seeds: u64,
-    /// About so many calls for each.
-    calls: usize,
-}
-
-/// The plan of the arguments.
+/// The plan of the arguments: for each of its seeds a list is made.
 fn plan() -> Option<Plan> {
     let words = env::args().skip(1);
     let numbers: Option<Vec<u64>> = words.map(|word| word.parse().ok()).collect();
@@ -58,11 +51,11 @@ fn plan() -> Option<Plan> {
         [seeds, calls, first] => (seeds, calls, first),
         _ => return None,
     };
-    Some(Plan {
-        first,
-        seeds,
-        calls: calls.try_into().ok()?,
-    })
+    let plan = Plan::new(first, seeds, calls.try_into().ok()?);
+    if plan.is_none() {
+        eprintln!("fuzz: with 0 seeds or 0 calls no list is compared");
+    }
+    plan
 }
 
 /// Compares all there is. Says how many names of code 1 were met, or the first
@@ -74,9 +67,9 @@ fn compared(plan: &Plan, tally: &mut Tally) -> Result<usize, String> {
         tried(&record, &mut rng, tally)
             .map_err(|difference| format!("a record with one field changed: {difference}"))?;
     }
-    for number in 0..plan.seeds {
-        let seed = plan.first.wrapping_add(number);
-        list(seed, plan.calls, tally).map_err(|difference| format!("seed {seed}: {difference}"))?;
+    for seed in plan.each_seed() {
+        list(seed, plan.calls.get(), tally)
+            .map_err(|difference| format!("seed {seed}: {difference}"))?;
     }
     Ok(sides)
 }
@@ -155,6 +148,10 @@ impl Tally {
 fn list(seed: u64, calls: usize, tally: &mut Tally) -> Result<(), String> {
     let mut rng = Rng::new(seed ^ 0xB0A2_D000_0000_0000);
     let text = scripts::random(seed, calls);
+    let made = text::lines(text.as_bytes()).count();
+    if made < calls {
+        return Err(format!("a list of {made} calls in place of {calls}"));
+    }
     let mut beside = Beside::new();
     for (number, said) in text::lines(text.as_bytes()) {
         let place = |what: &str, said: String| format!("{what} at line {number}: {said}");
