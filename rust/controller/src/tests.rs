@@ -1,10 +1,28 @@
 //! The library through its safe API, by hand.
 
+use std::path::{Path, PathBuf};
 use std::vec;
 use std::vec::Vec;
+use std::{env, fs};
 
 use crate::raw::{self, kind};
 use crate::{surface, Answer, Code, Drive, Offer, Sector, BUFFER, GO_ON, SECTOR_BYTES, TABLE};
+
+/// The archive that was linked.
+const LINKED: &[u8] = include_bytes!(concat!(env!("OUT_DIR"), "/libbumivondra.a"));
+
+#[test]
+fn the_linked_library_is_the_one_in_place() {
+    let folder = match env::var_os("BUMIVONDRA_LIB") {
+        Some(folder) => PathBuf::from(folder),
+        None => {
+            let package = env::var_os("CARGO_MANIFEST_DIR").expect("cargo sets it");
+            Path::new(&package).join("../../target/staticlib")
+        }
+    };
+    let library = fs::read(folder.join("libbumivondra.a")).expect("the library");
+    assert!(library == LINKED, "touch the library, and cargo links it");
+}
 
 /// The image of a table with these entries.
 fn image(spares: &[u32], bads: &[u32]) -> Vec<u8> {

@@ -1,8 +1,8 @@
 //! The stored call scripts through the C library: its transcripts are the stored
 //! ones.
 
-use std::fs;
 use std::path::Path;
+use std::{env, fs};
 
 use controller::{Answer, Drive, BUFFER, SECTOR_BYTES};
 use reference::drive::Call;
@@ -81,7 +81,8 @@ fn transcript(script: &[u8]) -> String {
 
 #[test]
 fn stored_scripts() {
-    let folder = Path::new(env!("CARGO_MANIFEST_DIR")).join("../../tests/scripts");
+    let package = env::var_os("CARGO_MANIFEST_DIR").expect("cargo sets it");
+    let folder = Path::new(&package).join("../../tests/scripts");
     let mut count = 0;
     for entry in fs::read_dir(&folder).expect("the stored scripts") {
         let path = entry.expect("a file").path();

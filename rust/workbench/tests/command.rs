@@ -6,13 +6,13 @@ use std::fs;
 use std::path::Path;
 use std::process::Command;
 
-use common::{ended, folder};
-
-const PROGRAM: &str = env!("CARGO_BIN_EXE_workbench");
+use common::{ended, folder, program, root};
 
 /// Runs the command in a folder. Says its exit status, its output and its messages.
 fn workbench(folder: &Path, arguments: &[&str], input: &str) -> (i32, String, String) {
-    let output = ended(Command::new(PROGRAM).args(arguments), folder, input);
+    let mut command = Command::new(program());
+    command.args(arguments).env("WORKBENCH_ROOT", root());
+    let output = ended(&mut command, folder, input);
     let text = |bytes| String::from_utf8(bytes).expect("text");
     let status = output.status.code().expect("a status");
     (status, text(output.stdout), text(output.stderr))

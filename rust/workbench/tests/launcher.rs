@@ -10,10 +10,7 @@ use std::path::{Path, PathBuf};
 use std::process::Command;
 use std::time::{Duration, Instant, SystemTime};
 
-use common::{ended, folder};
-
-/// The checkout that is tested.
-const ROOT: &str = concat!(env!("CARGO_MANIFEST_DIR"), "/../..");
+use common::{ended, folder, root};
 
 /// Copies a folder, without what was built and without version control's own.
 fn copy(from: &Path, to: &Path) {
@@ -54,7 +51,7 @@ impl Checkout {
     /// Makes a copy whose prover this stands in for.
     fn new(name: &str, prover: &str) -> Checkout {
         let room = folder(name).canonicalize().expect("a folder");
-        copy(Path::new(ROOT), &room.join("checkout"));
+        copy(&root(), &room.join("checkout"));
         fs::create_dir(room.join("path")).expect("a folder");
         fs::write(room.join("kit"), "kit 1\n").expect("written");
         let checkout = Checkout { room };
@@ -244,7 +241,7 @@ fn another_kit_or_library_is_proved(checkout: &Checkout) {
 fn other_edits_cost_no_proof(checkout: &Checkout) {
     for name in [
         "crates/geometry/must-fail/block_9728.edit",
-        "crates/trials/src/lib.rt",
+        "crates/replay/src/main.rt",
         "rust/workbench/src/lib.rs",
         "README.md",
     ] {

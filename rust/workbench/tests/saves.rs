@@ -13,13 +13,11 @@ use std::process::{Child, Command, Output, Stdio};
 use std::thread;
 use std::time::{Duration, Instant};
 
-use common::{ended, folder};
+use common::{ended, folder, program};
 use reference::geometry::Sector;
 use reference::rng::Rng;
 use workbench::data::{Blocks, Data};
 use workbench::platter::{Platter, LENGTH};
-
-const PROGRAM: &str = env!("CARGO_BIN_EXE_workbench");
 
 /// Writes blocks 17 and 18, and leaves sector 17 unreadable.
 const OLD: &str = "fault sector 17 writes all unreadable\nstart\nwrite 17..18 \"old\"\n";
@@ -65,7 +63,7 @@ fn play(command: &mut Command, here: &Path, plan: &str) -> Output {
 /// Makes a folder with the old platter.
 fn with_old(name: &str) -> PathBuf {
     let here = folder(name);
-    let output = play(&mut Command::new(PROGRAM), &here, OLD);
+    let output = play(&mut Command::new(program()), &here, OLD);
     assert!(output.status.success());
     assert_eq!(loaded(&here), state("old", &[17]));
     here
@@ -82,7 +80,7 @@ fn refused(output: &Output, reason: &str) {
 
 /// Checks that the new platter is saved now that nothing hinders it.
 fn goes_well(here: &Path) {
-    let output = play(&mut Command::new(PROGRAM), here, NEW);
+    let output = play(&mut Command::new(program()), here, NEW);
     assert!(output.status.success());
     assert_eq!(loaded(here), state("new", &[18]));
     assert_eq!(files(here).len(), 2);
@@ -95,7 +93,7 @@ fn a_folder_in_the_way() {
         let here = with_old(name);
         let before = files(&here);
         fs::create_dir(here.join(name)).expect("a folder");
-        let output = play(&mut Command::new(PROGRAM), &here, NEW);
+        let output = play(&mut Command::new(program()), &here, NEW);
         refused(&output, &format!("{name}: Is a directory"));
         fs::remove_dir(here.join(name)).expect("removed");
         assert!(files(&here) == before, "{name}");
@@ -110,7 +108,7 @@ fn a_full_disk() {
         let here = with_old(&format!("full-{name}"));
         let before = files(&here);
         symlink("/dev/full", here.join(name)).expect("a link");
-        let output = play(&mut Command::new(PROGRAM), &here, NEW);
+        let output = play(&mut Command::new(program()), &here, NEW);
         refused(&output, &format!("{name}: No space left on device"));
         assert!(files(&here) == before, "{name}");
         goes_well(&here);
@@ -138,14 +136,14 @@ fn a_read_only_folder() {
 fn without_rights(read_only: &Path, room: &Path) -> Command {
     let probe = read_only.join("probe");
     if fs::write(&probe, "").is_err() {
-        return Command::new(PROGRAM);
+        return Command::new(program());
     }
     fs::remove_file(&probe).expect("removed");
-    let program = room.join("workbench");
+    let other = room.join("workbench");
     // A file that this process had written itself could still be busy in another child.
-    let copied = Command::new("cp").arg(PROGRAM).arg(&program).status();
+    let copied = Command::new("cp").arg(program()).arg(&other).status();
     assert!(copied.expect("a copy").success());
-    let mut command = Command::new(program);
+    let mut command = Command::new(other);
     command.uid(65534).gid(65534);
     command
 }
@@ -155,7 +153,7 @@ fn without_rights(read_only: &Path, room: &Path) -> Command {
 fn limited(before: &str) -> Command {
     let mut command = Command::new("sh");
     let line = format!("{before} ulimit -c 0; ulimit -f 4000; exec \"$0\" \"$@\"");
-    command.args(["-c", &line, PROGRAM]);
+    command.args(["-c", &line]).arg(program());
     command
 }
 
@@ -244,7 +242,7 @@ fn a_killed_run_leaves_the_last_save_or_the_next() {
     let mut before = loaded(&here);
     for run in 0..RUNS {
         fs::write(here.join("my.plan"), saves(run)).expect("written");
-        let child = Command::new(PROGRAM)
+        let child = Command::new(program())
             .args(["run", "--platter", "p", "my.plan"])
             .current_dir(&here)
             .stdout(Stdio::piped())

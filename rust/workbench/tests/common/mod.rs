@@ -5,6 +5,23 @@ use std::io::Write;
 use std::path::{Path, PathBuf};
 use std::process::{Command, Output, Stdio};
 
+/// Finds what cargo says of this package while it runs the tests. What it said at the build
+/// would lead a copied checkout back to the first one.
+fn from_cargo(name: &str) -> PathBuf {
+    PathBuf::from(std::env::var_os(name).expect("cargo sets it"))
+}
+
+/// Finds the checkout that is tested.
+pub fn root() -> PathBuf {
+    from_cargo("CARGO_MANIFEST_DIR").join("../..")
+}
+
+/// Finds the workbench that is tested.
+#[allow(dead_code)] // the script's tests run the script
+pub fn program() -> PathBuf {
+    from_cargo("CARGO_BIN_EXE_workbench")
+}
+
 /// Makes an empty folder for one test.
 pub fn folder(name: &str) -> PathBuf {
     let folder = std::env::temp_dir().join(format!("workbench-{}-{name}", std::process::id()));

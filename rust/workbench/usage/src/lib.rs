@@ -3,6 +3,7 @@
 //! once.
 
 mod library;
+mod repository;
 mod work;
 
 use std::ffi::OsString;
@@ -33,17 +34,18 @@ pub fn asked(arguments: impl Iterator<Item = OsString>) -> Result<Asked, String>
     match words[..] {
         ["--help" | "-h" | "help"] => Ok(Asked::Answer(String::from(HELP))),
         ["--version"] => Ok(Asked::Answer(version())),
-        _ => work::parse(&words).map(Asked::Work),
+        _ => work::parse(&words, repository::plans().as_deref()).map(Asked::Work),
     }
 }
 
 /// Says the version of the workbench, and the library that it is linked with.
 fn version() -> String {
     let version = env!("CARGO_PKG_VERSION");
-    format!(
-        "workbench {version}\n{}\n",
-        library::name(&library::folder())
-    )
+    let library = match repository::library() {
+        Some(folder) => library::name(&folder),
+        None => format!("library: {} names no folder", repository::ROOT),
+    };
+    format!("workbench {version}\n{library}\n")
 }
 
 /// Writes to standard output.
@@ -83,7 +85,7 @@ mod tests {
         let (first, rest) = version.split_once('\n').expect("two lines");
         assert_eq!(first, concat!("workbench ", env!("CARGO_PKG_VERSION")));
         assert!(
-            rest.starts_with("library ") && rest.ends_with('\n'),
+            rest.starts_with("library") && rest.ends_with('\n'),
             "{rest}"
         );
         assert!(answer(&["--version", "more"]).is_err());

@@ -1,21 +1,8 @@
 //! The library that the workbench is linked with, as its file stands now.
 
-use std::env;
 use std::fs;
 use std::io::ErrorKind::NotFound;
-use std::path::{Path, PathBuf};
-
-/// Finds the folder that the library is linked from: the one that BUMIVONDRA_LIB
-/// names, or else target/staticlib of the repository.
-pub fn folder() -> PathBuf {
-    match env::var_os("BUMIVONDRA_LIB") {
-        Some(folder) => PathBuf::from(folder),
-        None => {
-            let repository = Path::new(env!("CARGO_MANIFEST_DIR")).ancestors().nth(3);
-            repository.expect("three folders").join("target/staticlib")
-        }
-    }
-}
+use std::path::Path;
 
 /// Tells of the library of a folder, with the two numbers of the command cksum.
 pub fn name(folder: &Path) -> String {
@@ -45,6 +32,7 @@ fn cksum(bytes: &[u8]) -> u32 {
 #[cfg(test)]
 mod tests {
     use super::*;
+    use std::env;
 
     #[test]
     fn the_library_is_told_by_its_cksum() {

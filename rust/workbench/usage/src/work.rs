@@ -3,13 +3,8 @@
 use std::fs::{self, File};
 use std::path::{Path, PathBuf};
 
+use crate::repository::ROOT;
 use crate::HELP;
-
-/// The plans of the repository.
-const PLANS: &str = concat!(env!("CARGO_MANIFEST_DIR"), "/../../../plans");
-
-/// The mission's week.
-const WEEK: &str = concat!(env!("CARGO_MANIFEST_DIR"), "/../../../plans/week.plan");
 
 /// Says what is to be done. Files to be read are there, and those that must be new are
 /// not.
@@ -50,11 +45,12 @@ pub struct Plan {
     pub path: PathBuf,
 }
 
-/// Reads the words of a command.
-pub fn parse(words: &[&str]) -> Result<Work, String> {
+/// Reads the words of a command. A plan may be named after its file in the folder of the
+/// repository's plans.
+pub fn parse(words: &[&str], plans: Option<&Path>) -> Result<Work, String> {
     match words {
-        ["run", rest @ ..] => run(rest),
-        ["week", rest @ ..] => run(&[rest, &[WEEK]].concat()),
+        ["run", rest @ ..] => run(rest, plans),
+        ["week", rest @ ..] => run(&[rest, &[&week(plans)?]].concat(), plans),
         ["import", image, platter] => Ok(Work::Import {
             image: readable(image)?,
             platter: new(platter)?,
@@ -66,7 +62,7 @@ pub fn parse(words: &[&str]) -> Result<Work, String> {
             to: PathBuf::from(to),
         }),
         ["timeline", name, to] => Ok(Work::Timeline {
-            plan: plan(name)?,
+            plan: plan(name, plans)?,
             to: PathBuf::from(to),
         }),
         [] => Err(String::from("what is to be done? see --help")),
@@ -77,7 +73,7 @@ pub fn parse(words: &[&str]) -> Result<Work, String> {
     }
 }
 
-fn run(words: &[&str]) -> Result<Work, String> {
+fn run(words: &[&str], plans: Option<&Path>) -> Result<Work, String> {
     let (mut name, mut platter, mut trace) = (None, None, false);
     let mut words = words.iter();
     while let Some(&word) = words.next() {
@@ -95,7 +91,7 @@ fn run(words: &[&str]) -> Result<Work, String> {
         }
     }
     Ok(Work::Run {
-        plan: name.map(plan).transpose()?,
+        plan: name.map(|name| plan(name, plans)).transpose()?,
         platter,
         trace,
     })
@@ -117,17 +113,27 @@ fn help_of(command: &str) -> Option<&str> {
 }
 
 /// Finds the plan in the file of this name, or else the repository's plan of this name.
-fn plan(name: &str) -> Result<Plan, String> {
-    let known = format!("{PLANS}/{name}.plan");
-    let is_file = |path| Path::new(path).is_file();
-    let path = match !is_file(name) && is_file(&known) {
-        true => readable(&known)?,
-        false => readable(name)?,
+fn plan(name: &str, plans: Option<&Path>) -> Result<Plan, String> {
+    let path = match known(name, plans) {
+        Some(known) if !Path::new(name).is_file() => known,
+        _ => readable(name)?,
     };
     Ok(Plan {
         name: name.to_string(),
         path,
     })
+}
+
+/// Finds the repository's plan of this name.
+fn known(name: &str, plans: Option<&Path>) -> Option<PathBuf> {
+    let path = plans?.join(format!("{name}.plan"));
+    path.is_file().then_some(path)
+}
+
+/// Finds the file of the mission's week.
+fn week(plans: Option<&Path>) -> Result<String, String> {
+    let path = known("week", plans).and_then(|path| path.into_os_string().into_string().ok());
+    path.ok_or_else(|| format!("{ROOT} names no folder with plans/week.plan"))
 }
 
 /// Looks whether a file can be read. A pipe is not opened, since it is read only once.
@@ -157,22 +163,28 @@ fn new(name: &str) -> Result<PathBuf, String> {
 mod tests {
     use super::*;
 
-    /// A file that is there, and one that is not.
-    const HERE: &str = concat!(env!("CARGO_MANIFEST_DIR"), "/Cargo.toml");
-    const NOWHERE: &str = concat!(env!("CARGO_MANIFEST_DIR"), "/none");
-    const FOLDER: &str = env!("CARGO_MANIFEST_DIR");
+    /// A file that is there, one that is not, and a folder: cargo runs tests in that of
+    /// the package.
+    const HERE: &str = "./Cargo.toml";
+    const NOWHERE: &str = "./none";
+    const FOLDER: &str = ".";
+    const PLANS: &str = "../../../plans";
+
+    fn asks(words: &[&str]) -> Result<Work, String> {
+        parse(words, Some(Path::new(PLANS)))
+    }
 
     fn fault(words: &[&str]) -> String {
-        parse(words).expect_err("a fault")
+        asks(words).expect_err("a fault")
     }
 
     #[test]
     fn plans_by_file_and_by_name() {
-        let of = |name, path: String| Plan {
+        let of = |name: &str, path: String| Plan {
             name: String::from(name),
             path: PathBuf::from(path),
         };
-        assert_eq!(plan(HERE), Ok(of(HERE, String::from(HERE))));
+        assert_eq!(plan(HERE, None), Ok(of(HERE, String::from(HERE))));
         let latch = of("latch", format!("{PLANS}/latch.plan"));
         let words = ["run", "--platter", "p", "latch", "--trace"];
         let work = Work::Run {
@@ -180,21 +192,32 @@ mod tests {
             platter: Some(PathBuf::from("p")),
             trace: true,
         };
-        assert_eq!(parse(&words), Ok(work));
+        assert_eq!(asks(&words), Ok(work));
         let to = PathBuf::from("o");
         assert_eq!(
-            parse(&["timeline", "latch", "o"]),
+            asks(&["timeline", "latch", "o"]),
             Ok(Work::Timeline { plan: latch, to })
         );
+        let file = format!("{PLANS}/week.plan");
         let week = |trace| Work::Run {
-            plan: Some(of(WEEK, String::from(WEEK))),
+            plan: Some(of(&file, file.clone())),
             platter: None,
             trace,
         };
-        assert_eq!(parse(&["week"]), Ok(week(false)));
-        assert_eq!(parse(&["week", "--trace"]), Ok(week(true)));
+        assert_eq!(asks(&["week"]), Ok(week(false)));
+        assert_eq!(asks(&["week", "--trace"]), Ok(week(true)));
         for words in [&["run", "none"][..], &["timeline", "none", "o"]] {
             assert!(fault(words).starts_with("none cannot be read: "));
+        }
+    }
+
+    #[test]
+    fn without_the_folder_of_plans_there_is_no_week() {
+        let message = "WORKBENCH_ROOT names no folder with plans/week.plan";
+        for plans in [None, Some(Path::new(NOWHERE))] {
+            assert_eq!(parse(&["week"], plans), Err(String::from(message)));
+            let latch = parse(&["run", "latch"], plans).expect_err("no plan");
+            assert!(latch.starts_with("latch cannot be read: "), "{latch}");
         }
     }
 
@@ -205,7 +228,7 @@ mod tests {
             platter: None,
             trace: false,
         };
-        assert_eq!(parse(&["run"]), Ok(work));
+        assert_eq!(asks(&["run"]), Ok(work));
     }
 
     #[test]
@@ -227,7 +250,7 @@ mod tests {
                 image: nowhere.clone(),
                 keep_going,
             };
-            assert_eq!(parse(&[&words[..], &[HERE, NOWHERE]].concat()), Ok(work));
+            assert_eq!(asks(&[&words[..], &[HERE, NOWHERE]].concat()), Ok(work));
             let message = fault(&[&words[..], &[NOWHERE, NOWHERE]].concat());
             assert!(message.contains("/none cannot be read: "), "{message}");
             let message = fault(&[&words[..], &[HERE, HERE]].concat());
@@ -240,7 +263,7 @@ mod tests {
             image: here.clone(),
             platter: nowhere.clone(),
         };
-        assert_eq!(parse(&["import", HERE, NOWHERE]), Ok(work));
+        assert_eq!(asks(&["import", HERE, NOWHERE]), Ok(work));
         assert!(fault(&["import", NOWHERE, NOWHERE]).contains("/none cannot be read: "));
         assert!(fault(&["import", HERE, HERE]).contains(" is there already"));
         assert!(fault(&["import", FOLDER, NOWHERE]).ends_with("it is a folder"));
@@ -248,7 +271,7 @@ mod tests {
             source: here,
             to: nowhere,
         };
-        assert_eq!(parse(&["picture", HERE, NOWHERE]), Ok(work));
+        assert_eq!(asks(&["picture", HERE, NOWHERE]), Ok(work));
         assert!(fault(&["picture", NOWHERE, HERE]).contains("/none cannot be read: "));
     }
 
