@@ -6,6 +6,7 @@
 //! the codes, and the handshake.
 
 mod acting;
+mod near;
 mod record;
 #[cfg(test)]
 mod tests;

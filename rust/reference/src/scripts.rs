@@ -15,6 +15,7 @@ mod short_data;
 mod starts;
 mod stores;
 mod table_read;
+mod verifies;
 mod ways;
 mod week;
 
@@ -53,6 +54,7 @@ pub fn all() -> Vec<Stored> {
         health::all(),
         reads::all(),
         moves::all(),
+        verifies::all(),
         settle::all(),
         refusals::all(),
         week::all(),

@@ -311,6 +311,41 @@ impl Policy {
     }
 }
 
+/// Other bytes that nearly are these: two of them swapped, one of them one more
+/// and another one less, or one alone another.
+pub fn near_miss(rng: &mut Rng, bytes: &[u8]) -> Vec<u8> {
+    let mut near = bytes.to_vec();
+    let (one, other) = (rng.place(bytes.len()), rng.place(bytes.len()));
+    match rng.below(4) {
+        0 => near.swap(one, other),
+        1 => {
+            near[one] = near[one].wrapping_add(1);
+            near[other] = near[other].wrapping_sub(1);
+        }
+        _ => {}
+    }
+    if near == bytes {
+        let place = telling_place(rng, bytes);
+        near[place] = rng.other_byte(near[place]);
+    }
+    near
+}
+
+/// A place that a comparison may fail to look at: one that the stored scripts try,
+/// the first of the zeros at the end, or any.
+fn telling_place(rng: &mut Rng, bytes: &[u8]) -> usize {
+    let last = bytes.len() - 1;
+    let zeros = bytes
+        .iter()
+        .rposition(|&byte| byte != 0)
+        .map_or(0, |at| at + 1);
+    match rng.below(3) {
+        0 => rng.pick(&[0, 265, 300, last]).min(last),
+        1 => zeros.min(last),
+        _ => rng.place(bytes.len()),
+    }
+}
+
 /// Bytes for a sector that are written in few words: up to three runs.
 pub fn plain_bytes(rng: &mut Rng) -> Vec<u8> {
     let mut bytes = vec![rng.byte(); SECTOR_BYTES];
@@ -390,6 +425,36 @@ mod tests {
             assert!(!write(answer, Left::Spoiled));
             assert!(!write(answer, Left::Held(sent.clone())));
         }
+    }
+
+    #[test]
+    fn near_misses_differ_in_little() {
+        let mut rng = Rng::new(13);
+        let sum = |bytes: &[u8]| {
+            bytes
+                .iter()
+                .fold(0, |sum: u8, &byte| sum.wrapping_add(byte))
+        };
+        let (mut ones, mut pairs) = (HashSet::new(), 0);
+        for _ in 0..30_000 {
+            let bytes = plain_bytes(&mut rng);
+            let near = near_miss(&mut rng, &bytes);
+            let places: Vec<usize> = (0..532).filter(|&at| bytes[at] != near[at]).collect();
+            match places[..] {
+                [place] => {
+                    ones.insert(place);
+                }
+                [_, _] => {
+                    assert_eq!(sum(&near), sum(&bytes));
+                    pairs += 1;
+                }
+                _ => panic!("{places:?}"),
+            }
+        }
+        assert_eq!(ones.len(), 532);
+        assert!(pairs > 1000, "{pairs}");
+        // With nothing to swap one byte is another.
+        assert_ne!(near_miss(&mut rng, &[7]), [7]);
     }
 
     /// How many of a thousand outcomes keep the rules.

@@ -16,6 +16,7 @@ use reference::drive::Call;
 use reference::images::draft::Draft;
 use reference::rng::Rng;
 use reference::script::{self, Line};
+use reference::surface::{near_miss, plain_bytes};
 use reference::{scripts, text};
 
 const USAGE: &str = "\
@@ -63,6 +64,7 @@ fn plan() -> Option<Plan> {
 fn compared(plan: &Plan, tally: &mut Tally) -> Result<usize, String> {
     let mut rng = Rng::new(plan.first);
     let sides = code_1(&mut rng, tally)?;
+    tally.verifies = trial::every_place(&mut rng)?;
     for record in damage::sweep() {
         tried(&record, &mut rng, tally)
             .map_err(|difference| format!("a record with one field changed: {difference}"))?;
@@ -101,6 +103,7 @@ struct Tally {
     short_lists: u64,
     short_calls: u64,
     lengths: u64,
+    verifies: u64,
     records: u64,
     no_packing: u64,
     refused: u64,
@@ -115,7 +118,7 @@ impl Tally {
     }
 
     fn calls(&self) -> u64 {
-        self.listed + self.short_calls + self.lengths + self.damaged()
+        self.listed + self.short_calls + self.lengths + self.verifies + self.damaged()
     }
 
     /// Says what agreed; so many names of code 1 were met.
@@ -125,8 +128,13 @@ impl Tally {
         println!("all {sides} names of code 1 were met");
         println!(
             "{} calls of {} lists, {} of {} short lists that leave them, \
-             {} with every length from 0 to {MOST_LENT}",
-            self.listed, plan.seeds, self.short_calls, self.short_lists, self.lengths
+             {} with every length from 0 to {MOST_LENT}, {} verifies with one byte wrong",
+            self.listed,
+            plan.seeds,
+            self.short_calls,
+            self.short_lists,
+            self.lengths,
+            self.verifies
         );
         println!(
             "{} calls on {} damaged records: {} refused as no packing, {} with 1, \
@@ -213,12 +221,13 @@ fn fitting(beside: &Beside, rng: &mut Rng) -> Call {
         (Some(Awaited::Read), Phase::Starting { .. }) if rng.one_in(2) => {
             Call::Surface(0, Draft::of_any_size(rng).bytes())
         }
-        (Some(Awaited::Read), _) => match rng.below(8) {
+        (Some(Awaited::Read), _) => match rng.below(10) {
             0 => Call::Surface(3, vec![]),
             1 => Call::Surface(2, vec![]),
-            // What the data part holds verifies.
+            // What the data part holds verifies, and what it nearly holds does not.
             2 | 3 => Call::Surface(0, beside.buffer()[4..].to_vec()),
-            n => Call::Surface((n % 2) as u8, sector(rng)),
+            4 | 5 => Call::Surface(0, near_miss(rng, &beside.buffer()[4..])),
+            n => Call::Surface((n % 2) as u8, plain_bytes(rng)),
         },
         (Some(Awaited::Write), _) => Call::Surface(rng.pick(&[0, 0, 0, 2, 3]), vec![]),
         (None, Phase::Command) if rng.one_in(2) => command(rng),
@@ -267,10 +276,6 @@ fn any(rng: &mut Rng) -> Call {
         7 => Call::Reset,
         _ => Call::Image,
     }
-}
-
-fn sector(rng: &mut Rng) -> Vec<u8> {
-    reference::surface::plain_bytes(rng)
 }
 
 /// The seven calls on a damaged record; says whether code 1 refused it.

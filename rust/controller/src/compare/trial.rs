@@ -1,4 +1,5 @@
-//! The seven calls on a record that no call returned.
+//! The seven calls on a record that no call returned, and verifies with one byte
+//! wrong.
 
 use std::format;
 use std::string::String;
@@ -8,10 +9,12 @@ use std::vec::Vec;
 use reference::drive::Call;
 use reference::rng::Rng;
 use reference::script::{self, Line};
-use reference::surface::plain_bytes;
+use reference::surface::{near_miss, plain_bytes};
 
 use super::beside::{self, Fate, MOST_LENT};
-use crate::raw;
+use super::damage;
+use crate::raw::{self, kind};
+use crate::{BUFFER, SECTOR_BYTES, STATUS};
 
 /// How the calls went.
 pub struct Tried {
@@ -27,7 +30,7 @@ pub fn all_calls(record: &raw::Drive, rng: &mut Rng) -> Result<Tried, String> {
     let filled = rng.byte();
     let mut fates = Vec::new();
     let mut refused = None;
-    for call in calls(rng) {
+    for call in calls(filled, rng) {
         let length = match rng.one_in(8) {
             true => length(&call, rng),
             false => beside::length_of(&call),
@@ -53,34 +56,53 @@ pub fn all_calls(record: &raw::Drive, rng: &mut Rng) -> Result<Tried, String> {
     Ok(Tried { fates, refused })
 }
 
-/// The seven calls.
-fn calls(rng: &mut Rng) -> [Call; 7] {
+/// The seven calls. What they are lent is full of one byte.
+fn calls(filled: u8, rng: &mut Rng) -> [Call; 7] {
     let fed = rng.pick(&[0, 3, 6, 533]);
     [
         Call::Start,
         Call::Raise,
         Call::Lower(rng.pick(&[0x55, 0x55, 0x55, 0xAA])),
         Call::Feed(vec![rng.byte(); fed]),
-        surface(rng),
+        surface(filled, rng),
         Call::Reset,
         Call::Image,
     ]
 }
 
-fn surface(rng: &mut Rng) -> Call {
-    match rng.below(6) {
+fn surface(filled: u8, rng: &mut Rng) -> Call {
+    let part = [filled; SECTOR_BYTES];
+    match rng.below(9) {
         0 => Call::Surface(rng.byte(), vec![]),
         1 => Call::Surface(rng.below(4) as u8, vec![0; rng.pick(&[0, 531, 532, 533])]),
         2 => Call::Surface(2, vec![]),
         3 => Call::Surface(3, vec![]),
-        n => {
-            let bytes = match rng.one_in(2) {
-                true => plain_bytes(rng),
-                false => vec![],
-            };
-            Call::Surface(n as u8 - 4, bytes)
+        4 => Call::Surface(0, vec![]),
+        // The data part verifies, and what it nearly is does not.
+        5 => Call::Surface(0, part.to_vec()),
+        6 => Call::Surface(0, near_miss(rng, &part)),
+        n => Call::Surface(n as u8 - 7, plain_bytes(rng)),
+    }
+}
+
+/// Answers verifies with bytes that differ from the data part in one place alone,
+/// in every place, and says what is not as it must be. Gives the number of calls.
+pub fn every_place(rng: &mut Rng) -> Result<u64, String> {
+    let mut calls = 0;
+    let mut verifies = damage::sound_ones();
+    verifies.retain(|record| record.stage.kind == kind::ATTEMPT_READ);
+    for place in 0..SECTOR_BYTES {
+        for record in &verifies {
+            let lent: Vec<u8> = (0..BUFFER).map(|_| rng.byte()).collect();
+            let mut bytes = lent[STATUS..].to_vec();
+            bytes[place] = rng.other_byte(bytes[place]);
+            match beside::damaged(record, &lent, &Call::Surface(0, bytes)) {
+                Ok(Fate::Taken) => calls += 1,
+                fate => return Err(format!("a verify with byte {place} wrong: {fate:?}")),
+            }
         }
     }
+    Ok(calls)
 }
 
 /// A length to lend, near what is asked for more often than not.
@@ -90,5 +112,17 @@ pub fn length(call: &Call, rng: &mut Rng) -> usize {
         0 => rng.place(MOST_LENT + 1),
         1 => wanted,
         _ => wanted - 6 + rng.place(13),
+    }
+}
+
+#[cfg(test)]
+mod tests {
+    use super::*;
+
+    #[test]
+    fn a_verify_looks_at_every_byte() {
+        let calls = every_place(&mut Rng::new(2)).expect("agreement");
+        // On the present sector and on a spare.
+        assert_eq!(calls, 2 * SECTOR_BYTES as u64);
     }
 }

@@ -2,8 +2,8 @@
 //! command, the move routine, the plain write, and the finish.
 
 use super::{
-    data, data_mut, Answer, Job, Moving, Offer, Phase, Place, ReadOutcome, Reading, Record, Stage,
-    Step, WriteOutcome, STATUS,
+    data, data_mut, near, Answer, Job, Moving, Offer, Phase, Place, ReadOutcome, Reading, Record,
+    Stage, Step, WriteOutcome, STATUS,
 };
 use crate::coverage::met;
 use crate::geometry::{spare, Block, Sector, SECTOR_BYTES, SPARES};
@@ -449,6 +449,9 @@ impl Record {
                 self.verified(buffer, job, moving.place)
             }
             ReadOutcome::Good(_) | ReadOutcome::Crc(_) => {
+                if let ReadOutcome::Good(bytes) = outcome {
+                    self.met_near(data(buffer), bytes);
+                }
                 job.crc = true;
                 self.attempt_failed(buffer, job, moving)
             }
@@ -457,6 +460,18 @@ impl Record {
                 self.attempt_failed(buffer, job, moving)
             }
             ReadOutcome::NoSettle => self.no_settle(buffer, job),
+        }
+    }
+
+    /// Counts verify bytes that nearly are the data part.
+    fn met_near(&self, part: &[u8], verify: &[u8]) {
+        let (command, brought) = match self.command.first() {
+            Some(0x00) => ("read", SECTOR_BYTES),
+            Some(0x02) => ("verify", self.data_count),
+            _ => return,
+        };
+        if let Some(word) = near::word(part, verify, brought) {
+            met(&format!("move.near.{command}.{word}"));
         }
     }
 

@@ -6,14 +6,14 @@ mod temper;
 use temper::Temper;
 
 use super::bench::{Bench, Tally};
-use crate::controller::{Answer, Awaited, Offer, Phase, Stage, BUFFER, GO_ON};
+use crate::controller::{Answer, Awaited, Offer, Phase, Stage, Step, BUFFER, GO_ON};
 use crate::drive::Call;
 use crate::geometry::{BLOCKS, TABLE};
 use crate::image::{self, DEAD};
 use crate::images::draft::{distinct, Draft};
 use crate::rng::Rng;
 use crate::script::{show, Line};
-use crate::surface::{plain_bytes, Mood, Policy};
+use crate::surface::{near_miss, plain_bytes, Mood, Outcome, Policy};
 use crate::text::show_bytes_varied;
 
 /// After how many of four starts the surface breaks its rules.
@@ -158,8 +158,20 @@ impl Host {
                 _ => Mood::Garbled,
             };
         }
-        let outcome = self.policy.answer(&self.bench.sectors, access, &sent);
+        let outcome = match self.near_verify() {
+            Some(bytes) => Outcome::new(0, bytes),
+            None => self.policy.answer(&self.bench.sectors, access, &sent),
+        };
         self.bench.outcome(outcome);
+    }
+
+    /// Where the surface lies, a verify now and then brings nearly the data part.
+    fn near_verify(&mut self) -> Option<Vec<u8>> {
+        let drive = &self.bench.drive;
+        let verify =
+            matches!(drive.record.phase, Phase::Moving(_, moving) if moving.step == Step::Verify);
+        let near = verify && self.policy.lies && self.rng.one_in(2);
+        near.then(|| near_miss(&mut self.rng, drive.data()))
     }
 
     /// Chooses the next command, its pieces in the order of their popping.

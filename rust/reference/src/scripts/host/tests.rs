@@ -97,6 +97,18 @@ fn random_scripts_read_and_write_the_health_block() {
     }
 }
 
+#[test]
+fn random_scripts_bring_verifies_that_nearly_match() {
+    coverage::clear();
+    for temper in temper::ALL {
+        simulate(600, 6000, ALWAYS, temper);
+    }
+    let near = |name: &&&str| name.starts_with("move.near.");
+    for name in coverage::NAMES.iter().filter(near) {
+        assert!(coverage::count(name) > 0, "{name}");
+    }
+}
+
 /// How often a name was met in a script of this temper, and its tally.
 fn tempered(temper: &'static Temper, name: &str) -> (u64, Tally) {
     coverage::clear();
