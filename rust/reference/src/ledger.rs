@@ -76,7 +76,7 @@ impl Page {
     }
 }
 
-/// A command that was acted on and not yet reported.
+/// A command that was acted on, and neither reported nor broken off.
 #[derive(Clone, Debug)]
 struct Command {
     opcode: u8,
@@ -190,18 +190,21 @@ impl Ledger {
                 let room = SECTOR_BYTES - self.data.len();
                 self.data.extend(bytes.iter().take(room));
             }
-            Call::Lower(byte) => {
-                let offer = self.offer.take();
-                if *byte == GO_ON && matches!(offer, Some(Offer::Read | Offer::Act)) {
+            Call::Lower(GO_ON) => {
+                if let Some(Offer::Read | Offer::Act) = self.offer.take() {
                     self.command = Some(self.acted_on());
                 }
+            }
+            // The command is neither good nor failed, whatever finish comes.
+            Call::Lower(_) | Call::Reset => {
+                self.offer = None;
+                self.command = None;
             }
             Call::Surface(0, bytes) if self.table_awaited => {
                 if let Some(table) = image::read(bytes) {
                     self.take_table(&table);
                 }
             }
-            Call::Reset => self.offer = None,
             _ => {}
         }
     }

@@ -206,6 +206,98 @@ fn a_write_broken_off_is_neither() {
     }
 }
 
+/// A list in which a command for block 5, with these command bytes, awaits its
+/// first access.
+fn under_way(bytes: &[u8]) -> List {
+    let mut list = List::with(&[]);
+    let first = match bytes[0] {
+        0 => {
+            list.command(bytes);
+            Answer::Read(sector(5))
+        }
+        opcode => {
+            list.up_to_06(opcode, 5, &NEW);
+            Answer::Write(sector(5))
+        }
+    };
+    list.call(Call::Lower(0x55), first);
+    list
+}
+
+/// What breaks a command off, and an answer to it. Another handshake byte may
+/// answer finished itself.
+const BREAKS: [(Call, Answer); 3] = [
+    (Call::Lower(0x54), Answer::Wait),
+    (Call::Lower(0x54), Answer::Finished),
+    (Call::Reset, Answer::Wait),
+];
+
+/// Such lists after each break, and after a finish with this status and these
+/// bytes.
+fn broken_off(bytes: &[u8], status: [u8; 4], data: &[u8]) -> [List; 3] {
+    BREAKS.map(|(call, answer)| {
+        let mut list = under_way(bytes);
+        list.buffer[..STATUS].copy_from_slice(&status);
+        list.buffer[STATUS..].copy_from_slice(data);
+        list.call(call, answer);
+        list.finished(status, data);
+        list
+    })
+}
+
+#[test]
+fn a_write_under_way_that_is_broken_off_is_neither() {
+    for opcode in [1, 2] {
+        for status in [GOOD, FAILED] {
+            let lists = || broken_off(&[opcode, 0, 0, 5], status, &NEW);
+            for mut list in lists() {
+                // Reported good it would have replaced the old bytes.
+                list.read(5, 5, GOOD, &OLD);
+                list.allowed();
+            }
+            for mut list in lists() {
+                // Reported failed it would have added the new ones.
+                list.read(5, 5, GOOD, &NEW);
+                list.broken(Broken::GoodRead(block(5)));
+            }
+        }
+    }
+}
+
+#[test]
+fn a_read_under_way_that_is_broken_off_gives_nothing() {
+    for mut list in broken_off(&[0, 0, 0, 5, 0, 0], GOOD, &NEW) {
+        list.allowed();
+        assert_eq!(list.ledger.good_reads(), 0);
+        list.read(5, 5, GOOD, &OLD);
+        list.allowed();
+        assert_eq!(list.ledger.good_reads(), 1);
+    }
+}
+
+#[test]
+fn a_command_broken_off_moves_no_block() {
+    for (call, answer) in BREAKS {
+        let mut list = under_way(&[0, 0, 0, 5, 0, 0]);
+        list.call(call, answer);
+        list.call(Call::Surface(0, vec![]), Answer::Read(sector(9)));
+        list.finished([0, 0x04, 0, 0], &OLD);
+        list.read(5, 5, GOOD, &OLD);
+        list.allowed();
+    }
+}
+
+#[test]
+fn a_refused_byte_or_reset_breaks_nothing_off() {
+    for call in [Call::Lower(0x54), Call::Reset] {
+        let mut list = under_way(&[1, 0, 0, 5]);
+        list.call(call, Answer::Refused(Code::Place));
+        list.finished(GOOD, &NEW);
+        list.read(5, 5, GOOD, &NEW);
+        list.allowed();
+    }
+}
+
 /// So many bytes of 07, then this byte up to 532.
 fn ending_in(count: usize, byte: u8) -> [u8; 532] {
     let mut bytes = [byte; 532];
