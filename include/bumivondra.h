@@ -1,5 +1,7 @@
 /* The ProFile controller as a library for a board: seven calls over a record and a buffer that the
- * board holds. Link with libbumivondra.a, which needs nothing but memcpy and memset.
+ * board holds. Link with libbumivondra.a.
+ *
+ * WHAT IT NEEDS, and no other function: memcpy, memset.
  *
  * The board turns what happens on the host's bus and at the heads into calls, and does what each call
  * answers. docs/BOARD.md has the loop, examples/board_loop.c is one. Usable from C11 and from C++11.
