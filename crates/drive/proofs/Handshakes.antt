@@ -1,5 +1,6 @@
 -- Handshakes, computed: no table, numbers of no block, commands broken off or dropped, resets, calls out of place.
-use mathlib.Core.Path.{refl}
+use mathlib.Core.Path.{_≡_, refl}
+use mathlib.Core.Bool.{false}
 use mathlib.Core.List.{List, [], _∷_, _++_}
 use lib.ListN.{replicate}
 use Rattle.lists.specs.Lists.{dead}
@@ -8,7 +9,7 @@ use Rattle.drive.specs.declared.Drive.{Drive}
 use Rattle.drive.specs.Calls.{raise, lower, feed, surface, reset}
 use Rattle.drive.specs.History.{held, nowhere}
 use Rattle.drive.proofs.Computing.{computed}
-use Rattle.drive.proofs.Transcripts.{Turn, _⇒_, Run, Happens, happens, bytes, disk, sector, go, gives, done, garbles, timesOut, found, opens, command, asksRead, asksWrite, asksTable, elevenTimeouts, wait, offer, read, write, store, finished, refused}
+use Rattle.drive.proofs.Transcripts.{Turn, _⇒_, Run, Happens, happens, bytes, disk, sector, go, gives, done, garbles, timesOut, found, opens, command, asksRead, asksWrite, asksTable, elevenTimeouts, wait, offer, read, write, store, finished, refused, ended, from, calls, unsettled}
 
 -- Ten reads of the start fail: bytes that are no image, an image with answer 1, timeouts.
 abbrev noTable : Run
@@ -153,7 +154,7 @@ busy =
       turns =
           allRefused ++ found [] [] ++ opens ++ asksRead 17 0 0
           ++ (go ⇒ read 17 ∷ []) ++ allRefused ++ (garbles 9 ⇒ read 17 ∷ gives 7 ⇒ write 17 ∷ []) ++ allRefused
-          ++ (timesOut ⇒ write 17 ∷ done ⇒ read 17 ∷ []) ++ allRefused ++ (garbles 9 ⇒ write 4928 ∷ done ⇒ read 4928 ∷ gives 7 ⇒ finished 0x0C 0x04 0x80 0 ∷ [])
+          ++ (timesOut ⇒ write 17 ∷ done ⇒ read 17 ∷ []) ++ allRefused ++ (surface 4 [] ⇒ refused 4 ∷ done ⇒ refused 5 ∷ garbles 9 ⇒ write 4928 ∷ done ⇒ read 4928 ∷ gives 7 ⇒ finished 0x0C 0x04 0x80 0 ∷ [])
           ++ (raise ⇒ store ∷ []) ++ allRefused ++ (gives 9 ⇒ refused 5 ∷ garbles 9 ⇒ refused 4 ∷ done ⇒ offer 0x01 ∷ []) ++ asksWrite 1 17 (bytes 1)
           ++ (go ⇒ write 4928 ∷ []) ++ allRefused ++ (done ⇒ finished 0x00 0x00 0x00 0 ∷ []);
       part = bytes 1;
@@ -204,3 +205,22 @@ refusedAnswers =
 pub a-refused-answer-writes-nothing : (old : Drive) → Happens old refusedAnswers
 unfolding computed
 a-refused-answer-writes-nothing old = happens old refusedAnswers refl
+
+-- Answer 3 ends the start, without a table.
+abbrev startUnsettled : Run
+startUnsettled =
+    record {
+      sectors = disk [] [];
+      turns = (timesOut ⇒ read 4960 ∷ unsettled ⇒ wait ∷ []) ++ opens ++ asksRead 17 0 1 ++ (go ⇒ finished 0x01 0x08 0x80 0 ∷ []);
+      part = bytes 0;
+      place = nowhere;
+      candidates = [];
+    }
+
+pub answer-3-ends-a-start : (old : Drive) → Happens old startUnsettled
+unfolding computed
+answer-3-ends-a-start old = happens old startUnsettled refl
+
+pub answer-3-to-a-start-latches-nothing : (old : Drive) → ended (from old startUnsettled) (calls startUnsettled) .drive .line .marks .latch ≡ false
+unfolding computed
+answer-3-to-a-start-latches-nothing old = refl

@@ -3,6 +3,7 @@ use mathlib.Core.Path.{refl}
 use mathlib.Core.Bool.{cond}
 use mathlib.Core.List.{[], _∷_, _++_}
 use lib.Dec.{eqb}
+use lib.ListN.{replicate}
 use Rattle.image.specs.Images.{imageOf}
 use Rattle.drive.specs.declared.Drive.{Drive}
 use Rattle.drive.specs.History.{held, unreadable}
@@ -97,3 +98,35 @@ threeBlocks =
 pub blocks-do-not-touch-one-another : (old : Drive) → Happens old threeBlocks
 unfolding computed
 blocks-do-not-touch-one-another old = happens old threeBlocks refl
+
+-- The first read is good, so it is done whatever T is.
+abbrev goodAtOnce : Run
+goodAtOnce =
+    record {
+      sectors = disk [] [];
+      turns = found [] [] ++ opens ++ asksRead 17 5 0 ++ (go ⇒ read 17 ∷ gives 7 ⇒ finished 0x00 0x00 0x80 0 ∷ []);
+      part = bytes 7;
+      place = sector 17;
+      candidates = bytes 7 ∷ [];
+    }
+
+pub a-first-good-read-is-done-whatever-T-is : (old : Drive) → Happens old goodAtOnce
+unfolding computed
+a-first-good-read-is-done-whatever-T-is old = happens old goodAtOnce refl
+
+-- No read is good. The bytes of answer 1 stand in the data part, and are no candidate.
+abbrev onlyGarbled : Run
+onlyGarbled =
+    record {
+      sectors = disk [] [];
+      turns =
+          found [] [] ++ opens ++ asksRead 17 0 1
+          ++ (go ⇒ read 17 ∷ garbles 9 ⇒ read 17 ∷ []) ++ replicate 9 (timesOut ⇒ read 17) ++ (timesOut ⇒ finished 0x0D 0x00 0x80 0 ∷ []);
+      part = bytes 9;
+      place = sector 17;
+      candidates = bytes 7 ∷ [];
+    }
+
+pub until-a-good-read-the-bytes-of-answer-1-are-kept : (old : Drive) → Happens old onlyGarbled
+unfolding computed
+until-a-good-read-the-bytes-of-answer-1-are-kept old = happens old onlyGarbled refl
