@@ -1,13 +1,24 @@
 -- The bad list and the store, computed.
-use mathlib.Core.Path.{refl}
+use mathlib.Core.Path.{_≡_, refl}
+use mathlib.Core.Bool.{Bool, true, false}
 use mathlib.Core.List.{List, [], _∷_, _++_}
 use Prim.Native.Nat.{ℕ, zero, suc}
-use lib.ListN.{replicate}
+use lib.ListN.{take, replicate}
 use Rattle.image.specs.Images.{imageOf}
 use Rattle.drive.specs.declared.Drive.{Drive}
-use Rattle.drive.specs.Calls.{raise, lower, reset}
+use Rattle.drive.specs.declared.Line.{Line}
+use Rattle.drive.specs.declared.Retry.{Retry}
+use Rattle.drive.specs.declared.Phase.the-variants as phase
+use Rattle.drive.specs.declared.Offer.the-variants as offers
+use Rattle.drive.specs.declared.Answer.the-variants as answer
+use Rattle.drive.specs.declared.Change.{Change}
+use Rattle.drive.specs.declared.Change.the-variants as change
+use Rattle.drive.specs.Results.{Result, toMarked}
+use Rattle.drive.specs.Access.{lost}
+use Rattle.drive.specs.Calls.{raise, lower, reset, raiseOf}
 use Rattle.drive.proofs.Computing.{computed}
-use Rattle.drive.proofs.Transcripts.{Turn, _⇒_, Run, Happens, happens, bytes, disk, sector, go, gives, done, timesOut, unsettled, found, opens, stores, asksRead, asksWrite, asksTable, elevenTimeouts, wait, offer, read, write, store, finished}
+use Rattle.drive.proofs.Transcripts.{_⇒_, key, Run, Happens, happens, bytes, disk, sector, go, gives, done, timesOut, unsettled, found, opens, stores, asksWrite, asksTable, elevenTimeouts, wait, offer, read, write, store, finished}
+use Rattle.drive.proofs.Codes.{table, with}
 
 -- The block is entered in the bad list. A store that times out is made again at the next raise; one that is done is not.
 abbrev storedOnce : Run
@@ -60,30 +71,64 @@ pub a-listed-bad-block-is-not-entered-again : (old : Drive) → Happens old list
 unfolding computed
 a-listed-bad-block-is-not-entered-again old = happens old listedAlready refl
 
+-- Answer 3 to the store latches nothing and keeps the mark: a write is made, and the next raise stores.
+abbrev storeUnsettled : Run
+storeUnsettled =
+    record {
+      sectors = disk [] [];
+      turns =
+          found [] [] ++ elevenTimeouts ++ (raise ⇒ store ∷ unsettled ⇒ offer 0x01 ∷ [])
+          ++ asksWrite 1 18 (bytes 1) ++ (go ⇒ write 18 ∷ done ⇒ finished 0x00 0x00 0x00 0 ∷ []) ++ stores ++ asksTable 0x00;
+      part = imageOf [] (17 ∷ []);
+      place = sector 17;
+      candidates = bytes 7 ∷ [];
+    }
+
+pub answer-3-to-a-store-latches-nothing : (old : Drive) → Happens old storeUnsettled
+unfolding computed
+answer-3-to-a-store-latches-nothing old = happens old storeUnsettled refl
+
+-- THE BAD LIST FULL, computed without the calls: a hundred entries are tested at each of them
+
 -- k, k + 1, and so on, n of them
 abbrev upFrom : ℕ → ℕ → List ℕ
 upFrom k zero = []
 upFrom k (suc n) = k ∷ upFrom (suc k) n
 
--- a read of block 18 that fails by eleven timeouts, with status 2 and 3 of its finish
-abbrev timeoutsOf18 : ℕ → ℕ → List Turn
-timeoutsOf18 status2 status3 = asksRead 18 0 1 ++ (go ⇒ read 18 ∷ []) ++ replicate 10 (timesOut ⇒ read 18) ++ (timesOut ⇒ finished 0x05 status2 status3 0 ∷ [])
+-- sets the latch, or not
+abbrev marked : Bool → Line → Line
+marked latch l = toMarked l (record { known = true; changed = false; latch = latch; fresh = false }) phase.Idle
 
--- The bad list holds 99, then 100: block 17 is entered, 18 is not, and 17 is listed already. Answer 3 to the store latches nothing.
-abbrev badListFull : Run
-badListFull =
-    record {
-      sectors = disk [] (upFrom 100 99);
-      turns =
-          found [] (upFrom 100 99) ++ elevenTimeouts ++ (raise ⇒ store ∷ unsettled ⇒ offer 0x01 ∷ []) ++ timeoutsOf18 0x10 0x00
-          ++ (raise ⇒ store ∷ done ⇒ offer 0x01 ∷ []) ++ asksRead 17 0 1
-          ++ (go ⇒ read 17 ∷ []) ++ replicate 10 (timesOut ⇒ read 17) ++ (timesOut ⇒ finished 0x05 0x00 0x00 0 ∷ [])
-          ++ opens ++ asksWrite 1 17 (bytes 1) ++ (go ⇒ write 17 ∷ done ⇒ read 17 ∷ gives 1 ⇒ finished 0x00 0x00 0x00 0 ∷ []);
-      part = bytes 1;
-      place = sector 17;
-      candidates = bytes 1 ∷ [];
-    }
+-- a record marked changed, with no table known
+abbrev unknown : Drive → Drive
+unknown d = record { table = d .table; line = toMarked (d .line) (record { known = false; changed = true; latch = false; fresh = false }) phase.Idle }
 
-pub the-101st-bad-block-is-not-entered : (old : Drive) → Happens old badListFull
+-- a read of block 17 of which no access was good
+abbrev lostRead : Retry
+lostRead =
+    record { block = key; sector = record { 0 = 17 }; first = false; left = 0; spent = 90; threshold = 1; good = false; seen = record { errors = 0; crc = false; timeout = true } }
+
+-- ends it, with these bad blocks listed, and the latch or not
+abbrev lostWith : Bool → List ℕ → ℕ → Result
+lostWith latch bads m = let d = with (table [] 0 bads m) true 6 0 phase.Idle in lost (marked latch (d .line)) (d .table) lostRead (replicate 536 0)
+
+-- what it does to the table, whether that is marked, and its status
+abbrev Gives : Result → Change → Bool → List ℕ → Type 0
+Gives x c mark status = (x .change ≡ c) × (x .line .marks .changed ≡ mark) × (take 4 (x .bytes) ≡ status)
+
+pub record Full : Type 0 where
+  pub entered-at-99 : Gives (lostWith false (upFrom 100 99) 99) (change.Enter key) true (0x05 ∷ 0x00 ∷ 0x00 ∷ 0 ∷ [])
+  pub full-at-100 : Gives (lostWith false (upFrom 100 100) 100) change.Keep false (0x05 ∷ 0x10 ∷ 0x00 ∷ 0 ∷ [])
+  pub listed-at-100 : Gives (lostWith false (upFrom 17 100) 100) change.Keep false (0x05 ∷ 0x00 ∷ 0x00 ∷ 0 ∷ [])
+  -- under the latch entries are made and marked all the same
+  pub entered-under-the-latch : Gives (lostWith true (upFrom 100 99) 99) (change.Enter key) true (0x05 ∷ 0x00 ∷ 0x00 ∷ 0 ∷ [])
+
+pub full : Full
 unfolding computed
-the-101st-bad-block-is-not-entered old = happens old badListFull refl
+full = record { entered-at-99 = (refl, refl, refl); full-at-100 = (refl, refl, refl); listed-at-100 = (refl, refl, refl); entered-under-the-latch = (refl, refl, refl) }
+
+-- A table that is not known is not stored, though it is marked changed; no call returns such a record.
+pub a-table-that-is-not-known-is-not-stored :
+    raiseOf (unknown (with (table [] 0 [] 0) false 0 0 phase.Idle)) (replicate 536 0) .step .answer ≡ answer.Offer offers.Command
+unfolding computed
+a-table-that-is-not-known-is-not-stored = refl

@@ -11,7 +11,8 @@ use Rattle.drive.specs.History.{held, nowhere}
 use Rattle.drive.proofs.Computing.{computed}
 use Rattle.drive.proofs.Transcripts.{Turn, _⇒_, Run, Happens, happens, bytes, disk, sector, go, gives, done, garbles, timesOut, found, opens, command, asksRead, asksWrite, asksTable, elevenTimeouts, wait, offer, read, write, store, finished, refused, ended, from, calls, unsettled}
 
--- Ten reads of the start fail: bytes that are no image, an image with answer 1, timeouts.
+-- Ten reads of the start fail: bytes that are no image, an image with answer 1, timeouts. With no table FFFFFE is good, and too
+-- many data bytes are told before all else; 600 count as 533.
 abbrev noTable : Run
 noTable =
     record {
@@ -19,8 +20,12 @@ noTable =
       turns =
           (gives 7 ⇒ read 4960 ∷ surface 1 (imageOf [] []) ⇒ read 4960 ∷ []) ++ replicate 7 (timesOut ⇒ read 4960) ++ (timesOut ⇒ wait ∷ [])
           ++ opens ++ asksRead 17 2 2 ++ (go ⇒ finished 0x01 0x08 0x80 0 ∷ [])
-          ++ opens ++ asksWrite 1 17 (bytes 1) ++ (go ⇒ finished 0x41 0x08 0x00 0 ∷ []);
-      part = bytes 1;
+          ++ opens ++ asksWrite 1 17 (bytes 1) ++ (go ⇒ finished 0x41 0x08 0x00 0 ∷ [])
+          ++ opens ++ asksWrite 2 17 (bytes 2) ++ (go ⇒ finished 0x41 0x08 0x00 0 ∷ [])
+          ++ opens ++ asksRead 0xFFFFFF 0 0 ++ (go ⇒ finished 0x01 0x08 0x00 0 ∷ [])
+          ++ opens ++ asksRead 0xFFFFFE 0 0 ++ (go ⇒ finished 0x00 0x00 0x00 0 ∷ [])
+          ++ opens ++ asksWrite 1 17 (replicate 600 3) ++ (go ⇒ finished 0x41 0x00 0x00 0 ∷ []);
+      part = bytes 3;
       place = nowhere;
       candidates = [];
     }
@@ -29,7 +34,8 @@ pub with-no-table-reads-and-writes-fail : (old : Drive) → Happens old noTable
 unfolding computed
 with-no-table-reads-and-writes-fail old = happens old noTable refl
 
--- FFFFFF puts the image in the data part, and FFFFFE leaves it there. 9728 and a write to FFFFFF fail.
+-- FFFFFF puts the image in the data part, and FFFFFE leaves it there. 9728, 00FFFE and a write to FFFFFF fail, and so do too many
+-- data bytes to FFFFFE.
 abbrev notBlocks : Run
 notBlocks =
     record {
@@ -37,6 +43,8 @@ notBlocks =
       turns =
           found (dead ∷ []) []
           ++ opens ++ asksWrite 1 0xFFFFFF (bytes 1) ++ (go ⇒ finished 0x01 0x00 0xC0 0 ∷ [])
+          ++ opens ++ asksWrite 1 0xFFFFFE (replicate 533 3) ++ (go ⇒ finished 0x41 0x00 0x00 0 ∷ [])
+          ++ opens ++ asksRead 0x00FFFE 2 2 ++ (go ⇒ finished 0x01 0x00 0x40 0 ∷ [])
           ++ opens ++ asksTable 0x00
           ++ opens ++ asksRead 0xFFFFFE 2 2 ++ (go ⇒ finished 0x00 0x00 0x00 0 ∷ [])
           ++ opens ++ asksRead 9728 2 2 ++ (go ⇒ finished 0x01 0x00 0x40 0 ∷ []);
@@ -85,7 +93,8 @@ pub a-wrong-byte-leaves-the-first-finish-due : (old : Drive) → Happens old str
 unfolding computed
 a-wrong-byte-leaves-the-first-finish-due old = happens old strayFirst refl
 
--- Short commands and an unknown opcode are dropped, with no store in between. Six bytes come in two pieces, and a seventh is ignored.
+-- Short commands and an unknown opcode are dropped, with no store in between. Seven bytes come in
+-- three pieces, and the seventh is ignored.
 abbrev dropped : Run
 dropped =
     record {
@@ -124,16 +133,18 @@ pub resets-keep-table-mark-and-buffer : (old : Drive) → Happens old resets
 unfolding computed
 resets-keep-table-mark-and-buffer old = happens old resets refl
 
--- Calls out of place, answers that are none and bytes of a wrong length stand among the calls of one write.
+-- Calls out of place, answers above 3 and bytes of a wrong length come among the calls of one write.
 abbrev refusedAmong : Run
 refusedAmong =
     record {
       sectors = disk [] [];
       turns =
-          (raise ⇒ refused 3 ∷ surface 4 [] ⇒ refused 4 ∷ surface 0 [] ⇒ refused 5 ∷ []) ++ found [] []
+          (raise ⇒ refused 3 ∷ surface 4 [] ⇒ refused 4 ∷ surface 0 [] ⇒ refused 5 ∷ surface 0 (replicate 533 9) ⇒ refused 5 ∷ [])
+          ++ (surface 1 (9 ∷ []) ⇒ refused 5 ∷ surface 2 (9 ∷ []) ⇒ refused 5 ∷ []) ++ found [] []
           ++ (surface 9 [] ⇒ refused 3 ∷ lower 0x55 ⇒ refused 3 ∷ []) ++ opens ++ (feed (bytes 9) ⇒ refused 3 ∷ [])
           ++ asksWrite 1 17 (bytes 1)
-          ++ (raise ⇒ refused 3 ∷ go ⇒ write 17 ∷ reset ⇒ refused 3 ∷ garbles 9 ⇒ refused 4 ∷ gives 9 ⇒ refused 5 ∷ done ⇒ finished 0x00 0x00 0x80 0 ∷ []);
+          ++ (raise ⇒ refused 3 ∷ go ⇒ write 17 ∷ reset ⇒ refused 3 ∷ garbles 9 ⇒ refused 4 ∷ gives 9 ⇒ refused 5 ∷ surface 2 (9 ∷ []) ⇒ refused 5 ∷ [])
+          ++ (done ⇒ finished 0x00 0x00 0x80 0 ∷ []);
       part = bytes 1;
       place = sector 17;
       candidates = bytes 1 ∷ [];
@@ -224,3 +235,22 @@ answer-3-ends-a-start old = happens old startUnsettled refl
 pub answer-3-to-a-start-latches-nothing : (old : Drive) → ended (from old startUnsettled) (calls startUnsettled) .drive .line .marks .latch ≡ false
 unfolding computed
 answer-3-to-a-start-latches-nothing old = refl
+
+-- A write takes five or six command bytes too, and its data come in two pieces.
+abbrev inPieces : Run
+inPieces =
+    record {
+      sectors = disk [] [];
+      turns =
+          found [] []
+          ++ opens ++ (go ⇒ wait ∷ feed (command 2 17 (9 ∷ [])) ⇒ wait ∷ raise ⇒ offer 0x04 ∷ lower 0xAA ⇒ finished 0x80 0x00 0x00 0 ∷ [])
+          ++ opens ++ (go ⇒ wait ∷ feed (command 1 17 (9 ∷ 9 ∷ [])) ⇒ wait ∷ raise ⇒ offer 0x03 ∷ go ⇒ wait ∷ [])
+          ++ (feed (replicate 300 1) ⇒ wait ∷ feed (replicate 232 2) ⇒ wait ∷ raise ⇒ offer 0x06 ∷ go ⇒ write 17 ∷ done ⇒ finished 0x00 0x00 0x80 0 ∷ []);
+      part = replicate 300 1 ++ replicate 232 2;
+      place = sector 17;
+      candidates = (replicate 300 1 ++ replicate 232 2) ∷ [];
+    }
+
+pub data-come-in-pieces : (old : Drive) → Happens old inPieces
+unfolding computed
+data-come-in-pieces old = happens old inPieces refl

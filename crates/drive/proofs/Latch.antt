@@ -1,12 +1,13 @@
 -- The latch, computed.
 use mathlib.Core.Path.{refl}
 use mathlib.Core.List.{[], _∷_, _++_}
+use lib.ListN.{replicate}
 use Rattle.lists.specs.Lists.{dead}
 use Rattle.image.specs.Images.{imageOf}
 use Rattle.drive.specs.declared.Drive.{Drive}
 use Rattle.drive.specs.Calls.{reset}
 use Rattle.drive.proofs.Computing.{computed}
-use Rattle.drive.proofs.Transcripts.{_⇒_, Run, Happens, happens, bytes, disk, sector, go, gives, done, garbles, timesOut, unsettled, found, opens, asksRead, asksWrite, asksTable, wait, read, write, finished}
+use Rattle.drive.proofs.Transcripts.{_⇒_, Run, Happens, happens, bytes, disk, sector, go, gives, done, garbles, timesOut, unsettled, found, opens, asksRead, asksWrite, asksTable, wait, read, write, finished, _⇏_}
 
 -- Answer 3 kills the spare under trial. Then a write, a rewrite at the threshold and the store are not made.
 abbrev pub latched : Run
@@ -28,7 +29,8 @@ pub under-the-latch-no-write-is-made : (old : Drive) → Happens old latched
 unfolding computed
 under-the-latch-no-write-is-made old = happens old latched refl
 
--- Answer 3 to a plain write latches. A reset keeps the latch, and the start's answer 3 had made none.
+-- Answer 3 to a plain write latches. A reset keeps the latch. Then write and write/verify are not made, too many data bytes are
+-- told before it, FFFFFE is good, and so is a read below its threshold.
 abbrev writeUnsettled : Run
 writeUnsettled =
     record {
@@ -36,7 +38,10 @@ writeUnsettled =
       turns =
           found [] [] ++ opens ++ asksWrite 1 17 (bytes 1) ++ (go ⇒ write 17 ∷ unsettled ⇒ finished 0x11 0x00 0x80 0 ∷ reset ⇒ wait ∷ [])
           ++ opens ++ asksWrite 1 17 (bytes 2) ++ (go ⇒ finished 0x11 0x00 0x80 0 ∷ [])
-          ++ opens ++ asksRead 17 0 1 ++ (go ⇒ read 17 ∷ gives 7 ⇒ finished 0x00 0x00 0x00 0 ∷ []);
+          ++ opens ++ asksWrite 2 17 (bytes 3) ++ (go ⇒ finished 0x11 0x00 0x00 0 ∷ [])
+          ++ opens ++ asksWrite 1 17 (replicate 533 4) ++ (go ⇒ finished 0x41 0x00 0x00 0 ∷ [])
+          ++ opens ++ asksRead 0xFFFFFE 0 0 ++ (go ⇒ finished 0x00 0x00 0x00 0 ∷ [])
+          ++ opens ++ asksRead 17 1 2 ++ (go ⇒ read 17 ∷ garbles 9 ⇒ read 17 ∷ garbles 9 ⇒ read 17 ∷ gives 7 ⇒ finished 0x08 0x00 0x00 1 ∷ []);
       part = bytes 7;
       place = sector 17;
       candidates = bytes 7 ∷ [];
@@ -46,7 +51,7 @@ pub a-reset-keeps-the-latch-of-a-write : (old : Drive) → Happens old writeUnse
 unfolding computed
 a-reset-keeps-the-latch-of-a-write old = happens old writeUnsettled refl
 
--- Answer 3 to an attempt's write and read at the present sector latches, and kills no spare.
+-- Answer 3 to an attempt's read at the present sector latches, and kills no spare.
 abbrev attemptUnsettled : Run
 attemptUnsettled =
     record {
@@ -81,3 +86,51 @@ verifyUnsettled =
 pub answer-3-at-a-spare-kills-it : (old : Drive) → Happens old verifyUnsettled
 unfolding computed
 answer-3-at-a-spare-kills-it old = happens old verifyUnsettled refl
+
+-- Answer 3 to a reread ends the read with what it met until then, and makes no bad entry.
+abbrev rereadUnsettled : Run
+rereadUnsettled =
+    record {
+      sectors = disk [] [];
+      turns =
+          found [] [] ++ opens ++ asksRead 17 2 2
+          ++ (go ⇒ read 17 ∷ garbles 9 ⇒ read 17 ∷ garbles 9 ⇒ read 17 ∷ unsettled ⇒ finished 0x19 0x00 0x80 1 ∷ []) ++ opens ++ asksTable 0x00;
+      part = imageOf [] [];
+      place = sector 17;
+      candidates = bytes 7 ∷ [];
+    }
+
+pub answer-3-to-a-reread-ends-it-with-what-it-met : (old : Drive) → Happens old rereadUnsettled
+unfolding computed
+answer-3-to-a-reread-ends-it-with-what-it-met old = happens old rereadUnsettled refl
+
+-- Answer 3 is neither a timeout nor a CRC error: to a first write, and to a spare's after two failed verifies.
+abbrev firstUnsettled : Run
+firstUnsettled =
+    record {
+      sectors = disk [] [];
+      turns = found [] [] ++ opens ++ asksWrite 2 17 (bytes 1) ++ (go ⇒ write 17 ∷ unsettled ⇒ finished 0x11 0x00 0x80 0 ∷ []);
+      part = bytes 1;
+      place = sector 17;
+      candidates = bytes 1 ∷ bytes 7 ∷ [];
+    }
+
+pub answer-3-to-a-first-write-is-no-timeout : (old : Drive) → Happens old firstUnsettled
+unfolding computed
+answer-3-to-a-first-write-is-no-timeout old = happens old firstUnsettled refl
+
+abbrev spareUnsettled : Run
+spareUnsettled =
+    record {
+      sectors = disk [] [];
+      turns =
+          found [] [] ++ opens ++ asksWrite 2 17 (bytes 1)
+          ++ (go ⇒ write 17 ∷ done ⇏ read 17 ∷ garbles 9 ⇒ write 17 ∷ done ⇏ read 17 ∷ garbles 9 ⇒ write 4928 ∷ unsettled ⇒ finished 0x19 0x00 0x80 0 ∷ []);
+      part = bytes 1;
+      place = sector 17;
+      candidates = bytes 1 ∷ bytes 7 ∷ [];
+    }
+
+pub answer-3-at-a-spare-is-no-timeout : (old : Drive) → Happens old spareUnsettled
+unfolding computed
+answer-3-at-a-spare-is-no-timeout old = happens old spareUnsettled refl

@@ -160,3 +160,20 @@ spareDies =
 pub a-spare-that-fails-becomes-dead : (old : Drive) → Happens old spareDies
 unfolding computed
 a-spare-that-fails-becomes-dead old = happens old spareDies refl
+
+-- A verify that times out is a timeout.
+abbrev verifyTimesOut : Run
+verifyTimesOut =
+    record {
+      sectors = disk [] [];
+      turns =
+          found [] [] ++ opens ++ asksWrite 2 17 (bytes 1)
+          ++ (go ⇒ write 17 ∷ done ⇒ read 17 ∷ timesOut ⇒ write 17 ∷ done ⇒ read 17 ∷ gives 1 ⇒ finished 0x04 0x00 0x80 0 ∷ []);
+      part = bytes 1;
+      place = sector 17;
+      candidates = bytes 1 ∷ [];
+    }
+
+pub a-verify-that-times-out-is-a-timeout : (old : Drive) → Happens old verifyTimesOut
+unfolding computed
+a-verify-that-times-out-is-a-timeout old = happens old verifyTimesOut refl

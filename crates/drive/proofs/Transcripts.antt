@@ -1,11 +1,12 @@
 -- Transcripts: a list of calls beside what each is answered, and one fold that computes all that a run is about.
-use mathlib.Core.Path.{_≡_, refl, ap, _∙_}
+use mathlib.Core.Path.{_≡_, refl, ap, sym, _∙_}
 use mathlib.Core.Bool.{Bool, true, false, cond, _&&_}
 use mathlib.Core.List.{List, [], _∷_, _++_}
 use Prim.Native.Nat.{ℕ, _+_, _/_, _%_}
+use borrow.Author.Tests.{eqb-true}
 use lib.Dec.{eqb}
 use lib.ListN.{getD, replicate}
-use Rattle.logic.proofs.Bools.{clash, and-left, and-right}
+use Rattle.logic.proofs.Bools.{clash, and-left, and-right, and-true}
 use Rattle.geometry.specs.declared.Block.{Block}
 use Rattle.image.specs.Images.{imageOf}
 use Rattle.buffer.specs.Runs.{same}
@@ -65,7 +66,7 @@ is-permitted : (w : World) (c : Call) (refused : Bool) → cond refused true (ke
 is-permitted w c true h = tt
 is-permitted w c false h = keeps-rule w c h
 
-pub lawful-by-test : (w : World) (es : List Event) → isLawful w es ≡ true → Lawful w es
+lawful-by-test : (w : World) (es : List Event) → isLawful w es ≡ true → Lawful w es
 lawful-by-test w [] h = tt
 lawful-by-test w (e ∷ es) h =
     let p = permitted w e (made w e) in
@@ -162,64 +163,125 @@ pub record Happens (old : Drive) (r : Run) : Type 0 where
   pub place : history old r .place key ≡ r .place
   pub candidates : history old r .candidates key ≡ r .candidates
 
--- ONE FOLD FOR THESE FIVE FACTS, which computes each call once
+-- ONE FOLD TESTS THESE FIVE FACTS: it computes each call once, and stops at the first thing that is another
 
-pub record Played : Type 0 where
-  pub lawful : Bool
-  pub says : List Said
-  pub part : Bytes
-  pub place : Where
-  pub candidates : List Bytes
+-- writes an answer as numbers, and reads it back
+abbrev pub spelled : Said → List ℕ
+spelled wait = 0 ∷ []
+spelled (offer n) = 1 ∷ n ∷ []
+spelled (read s) = 2 ∷ s ∷ []
+spelled (write s) = 3 ∷ s ∷ []
+spelled store = 4 ∷ []
+spelled (finished a b c d) = 5 ∷ a ∷ b ∷ c ∷ d ∷ []
+spelled (refused n) = 6 ∷ n ∷ []
 
--- puts a call's test and answer before those of the calls after it
-abbrev pub ahead : Bool → Said → Played → Played
-ahead ok said p = record { lawful = ok && p .lawful; says = said ∷ p .says; part = p .part; place = p .place; candidates = p .candidates }
+abbrev readBack : List ℕ → Said
+readBack l =
+    cond (eqb (getD l 0 0) 0) wait
+    (cond (eqb (getD l 0 0) 1) (offer (getD l 1 0))
+    (cond (eqb (getD l 0 0) 2) (read (getD l 1 0))
+    (cond (eqb (getD l 0 0) 3) (write (getD l 1 0))
+    (cond (eqb (getD l 0 0) 4) store
+    (cond (eqb (getD l 0 0) 5) (finished (getD l 1 0) (getD l 2 0) (getD l 3 0) (getD l 4 0)) (refused (getD l 1 0)))))))
 
-abbrev pub plays : Sectors → World → History → List Turn → Played
-plays start w H [] = record { lawful = true; says = []; part = dataOf (w .buffer); place = H .place key; candidates = H .candidates key }
-plays start w H (t ∷ ts) =
+read-back : (a : Said) → readBack (spelled a) ≡ a
+read-back wait = refl
+read-back (offer n) = refl
+read-back (read s) = refl
+read-back (write s) = refl
+read-back store = refl
+read-back (finished a b c d) = refl
+read-back (refused n) = refl
+
+abbrev pub sameSaid : Said → Said → Bool
+sameSaid a b = same (spelled a) (spelled b)
+
+same-said : (a b : Said) → sameSaid a b ≡ true → a ≡ b
+same-said a b h = sym (read-back a) ∙ ap readBack (same-equal (spelled a) (spelled b) h) ∙ read-back b
+
+abbrev pub sameWhere : Where → Where → Bool
+sameWhere nowhere nowhere = true
+sameWhere nowhere (at k) = false
+sameWhere (at s) nowhere = false
+sameWhere (at s) (at k) = eqb (s .0) (k .0)
+
+same-where : (v w : Where) → sameWhere v w ≡ true → v ≡ w
+same-where nowhere nowhere h = refl
+same-where nowhere (at k) h = clash h refl
+same-where (at s) nowhere h = clash h refl
+same-where (at s) (at k) h = ap (λ (n : ℕ). at (record { 0 = n })) (eqb-true (s .0) (k .0) h)
+
+abbrev pub sameAll : List Bytes → List Bytes → Bool
+sameAll [] [] = true
+sameAll [] (y ∷ ys) = false
+sameAll (x ∷ xs) [] = false
+sameAll (x ∷ xs) (y ∷ ys) = same x y && sameAll xs ys
+
+same-all : (xs ys : List Bytes) → sameAll xs ys ≡ true → xs ≡ ys
+same-all [] [] h = refl
+same-all [] (y ∷ ys) h = clash h refl
+same-all (x ∷ xs) [] h = clash h refl
+same-all (x ∷ xs) (y ∷ ys) h =
+    let e = same-equal x y (and-left (same x y) (sameAll xs ys) h) in
+    let es = same-all xs ys (and-right (same x y) (sameAll xs ys) h) in
+    cc
+
+abbrev pub agrees : Sectors → World → History → List Turn → Bytes → Where → List Bytes → Bool
+agrees start w H [] part place candidates =
+    same (dataOf (w .buffer)) part && (sameWhere (H .place key) place && sameAll (H .candidates key) candidates)
+agrees start w H (t ∷ ts) part place candidates =
     let e = t .event in
     let x = made w e in
-    ahead (permitted w e x) (saidBy (x .step .answer) (x .bytes)) (plays start (after w e x) (next start H (entryOf e x)) ts)
+    permitted w e x
+    && (sameSaid (saidBy (x .step .answer) (x .bytes)) (t .says) && agrees start (after w e x) (next start H (entryOf e x)) ts part place candidates)
 
--- what the fold gives is what the five facts speak of
-pub record Ties (start : Sectors) (w : World) (H : History) (ts : List Turn) (p : Played) : Type 0 where
-  pub lawful : isLawful w (events ts) ≡ p .lawful
-  pub says : told (entries w (events ts)) ≡ p .says
-  pub part : dataOf (ended w (events ts) .buffer) ≡ p .part
-  pub place : kept start H (entries w (events ts)) .place key ≡ p .place
-  pub candidates : kept start H (entries w (events ts)) .candidates key ≡ p .candidates
+-- what the test says: the five facts
+pub record Agree (start : Sectors) (w : World) (H : History) (ts : List Turn) (part : Bytes) (place : Where) (candidates : List Bytes) : Type 0 where
+  pub lawful : isLawful w (events ts) ≡ true
+  pub says : told (entries w (events ts)) ≡ answers ts
+  pub part-left : dataOf (ended w (events ts) .buffer) ≡ part
+  pub place-left : kept start H (entries w (events ts)) .place key ≡ place
+  pub candidates-left : kept start H (entries w (events ts)) .candidates key ≡ candidates
 
-pub ties : (start : Sectors) (w : World) (H : History) (ts : List Turn) → Ties start w H ts (plays start w H ts)
-ties start w H [] = record { lawful = refl; says = refl; part = refl; place = refl; candidates = refl }
-ties start w H (t ∷ ts) =
-    let e = t .event in
-    let x = made w e in
-    let h = ties start (after w e x) (next start H (entryOf e x)) ts in
+agree : (start : Sectors) (w : World) (H : History) (ts : List Turn) (part : Bytes) (place : Where) (candidates : List Bytes)
+    → agrees start w H ts part place candidates ≡ true
+    → Agree start w H ts part place candidates
+agree start w H [] part place candidates h =
+    let first = same (dataOf (w .buffer)) part in
+    let second = sameWhere (H .place key) place in
+    let third = sameAll (H .candidates key) candidates in
+    let rest = and-right first (second && third) h in
     record {
-      lawful = ap (λ (b : Bool). permitted w e x && b) (h .lawful);
-      says = ap (λ (s : List Said). saidBy (x .step .answer) (x .bytes) ∷ s) (h .says);
-      part = h .part;
-      place = h .place;
-      candidates = h .candidates;
+      lawful = refl;
+      says = refl;
+      part-left = same-equal (dataOf (w .buffer)) part (and-left first (second && third) h);
+      place-left = same-where (H .place key) place (and-left second third rest);
+      candidates-left = same-all (H .candidates key) candidates (and-right second third rest);
+    }
+agree start w H (t ∷ ts) part place candidates h =
+    let e = t .event in
+    let x = made w e in
+    let said = saidBy (x .step .answer) (x .bytes) in
+    let more = agrees start (after w e x) (next start H (entryOf e x)) ts part place candidates in
+    let rest = and-right (permitted w e x) (sameSaid said (t .says) && more) h in
+    let after-it = agree start (after w e x) (next start H (entryOf e x)) ts part place candidates (and-right (sameSaid said (t .says)) more rest) in
+    let same-answer = same-said said (t .says) (and-left (sameSaid said (t .says)) more rest) in
+    record {
+      lawful = and-true (permitted w e x) (isLawful (after w e x) (events ts)) (and-left (permitted w e x) (sameSaid said (t .says) && more) h) (after-it .lawful);
+      says = ap (λ (a : Said). a ∷ told (entries (after w e x) (events ts))) same-answer ∙ ap (λ (l : List Said). t .says ∷ l) (after-it .says);
+      part-left = after-it .part-left;
+      place-left = after-it .place-left;
+      candidates-left = after-it .candidates-left;
     }
 
-abbrev pub played : Drive → Run → Played
-played old r = plays (r .sectors) (from old r) blank (r .turns)
+-- plays a run, and tests what it says of itself
+abbrev pub played : Drive → Run → Bool
+played old r = agrees (r .sectors) (from old r) blank (r .turns) (r .part) (r .place) (r .candidates)
 
-abbrev pub expected : Run → Played
-expected r = record { lawful = true; says = answers (r .turns); part = r .part; place = r .place; candidates = r .candidates }
-
-pub happens : (old : Drive) (r : Run) → played old r ≡ expected r → Happens old r
+pub happens : (old : Drive) (r : Run) → played old r ≡ true → Happens old r
 happens old r e =
-    let h = ties (r .sectors) (from old r) blank (r .turns) in
-    record {
-      lawful = lawful-by-test (from old r) (calls r) (h .lawful ∙ ap (λ (p : Played). p .lawful) e);
-      says = h .says ∙ ap (λ (p : Played). p .says) e;
-      part = h .part ∙ ap (λ (p : Played). p .part) e;
-      place = h .place ∙ ap (λ (p : Played). p .place) e;
-      candidates = h .candidates ∙ ap (λ (p : Played). p .candidates) e;
-    }
+    let h = agree (r .sectors) (from old r) blank (r .turns) (r .part) (r .place) (r .candidates) e in
+    record { lawful = lawful-by-test (from old r) (calls r) (h .lawful); says = h .says; part = h .part-left; place = h .place-left; candidates = h .candidates-left }
 
 -- THE PIECES OF A RUN
 

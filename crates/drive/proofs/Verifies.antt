@@ -1,13 +1,14 @@
 -- A VERIFY THAT BRINGS OTHER BYTES IS A CRC ERROR. No lawful run shows it: a surface that answers 0 brings what was written. So it
--- is computed as the starred examples are.
+-- is computed as the starred examples are, and so is a read that is answered 0 twice with different bytes.
 use mathlib.Core.Path.{_≡_, refl}
 use mathlib.Core.List.{List, [], _∷_, _++_}
 use lib.ListN.{replicate}
 use Rattle.drive.specs.declared.Answer.the-variants as answer
+use Rattle.drive.specs.Words.{dataOf}
 use Rattle.drive.specs.Results.{Out}
 use Rattle.drive.specs.Calls.{Call, raise, lower, feed, surface}
 use Rattle.drive.proofs.Computing.{computed}
-use Rattle.drive.proofs.Examples.{ready, run, timeout, Ended}
+use Rattle.drive.proofs.Examples.{ready, run, crc, good, timeout, reading, Ended}
 
 -- a write/verify of sevens to block 0, and the surface's answers to it
 abbrev verifying : List Call → Out
@@ -37,9 +38,11 @@ pub record Verifies : Type 0 where
   pub last-byte : Ended (verifying (done ∷ lastWrong ∷ done ∷ equal ∷ [])) (0x08 ∷ 0 ∷ 0 ∷ 0 ∷ [])
   -- answer 1 fails the attempt even with equal bytes, and two failed attempts lead to a spare
   pub answer-1 : Ended (verifying (done ∷ surface 1 (replicate 532 7) ∷ done ∷ equal ∷ [])) (0x08 ∷ 0 ∷ 0 ∷ 0 ∷ [])
+  -- a read's first good bytes stay, whatever a later good answer brings
+  pub first-good-bytes : dataOf (reading 2 1 (crc ∷ good ∷ surface 0 (replicate 532 8) ∷ []) .bytes) ≡ replicate 532 7
   pub to-a-spare : verifying (done ∷ firstWrong ∷ timeout ∷ []) .step .answer ≡ answer.Write (record { 0 = 4928 })
 
 pub verifies : Verifies
 unfolding computed
 verifies =
-    record { equal-bytes = (refl, refl); first-byte = (refl, refl); middle-byte = (refl, refl); last-byte = (refl, refl); answer-1 = (refl, refl); to-a-spare = refl }
+    record { equal-bytes = (refl, refl); first-byte = (refl, refl); middle-byte = (refl, refl); last-byte = (refl, refl); answer-1 = (refl, refl); first-good-bytes = refl; to-a-spare = refl }
