@@ -1,6 +1,7 @@
 //! The script `workbench`, in a copy of the checkout: what it answers before a proof,
-//! when it proves, and what it does if that fails. The prover is a stand-in that tells
-//! what was asked of it, and so are cargo and the programs where they are slow.
+//! when it proves, and what it does if that fails. Beside it a tool that links the
+//! library. The prover is a stand-in that tells what was asked of it, and so are cargo
+//! and the programs where they are slow.
 
 mod common;
 
@@ -34,14 +35,21 @@ struct Checkout {
     room: PathBuf,
 }
 
-/// Stands in for the prover: makes a library, unless there is a file `wrong`.
+/// Stands in for the prover: makes a library, unless there is a file `wrong` or `empty`.
 const PROVER: &str = r#"
 if [ "$*" = version ]; then cat "$room/kit"; exit; fi
 [ "$*" = "staticlib bumivondra" ] && [ "$PWD" = "$room/checkout" ] || exit 9
 echo proved >>"$room/proofs"
 [ ! -e "$room/wrong" ] || exit 1
+[ ! -e "$room/empty" ] || exit 0
 mkdir -p target/staticlib
 cp "$room/proofs" target/staticlib/libbumivondra.a
+"#;
+
+/// Stands in for cargo: with the library's sum there must be no other folder of it.
+const CARGO: &str = r#"
+[ -z "${BUMIVONDRA_SUM-}" ] || [ -z "${BUMIVONDRA_LIB-}" ] || exit 9
+[ "$1" != run ] || echo "built with the sum $BUMIVONDRA_SUM"
 "#;
 
 /// The folder of the programs in a checkout.
@@ -62,7 +70,7 @@ impl Checkout {
     /// Makes a copy that never builds a program, since stand-ins are there for all.
     fn built(name: &str) -> Checkout {
         let checkout = Checkout::new(name, PROVER);
-        checkout.stand_in("path/cargo", "");
+        checkout.stand_in("path/cargo", CARGO);
         fs::create_dir_all(checkout.file(PROGRAMS)).expect("a folder");
         for (program, lines) in [("usage", "exit 10\n"), ("workbench", "echo \"ran $*\"\n")] {
             checkout.stand_in(&format!("checkout/{PROGRAMS}/{program}"), lines);
@@ -83,10 +91,16 @@ impl Checkout {
 
     /// Runs the script. Says its exit status, its output and its messages.
     fn run(&self, arguments: &[&str]) -> (Option<i32>, String, String) {
+        self.run_script("workbench", arguments)
+    }
+
+    /// Runs a script of the checkout, with another folder named for the library.
+    fn run_script(&self, script: &str, arguments: &[&str]) -> (Option<i32>, String, String) {
         let path = std::env::var("PATH").expect("a path");
         let path = format!("{}:{path}", self.room.join("path").display());
-        let mut command = Command::new(self.file("workbench"));
-        command.env("PATH", path).env_remove("BUMIVONDRA_LIB");
+        let mut command = Command::new(self.file(script));
+        command.env("PATH", path).env_remove("BUMIVONDRA_SUM");
+        command.env("BUMIVONDRA_LIB", self.room.join("elsewhere"));
         let output = ended(command.args(arguments), &self.room, "");
         let text = |bytes| String::from_utf8(bytes).expect("text");
         let status = output.status.code();
@@ -186,6 +200,7 @@ const SOURCE: &str = "crates/geometry/src/lib.rt";
 const DEFINITION: &str = "crates/geometry/specs/Geometry.antt";
 const PROOF: &str = "crates/bumivondra/proofs/Lib.antt";
 const LIBRARY: &str = "target/staticlib/libbumivondra.a";
+const STAMP: &str = "target/staticlib/libbumivondra.sum";
 
 #[test]
 fn the_library_is_proved_when_what_it_is_made_from_has_changed() {
@@ -281,4 +296,91 @@ fn stops(checkout: &Checkout, why: &str) {
     assert_eq!((status, out.as_str()), (Some(3), ""));
     let why = format!("workbench: {why}, so nothing is run\n");
     assert!(message.ends_with(&why), "{message}");
+}
+
+#[test]
+fn a_tool_links_only_a_library_of_the_present_files() {
+    let checkout = Checkout::built("linked");
+    is_not_linked(&checkout, "a fresh checkout");
+    library_is_made(&checkout);
+    is_linked(&checkout);
+    for name in [SOURCE, DEFINITION, PROOF, "crates.txt"] {
+        checkout.append(name);
+        is_not_linked(&checkout, name);
+        library_is_made(&checkout);
+        is_linked(&checkout);
+    }
+    checkout.append("README.md");
+    is_linked(&checkout);
+
+    fs::write(checkout.file(LIBRARY), "of elsewhere").expect("written");
+    is_not_linked(&checkout, "another library");
+    library_is_made(&checkout);
+    fs::remove_file(checkout.file(LIBRARY)).expect("removed");
+    is_not_linked(&checkout, "no library");
+    library_is_made(&checkout);
+    fs::remove_file(checkout.file(STAMP)).expect("removed");
+    is_not_linked(&checkout, "a library of which nothing is known");
+}
+
+#[test]
+fn a_tool_links_no_library_after_a_failed_proof() {
+    for name in ["wrong", "empty"] {
+        let checkout = Checkout::built(name);
+        library_is_made(&checkout);
+        checkout.append(PROOF);
+        fs::write(checkout.room.join(name), "").expect("written");
+        if name == "empty" {
+            fs::remove_file(checkout.file(LIBRARY)).expect("removed");
+        }
+        for proofs in 2..4 {
+            let (status, out, message) = checkout.run_script("tools/library", &[]);
+            assert_eq!((status, out.as_str()), (Some(1), ""), "{message}");
+            assert_eq!(checkout.proofs(), proofs, "{name}");
+            is_not_linked(&checkout, name);
+        }
+    }
+}
+
+#[test]
+fn a_wrong_word_proves_nothing() {
+    let checkout = Checkout::built("word");
+    let (status, out, message) = checkout.run_script("tools/library", &["chekc"]);
+    assert_eq!((status, out.as_str()), (Some(2), ""));
+    assert_eq!(message, "usage: tools/library [check]\n");
+    assert_eq!(checkout.proofs(), 0);
+}
+
+/// Proves the library and writes of what it was made.
+fn library_is_made(checkout: &Checkout) {
+    let (status, _, message) = checkout.run_script("tools/library", &[]);
+    assert_eq!(status, Some(0), "{message}");
+}
+
+/// Checks that a tool goes on to cargo and proves nothing.
+fn is_linked(checkout: &Checkout) {
+    let before = checkout.proofs();
+    let checked = checkout.run_script("tools/library", &["check"]);
+    assert_eq!(checked, (Some(0), String::new(), String::new()));
+    let (status, out, message) = checkout.run_script("tools/fuzz", &[]);
+    assert_eq!(status, Some(0), "{message}");
+    assert!(out.starts_with("built with the sum "), "{out}");
+    assert_eq!(checkout.proofs(), before);
+}
+
+/// Checks that a tool says why it stops before cargo, and proves nothing.
+fn is_not_linked(checkout: &Checkout, why: &str) {
+    let before = checkout.proofs();
+    let wanted = format!(
+        "tools/library: {LIBRARY} is missing or not made from the present files; \
+         prove and build it first: tools/library\n"
+    );
+    for (script, arguments, failed) in
+        [("tools/library", &["check"][..], 1), ("tools/fuzz", &[], 2)]
+    {
+        let (status, out, message) = checkout.run_script(script, arguments);
+        assert_eq!((status, out.as_str()), (Some(failed), ""), "{why}");
+        assert_eq!(message, wanted, "{why}");
+    }
+    assert_eq!(checkout.proofs(), before, "{why}");
 }
