@@ -1,4 +1,12 @@
-//! What the documents show of a plan's output is what the stored output has.
+//! What the documents show of a plan's output is what the stored output has, and the
+//! guide's table has the repository's plans.
+
+mod common;
+
+use std::ffi::OsStr;
+use std::fs;
+
+use common::root;
 
 const README: &str = include_str!("../../../README.md");
 const GUIDE: &str = include_str!("../../../docs/WORKBENCH.md");
@@ -44,4 +52,27 @@ fn the_guide_shows_lines_of_health() {
     let lines = shown(GUIDE, "the output of `plans/health.plan`:\n");
     assert_eq!(lines.len(), 4);
     agree(&lines, include_str!("../../../plans/health.expected"));
+}
+
+#[test]
+fn the_guide_lists_the_plans() {
+    let (_, rest) = GUIDE
+        .split_once("## The repository's plans\n")
+        .expect("a heading");
+    let lines = rest.lines().skip_while(|line| !line.starts_with("| `"));
+    let rows = lines.map_while(|line| line.strip_prefix("| `"));
+    let mut listed: Vec<String> = rows
+        .filter_map(|row| row.split_once('`'))
+        .map(|(name, _)| format!("{name}.plan"))
+        .collect();
+    listed.sort();
+    let entries = fs::read_dir(root().join("plans")).expect("a folder");
+    let files = entries.map(|entry| entry.expect("an entry").path());
+    let mut plans: Vec<String> = files
+        .filter(|file| file.extension() == Some(OsStr::new("plan")))
+        .filter_map(|file| Some(String::from(file.file_name()?.to_str()?)))
+        .collect();
+    plans.sort();
+    assert_eq!(listed, plans);
+    assert_ne!(listed, [""; 0]);
 }

@@ -1,4 +1,6 @@
-//! What the tests of the command share.
+//! What the tests share.
+
+#![allow(dead_code)] // each test needs a part of it
 
 use std::fs;
 use std::io::Write;
@@ -17,7 +19,6 @@ pub fn root() -> PathBuf {
 }
 
 /// Finds the workbench that is tested.
-#[allow(dead_code)] // the script's tests run the script
 pub fn program() -> PathBuf {
     from_cargo("CARGO_BIN_EXE_workbench")
 }
