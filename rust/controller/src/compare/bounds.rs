@@ -6,13 +6,13 @@ use std::vec::Vec;
 use super::damage;
 use crate::raw::{self, kind, BADS, DEAD, SPARES};
 
-/// The first block that is none, and the first sector.
+/// The numbers after the last block and the last sector.
 const NO_BLOCK: u16 = 9728;
 const NO_SECTOR: u32 = 9792;
 
 const LAST_SPARE: u32 = 4959;
 
-/// All of them.
+/// Makes the records of every clause in every phase.
 pub fn records() -> Vec<raw::Drive> {
     let mut records = Vec::new();
     for sound in damage::sound_ones().into_iter().map(full) {
@@ -27,7 +27,7 @@ pub fn records() -> Vec<raw::Drive> {
     records
 }
 
-/// The record with its lists as long as they can be.
+/// Returns the record with its lists as long as they can be.
 fn full(mut drive: raw::Drive) -> raw::Drive {
     drive.nbads = BADS;
     drive.nspares = SPARES;
@@ -107,7 +107,7 @@ impl Made {
         }
     }
 
-    /// What the kind of the awaited access has.
+    /// Adds the records of the awaited access's clauses.
     fn access(&mut self) {
         match self.sound.stage.kind {
             kind::START => self.details([10, 11]),

@@ -104,7 +104,7 @@ const fn side(
     }
 }
 
-/// Just inside.
+/// Lists the sides that no call refuses.
 const AT: &[Side] = &[
     side("spares.count-32", NO_TRIAL, |d| d.nspares == 32),
     side("spares.first-9727", ALL, |d| first(spares(d)) == Some(9727)),
@@ -148,7 +148,7 @@ const AT: &[Side] = &[
     side("trial.listed-31-spare-31", TRIAL, |d| trial(d, 31, 4959)),
 ];
 
-/// Just outside.
+/// Lists the sides that every call but start refuses.
 const BEYOND: &[Side] = &[
     side("spares.count-33", NO_TRIAL, |d| d.nspares == 33),
     side("spares.first-9728", ALL, |d| first(spares(d)) == Some(9728)),
@@ -228,7 +228,7 @@ fn last_bad(drive: &raw::Drive) -> Option<u16> {
     bads(drive).get(BADS - 1).copied()
 }
 
-/// What stands in the last place if it alone is unused.
+/// Returns the last place's number if only that place is unused.
 fn unused_spare(drive: &raw::Drive) -> Option<u16> {
     (drive.nspares == SPARES - 1).then_some(drive.spares[SPARES - 1])
 }
@@ -289,7 +289,7 @@ fn named(which: &str, side: &Side, phase: &str) -> String {
     format!("{which}.{}.{phase}", side.name)
 }
 
-/// All names.
+/// Returns all names.
 pub fn names() -> Vec<String> {
     let all = |which, sides: &[Side]| -> Vec<String> {
         let names = |side: &Side| -> Vec<String> {
