@@ -2,7 +2,7 @@
 -- are one byte and zeros here.
 use mathlib.Core.Path.{_≡_, refl, ap, sym}
 use mathlib.Core.Logic.{inl, inr}
-use mathlib.Core.Bool.{Bool, true, false, not, _&&_, _||_}
+use mathlib.Core.Bool.{Bool, true, false, cond, not, _&&_, _||_}
 use mathlib.Core.List.{List, [], _∷_, _++_}
 use Prim.Native.Nat.{ℕ}
 use borrow.Author.Tests.{eq-eqb, eqb-true}
@@ -31,7 +31,7 @@ AtLast start H [] = Unit {0}
 AtLast start H (o ∷ []) = Fits H o × Apart (next start H o .place)
 AtLast start H (o ∷ p ∷ os) = AtLast start (next start H o) (p ∷ os)
 
-pub at-last : (start : Sectors) (H : History) (os : List Entry) → Allows start H os → AtLast start H os
+at-last : (start : Sectors) (H : History) (os : List Entry) → Allows start H os → AtLast start H os
 at-last start H [] a = tt
 at-last start H (o ∷ []) a = (a .0, a .1)
 at-last start H (o ∷ p ∷ os) a = at-last start (next start H o) (p ∷ os) (a .2)
@@ -97,14 +97,20 @@ found spares = says (surface 0 (imageOf spares [])) answer.Wait ∷ []
 abbrev foundNone : List Entry
 foundNone = says (surface 1 (imageOf [] [])) (reads 4960) ∷ says (gives 9) answer.Wait ∷ []
 
--- a read of block n, and a write of a byte to block 17, each to the offer after which it is acted on
+-- a read of block n, up to the offer after which it is acted on
 abbrev asksRead : ℕ → List Entry
 asksRead n = offers offer.Command ∷ says go answer.Wait ∷ says (feed (command 0 n (2 ∷ 2 ∷ []))) answer.Wait ∷ offers offer.Read ∷ []
 
+-- a write to block n, up to offer 03
+abbrev opensWrite : ℕ → List Entry
+opensWrite n = offers offer.Command ∷ says go answer.Wait ∷ says (feed (command 1 n [])) answer.Wait ∷ offers offer.Write ∷ []
+
+-- a write of a byte to block n, and to block 17, up to the offer after which it is acted on
+abbrev asksWriteTo : ℕ → ℕ → List Entry
+asksWriteTo n v = opensWrite n ++ (says go answer.Wait ∷ says (feed (v ∷ [])) answer.Wait ∷ offers offer.Act ∷ [])
+
 abbrev asksWrite : ℕ → List Entry
-asksWrite v =
-    offers offer.Command ∷ says go answer.Wait ∷ says (feed (command 1 17 [])) answer.Wait ∷ offers offer.Write ∷ says go answer.Wait
-    ∷ says (feed (v ∷ [])) answer.Wait ∷ offers offer.Act ∷ []
+asksWrite v = asksWriteTo 17 v
 
 -- whole commands for block 17, reported good
 abbrev readsGood : ℕ → List Entry
@@ -117,6 +123,24 @@ writesGood v = asksWrite v ++ (says go (writes 17) ∷ ends done 0x00 0x00 v ∷
 abbrev movesInVain : List Entry
 movesInVain = asksRead 17 ++ (says go (reads 17) ∷ says (garbles 9) (reads 4928) ∷ ends timesOut 0x0D 0x00 7 ∷ [])
 
+-- CANDIDATES
+
+pub the-second-candidate : In (block 1) (block 2 ∷ block 1 ∷ [])
+the-second-candidate = inr (inl refl)
+
+pub no-candidate : In (block 9) (block 2 ∷ block 1 ∷ []) → ⊥
+no-candidate (inl e) = differ 9 2 refl (ap byteOf e)
+no-candidate (inr (inl e)) = differ 9 1 refl (ap byteOf e)
+no-candidate (inr (inr e)) = e
+
+-- Only the last of the 532 bytes is another.
+abbrev sevenAndOne : Bytes
+sevenAndOne = 7 ∷ replicate 530 0 ++ (1 ∷ [])
+
+pub no-candidate-by-its-last-byte : In sevenAndOne (block 7 ∷ []) → ⊥
+no-candidate-by-its-last-byte (inl e) = differ 1 0 refl (ap (λ (x : Bytes). getD x 531 0) e)
+no-candidate-by-its-last-byte (inr e) = e
+
 -- GOOD READS
 
 -- Nobody wrote the nine.
@@ -125,7 +149,7 @@ neverWritten = found [] ++ readsGood 9
 
 pub bytes-never-written : Allows sevens blank neverWritten → ⊥
 unfolding computed
-bytes-never-written a = not-the-one 9 7 refl (at-last sevens blank neverWritten a .0 .read-rule refl)
+bytes-never-written a = not-the-one 9 7 refl (a .2 .2 .2 .2 .2 .2 .0 .read-rule refl)
 
 -- The nine came with answer 1, and the read is reported good with the bit of a CRC error.
 abbrev garbledKept : List Entry
@@ -196,9 +220,8 @@ bytes-of-a-write-that-finished-twice a = not-the-one 1 7 refl (at-last sevens bl
 -- The one was not taken, so zeros were written.
 abbrev fedInVain : List Entry
 fedInVain =
-    found []
-    ++ (offers offer.Command ∷ says go answer.Wait ∷ says (feed (command 1 17 [])) answer.Wait ∷ offers offer.Write ∷ says go answer.Wait ∷ [])
-    ++ (says (feed (1 ∷ [])) (answer.Refused refusal.Bytes) ∷ offers offer.Act ∷ says go (writes 17) ∷ ends done 0x00 0x00 1 ∷ [])
+    found [] ++ opensWrite 17
+    ++ (says go answer.Wait ∷ says (feed (1 ∷ [])) (answer.Refused refusal.Bytes) ∷ offers offer.Act ∷ says go (writes 17) ∷ ends done 0x00 0x00 1 ∷ [])
     ++ readsGood 1
 
 pub bytes-of-a-refused-feed : Allows sevens blank fedInVain → ⊥
@@ -262,7 +285,7 @@ pub bytes-never-written-with-the-sparing-bit : Allows sevens blank movedWithNine
 unfolding computed
 bytes-never-written-with-the-sparing-bit a = not-the-one 9 7 refl (at-last sevens blank movedWithNines a .0 .read-rule refl)
 
--- A handshake byte other than 55 comes between the write s and the finish. So the write is not reported.
+-- After the write s a handshake byte other than 55 is answered finished. So the write is not reported.
 abbrev byteInBetween : List Entry
 byteInBetween = found [] ++ asksWrite 1 ++ (says go (writes 17) ∷ ends (lower 0x00) 0x00 0x00 1 ∷ []) ++ readsGood 1
 
@@ -282,20 +305,12 @@ pub bytes-that-a-failed-write-left-in-the-buffer : Allows sevens blank failedLef
 unfolding computed
 bytes-that-a-failed-write-left-in-the-buffer a = not-the-two 9 1 7 refl refl (at-last sevens blank failedLeft a .0 .read-rule refl)
 
--- Only the last of the 532 bytes is another.
-abbrev sevenAndOne : Bytes
-sevenAndOne = 7 ∷ replicate 530 0 ++ (1 ∷ [])
-
 abbrev lastByteWrong : List Entry
 lastByteWrong = found [] ++ asksRead 17 ++ (says go (reads 17) ∷ shows sevenAndOne (surface 0 sevenAndOne) answer.Finished ∷ [])
 
-not-at-last : In sevenAndOne (block 7 ∷ []) → ⊥
-not-at-last (inl e) = differ 1 0 refl (ap (λ (x : Bytes). getD x 531 0) e)
-not-at-last (inr e) = e
-
 pub bytes-with-the-last-one-wrong : Allows sevens blank lastByteWrong → ⊥
 unfolding computed
-bytes-with-the-last-one-wrong a = not-at-last (at-last sevens blank lastByteWrong a .0 .read-rule refl)
+bytes-with-the-last-one-wrong a = no-candidate-by-its-last-byte (at-last sevens blank lastByteWrong a .0 .read-rule refl)
 
 -- Another block holds the image of a table. To read it is not to read the table.
 abbrev imageElsewhere : List Entry
@@ -322,6 +337,65 @@ beforeTheTable = foundNone ++ asksRead 17 ++ (ends go 0x00 0x00 7 ∷ [])
 pub a-good-read-before-any-table : Allows sevens blank beforeTheTable → ⊥
 unfolding computed
 a-good-read-before-any-table a = at-last sevens blank beforeTheTable a .0 .read-rule refl
+
+-- A second 55 breaks nothing off, so the write is reported good.
+abbrev secondGo : List Entry
+secondGo = found [] ++ asksWrite 1 ++ (says go (writes 17) ∷ says go answer.Wait ∷ ends done 0x00 0x00 1 ∷ []) ++ readsGood 7
+
+pub old-bytes-after-a-second-55 : Allows sevens blank secondGo → ⊥
+unfolding computed
+old-bytes-after-a-second-55 a = not-the-one 7 1 refl (at-last sevens blank secondGo a .0 .read-rule refl)
+
+-- A raise acts on no command, so its finish reports nothing.
+abbrev raisedInstead : List Entry
+raisedInstead = found [] ++ asksWrite 1 ++ (ends raise 0x00 0x00 1 ∷ []) ++ readsGood 1
+
+pub bytes-of-a-write-that-a-raise-finished : Allows sevens blank raisedInstead → ⊥
+unfolding computed
+bytes-of-a-write-that-a-raise-finished a = not-the-one 1 7 refl (at-last sevens blank raisedInstead a .0 .read-rule refl)
+
+-- The lower with 55 after offer 03 acts on no command either.
+abbrev tooEarly : List Entry
+tooEarly = found [] ++ opensWrite 17 ++ (ends go 0x00 0x00 0 ∷ []) ++ readsGood 0
+
+pub bytes-of-a-write-finished-before-its-data : Allows sevens blank tooEarly → ⊥
+unfolding computed
+bytes-of-a-write-finished-before-its-data a = not-the-one 0 7 refl (at-last sevens blank tooEarly a .0 .read-rule refl)
+
+-- A store reports nothing, and the write failed with no write s.
+abbrev storedOnly : List Entry
+storedOnly = found [] ++ asksWrite 1 ++ (says go answer.Store ∷ ends timesOut 0x05 0x00 1 ∷ []) ++ readsGood 1
+
+pub bytes-of-a-write-that-only-stored : Allows sevens blank storedOnly → ⊥
+unfolding computed
+bytes-of-a-write-that-only-stored a = not-the-one 1 7 refl (at-last sevens blank storedOnly a .0 .read-rule refl)
+
+-- An image comes while no read is awaited: it is no table.
+abbrev imageUnasked : List Entry
+imageUnasked = found [] ++ writesGood 1 ++ (says (surface 0 (imageOf [] [])) answer.Wait ∷ []) ++ readsGood 7
+
+pub old-bytes-after-an-image-not-asked-for : Allows sevens blank imageUnasked → ⊥
+unfolding computed
+old-bytes-after-an-image-not-asked-for a = not-the-one 7 1 refl (at-last sevens blank imageUnasked a .0 .read-rule refl)
+
+-- The one was written to block 18.
+abbrev writtenBeside : List Entry
+writtenBeside = found [] ++ asksWriteTo 18 1 ++ (says go (writes 18) ∷ ends done 0x00 0x00 1 ∷ []) ++ readsGood 1
+
+pub bytes-of-a-write-to-another-block : Allows sevens blank writtenBeside → ⊥
+unfolding computed
+bytes-of-a-write-to-another-block a = not-the-one 1 7 refl (at-last sevens blank writtenBeside a .0 .read-rule refl)
+
+-- The table has block 17 at spare 0, which holds an eight. Its home holds a seven.
+abbrev eightAtSpare : Sectors
+eightAtSpare = λ s. held (block (cond (eqb (s .0) 4928) 8 7))
+
+abbrev homeOfAMovedBlock : List Entry
+homeOfAMovedBlock = found (17 ∷ []) ++ asksRead 17 ++ (says go (reads 4928) ∷ ends (gives 7) 0x00 0x00 7 ∷ [])
+
+pub bytes-of-the-home-of-a-moved-block : Allows eightAtSpare blank homeOfAMovedBlock → ⊥
+unfolding computed
+bytes-of-the-home-of-a-moved-block a = not-the-one 7 8 refl (at-last eightAtSpare blank homeOfAMovedBlock a .0 .read-rule refl)
 
 -- FIRST ACCESSES
 
@@ -429,7 +503,7 @@ shared = found [] ++ asksRead 17 ++ (says go (reads 17) ∷ says (garbles 9) (re
 
 pub two-blocks-at-one-sector : Allows sevens blank shared → ⊥
 unfolding computed
-two-blocks-at-one-sector a = differ 17 18 refl (ap (λ (b : Block). b .0) (at-last sevens blank shared a .1 (record { 0 = 17 }) (record { 0 = 18 }) (record { 0 = 18 }) refl refl refl refl))
+two-blocks-at-one-sector a = differ 17 18 refl (ap (λ (b : Block). b .0) (a .2 .2 .2 .2 .2 .2 .2 .1 (record { 0 = 17 }) (record { 0 = 18 }) (record { 0 = 18 }) refl refl refl refl))
 
 -- WHAT IT DOES NOT FORBID
 
@@ -469,7 +543,7 @@ if-so : (a b : Bool) → (not a || b) ≡ true → a ≡ true → b ≡ true
 if-so true b h e = h
 if-so false b h e = clash e refl
 
-pub fits-by-test : (H : History) (o : Entry) → passes H o ≡ true → Fits H o
+fits-by-test : (H : History) (o : Entry) → passes H o ≡ true → Fits H o
 fits-by-test H o h =
     let found = isIn (dataOf (o .buffer)) (H .candidates (blockOf (H .command))) in
     let there = isThere (H .place (blockOf (H .command))) (orElse (readAsked (o .answer)) (writeAsked (o .answer))) in
@@ -496,13 +570,42 @@ all-fit start H (o ∷ os) h = (
   all-fit start (next start H o) os (and-right (passes H o) (allPass start (next start H o) os) h),
 )
 
--- A failed read leaves bytes that nobody wrote, after an access away from its block's sector. A good write's bytes were no
+-- The start reads 4960 once more, which is no access of a command. A failed read leaves bytes that nobody wrote, after an access
+-- away from its block's sector. So does a read of a number of no block, which is reported of none. A good write's bytes were no
 -- candidate. After a failed write the older bytes are read, and then the same again.
 abbrev fitting : List Entry
 fitting =
-    found [] ++ asksRead 17 ++ (says go (reads 17) ∷ says (garbles 9) (reads 4928) ∷ ends timesOut 0x0D 0x00 9 ∷ [])
+    (says timesOut (reads 4960) ∷ []) ++ found []
+    ++ asksRead 17 ++ (says go (reads 17) ∷ says (garbles 9) answer.Wait ∷ says timesOut (reads 4928) ∷ ends timesOut 0x0D 0x00 9 ∷ [])
+    ++ asksRead 0xFFFFFE ++ (ends go 0x00 0x00 9 ∷ [])
     ++ writesGood 1 ++ asksWrite 2 ++ (says go (writes 17) ∷ ends timesOut 0x05 0x00 2 ∷ []) ++ readsGood 1 ++ readsGood 1
 
 pub a-list-that-fits : AllFit sevens blank fitting
 unfolding computed
 a-list-that-fits = all-fit sevens blank fitting refl
+
+-- Of 533 threes fed the last is cut.
+abbrev threes : Bytes
+threes = replicate 532 3
+
+abbrev oneTooMany : List Entry
+oneTooMany =
+    found [] ++ opensWrite 17
+    ++ (says go answer.Wait ∷ says (feed (3 ∷ threes)) answer.Wait ∷ offers offer.Act ∷ says go (writes 17) ∷ shows threes done answer.Finished ∷ [])
+    ++ asksRead 17 ++ (says go (reads 17) ∷ shows threes (surface 0 threes) answer.Finished ∷ [])
+
+pub a-byte-too-many-fits : AllFit sevens blank oneTooMany
+unfolding computed
+a-byte-too-many-fits = all-fit sevens blank oneTooMany refl
+
+-- What the surface brings is not fed: it joins neither the command nor the data.
+abbrev broughtInBetween : List Entry
+broughtInBetween =
+    found []
+    ++ (offers offer.Command ∷ says go answer.Wait ∷ says (gives 9) answer.Wait ∷ says (feed (command 1 17 [])) answer.Wait ∷ offers offer.Write ∷ [])
+    ++ (says go answer.Wait ∷ says (gives 9) answer.Wait ∷ says (feed (1 ∷ [])) answer.Wait ∷ offers offer.Act ∷ [])
+    ++ (says go (writes 17) ∷ ends done 0x00 0x00 1 ∷ []) ++ readsGood 1
+
+pub bytes-brought-between-feeds-fit : AllFit sevens blank broughtInBetween
+unfolding computed
+bytes-brought-between-feeds-fit = all-fit sevens blank broughtInBetween refl

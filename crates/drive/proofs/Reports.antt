@@ -44,7 +44,7 @@ pub a-write-that-is-not-made-is-not-told : (old : Drive) → toldOf 17 old latch
 unfolding computed reportOf
 a-write-that-is-not-made-is-not-told old = refl
 
--- of each block its own
+-- Reports of each block what its own commands did.
 pub of-block-17 : (old : Drive) → toldOf 17 old threeBlocks ≡ found (bytes 7 ∷ []) ∷ written (bytes 1) ∷ given (bytes 1) ∷ []
 unfolding computed reportOf
 of-block-17 old = refl
@@ -62,7 +62,7 @@ pub an-unreadable-sector-is-not-found : (old : Drive) → toldOf 17 old spoiledA
 unfolding computed reportOf
 an-unreadable-sector-is-not-found old = refl
 
--- The image of a table in a call that was refused.
+-- Brings a table's image in a refused call: nothing is found.
 pub a-refused-call-reports-nothing :
     reportOf (record { 0 = 17 }) (disk [] []) blank (record { call = surface 0 (imageOf [] []); answer = answer.Refused refusal.Buffer; buffer = [] }) ≡ nothing
 unfolding computed reportOf

@@ -12,7 +12,7 @@ use Rattle.drive.specs.Calls.{Call, raise, surface, startOf}
 use Rattle.drive.specs.History.{Content, held, unreadable, Sectors}
 use Rattle.drive.specs.Run.{Event, World, after, Permits, made, Lawful, begins}
 use Rattle.drive.proofs.Computing.{computed}
-use Rattle.drive.proofs.Transcripts.{Turn, _⇒_, _⇏_, offer, read, write, wait, finished, events, bytes, disk, go, done, gives, garbles, timesOut, found, opens, asksRead, asksWrite}
+use Rattle.drive.proofs.Transcripts.{Turn, _⇒_, _⇏_, offer, read, write, finished, refused, events, bytes, disk, go, done, gives, garbles, timesOut, found, opens, asksRead, asksWrite}
 
 -- what the rules ask at the last call of a list
 abbrev AtLast : World → List Event → Type 0
@@ -20,7 +20,7 @@ AtLast w [] = Unit {0}
 AtLast w (e ∷ []) = Permits w e (made w e)
 AtLast w (e ∷ f ∷ es) = AtLast (after w e (made w e)) (f ∷ es)
 
-pub at-last : (w : World) (es : List Event) → Lawful w es → AtLast w es
+at-last : (w : World) (es : List Event) → Lawful w es → AtLast w es
 at-last w [] a = tt
 at-last w (e ∷ []) a = a .0
 at-last w (e ∷ f ∷ es) a = at-last (after w e (made w e)) (f ∷ es) (a .1)
@@ -61,7 +61,15 @@ lies = found [] [] ++ readOf17 ++ (gives 9 ⇒ finished 0x00 0x00 0x80 0 ∷ [])
 
 pub answer-0-with-other-bytes : (old : Drive) → LawfulRun old sevens lies → ⊥
 unfolding computed
-answer-0-with-other-bytes old l = differ 7 9 refl (ap firstByte (at-last (from old sevens) (events lies) l))
+answer-0-with-other-bytes old l = differ 7 9 refl (ap firstByte (l .1 .1 .1 .1 .1 .1 .0))
+
+-- So they do not come to the start's read of 4960 either.
+abbrev sevensAlone : Sectors
+sevensAlone = λ s. held (bytes 7)
+
+pub answer-0-with-other-bytes-at-the-start : (old : Drive) → LawfulRun old sevensAlone (gives 9 ⇒ read 4960 ∷ []) → ⊥
+unfolding computed
+answer-0-with-other-bytes-at-the-start old l = differ 7 9 refl (ap firstByte (l .0))
 
 -- The write done left its bytes, so the old ones cannot come.
 abbrev staleAnswer : List Turn
@@ -99,6 +107,6 @@ pub answer-1-with-any-bytes : (old : Drive) (sectors : Sectors) → LawfulRun ol
 unfolding computed
 answer-1-with-any-bytes old sectors = (tt, (tt, tt))
 
-pub a-refused-answer-and-a-raise : (old : Drive) (sectors : Sectors) → LawfulRun old sectors (surface 0 (9 ∷ []) ⇒ read 4960 ∷ raise ⇒ wait ∷ [])
+pub a-refused-answer-and-a-raise : (old : Drive) (sectors : Sectors) → LawfulRun old sectors (surface 0 (9 ∷ []) ⇒ refused 5 ∷ raise ⇒ refused 3 ∷ [])
 unfolding computed
 a-refused-answer-and-a-raise old sectors = (tt, (tt, tt))

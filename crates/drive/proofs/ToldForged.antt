@@ -17,6 +17,9 @@ one = 1 ∷ []
 abbrev two : Bytes
 two = 2 ∷ []
 
+abbrev three : Bytes
+three = 3 ∷ []
+
 -- reports from the start on
 abbrev Told : List Report → Type 0
 Told rs = Right [] none rs
@@ -56,9 +59,13 @@ as-found = (inl refl, tt, (inl refl, refl, tt))
 pub as-written : Told (found (one ∷ []) ∷ given one ∷ written two ∷ given two ∷ [])
 as-written = (inl refl, tt, (inl refl, tt, tt))
 
--- after a failed write either, and the old bytes too after they had been read
+-- After a failed write: the older bytes, or its own, though the older had been read.
 pub as-before-a-failed-write : Told (found (one ∷ []) ∷ attempted two ∷ given one ∷ [])
 as-before-a-failed-write = (inr (inl refl), tt, tt)
 
 pub as-of-a-failed-write : Told (written one ∷ given one ∷ attempted two ∷ given two ∷ given two ∷ [])
 as-of-a-failed-write = (inl refl, tt, (inl refl, tt, (inl refl, refl, tt)))
+
+-- After two failed writes: the oldest bytes, though those of the first had been read.
+pub as-before-two-failed-writes : Told (found (one ∷ []) ∷ attempted two ∷ given two ∷ attempted three ∷ given one ∷ [])
+as-before-two-failed-writes = (inl refl, tt, (inr (inr (inl refl)), tt, tt))
