@@ -3,11 +3,11 @@
 -- is shut out by Status4.
 use mathlib.Core.Path.{_≡_, refl, sym, ap, subst, _∙_}
 use mathlib.Core.Bool.{Bool, true, false, cond, not, _&&_}
-use mathlib.Core.List.{List, [], _++_}
+use mathlib.Core.List.{List, [], _∷_, _++_}
 use Prim.Native.Nat.{ℕ, _+_, _≤_}
 use native.Mathlib.Omega.{arith}
 use lib.Dec.{eqb, ltb}
-use lib.ListN.{length, getD}
+use lib.ListN.{length, getD, take}
 use borrow.Author.Tests.{eqb-true, eq-eqb, ne-eqb, ltb-false, le-ltb}
 use Rattle.geometry.specs.Geometry.{isBlock}
 use Rattle.geometry.specs.declared.Block.{Block}
@@ -43,9 +43,12 @@ use Rattle.drive.specs.Sparing.{nextAttempt, missed, brokenOff, verified, tried
 use Rattle.drive.specs.Access.{toRead, keptData, lost, settled, reads, readAnswered, writeAnswered, answered}
 use Rattle.drive.specs.Calls.{lower, surface, lowerOf, surfaceOf, stepOf}
 use Rattle.drive.specs.History.{bit, isFinished, good}
+use Rattle.drive.specs.Over.{Reply, command, Completes}
+use Rattle.drive.specs.Status4.{failures, numbers, leftBy}
 use Rattle.demands.proofs.Statuses.{fails, good-is}
 use Rattle.demands.proofs.Sim.{Ln}
 use Rattle.demands.proofs.Valid.{step-valid}
+use Rattle.demands.proofs.Status4.{status-4}
 
 -- a result that is finished, and good by its status 1
 abbrev pub Fine : Result → Bool
@@ -257,6 +260,11 @@ module _ (t : Table) (mk : Marks) (c u bs : List ℕ) (n f : ℕ)
   pub gives-it : surfaceOf (asked .step .drive) u 0 bs ≡ outOf t bs (finish (asked .step .drive .line) mk change.Keep ending.Good clean (withData u bs))
   unfolding surfaceOf
   gives-it = rw (asked-ok, eq-eqb (length u) 536 lu) (ap (outOf t bs) (first-good _ (asked .step .drive .line) t u bs refl refl lb))
+
+  -- However it ends, its status 4 is the number of the R rereads answered 1 or 2, R being the fifth byte of the command.
+  pub status-4-of-it : (x : Reply) (xs : List Reply) → Completes command (asked .step .drive) u (x ∷ xs)
+      → getD (leftBy (asked .step .drive) u (x ∷ xs)) 3 0 ≡ failures (take (retriesOf c) (numbers xs))
+  status-4-of-it x xs h = status-4 (asked .step .drive) u _ x xs (record { phase = refl; first = refl; clean = refl }) h
 
 -- ACTING ON A COMMAND DEPENDS ON ITS OWN OPCODE, NUMBER, R, T AND COUNT OF DATA BYTES, ON TABLE, MARKS AND BUFFER, and on nothing
 -- else: two lines that differ in all else give the same answer, bytes, change of the table, phase and marks.

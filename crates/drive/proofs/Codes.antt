@@ -58,7 +58,7 @@ pub record Code1 : Type 0 where
   -- "more than 6 command or 533 data bytes counted"
   pub command-bytes : Passes (with (table [] 0 [] 0) true 6 0 phase.Command) × Fails (with (table [] 0 [] 0) true 7 0 phase.Command)
   pub data-bytes : Passes (with (table [] 0 [] 0) true 0 533 phase.Data) × Fails (with (table [] 0 [] 0) true 0 534 phase.Data)
-  -- in every phase in which nothing is awaited
+  -- both counts are tested where nothing is awaited
   pub idle : Passes (at false phase.Idle) × Fails (with (table [] 0 [] 0) false 7 0 phase.Idle)
   pub offered : Passes (at false (phase.Offered offer.Act)) × Fails (with (table [] 0 [] 0) false 0 534 (phase.Offered offer.Act))
   -- "start reads above 10"; a start has no table
@@ -144,7 +144,7 @@ codeOfImage d n = codeIn (imageOutOf d (replicate n 0) .step .answer)
 abbrev broken : Drive
 broken = lists (9728 ∷ []) 1 [] 0
 
--- the start's read awaited
+-- a record that awaits the start's first read
 abbrev starting : Drive
 starting = at false (phase.Starting 1)
 

@@ -1,4 +1,4 @@
--- What a computation of the calls and of the history has to see through.
+-- Names all that a computation of the calls and of the history unfolds.
 use Rattle.geometry.specs.Geometry.{homeOf}
 use Rattle.lists.specs.Lists.{indexOf, memberOf, entryOk, entriesOk}
 use Rattle.table.specs.Tables.{listsOk, sectorOf, listed, killedNext, withBad, removed, withoutBad}

@@ -31,7 +31,7 @@ pub reached-end : Ended (run (begun .step .drive) (begun .bytes) longest) (0x09 
 unfolding computed
 reached-end = (refl, refl)
 
--- the bound speaks of it
+-- Applies the bound to it.
 pub within-the-bound : Demand1Bound → accesses (begun .step .drive) (begun .bytes) longest ≤ 478
 unfolding computed
 within-the-bound bound = bound (begun .step .drive) (begun .bytes) longest refl
@@ -51,7 +51,7 @@ pub a-plain-write-is-one-access : accesses (writing .step .drive) (writing .byte
 unfolding computed accesses
 a-plain-write-is-one-access = refl
 
--- An answer of no code, bytes of a wrong length and a call out of place come between.
+-- An answer above 3, bytes of a wrong length and a call out of place come between.
 pub refused-calls-are-not-counted :
     accesses (begun .step .drive) (begun .bytes) (crc ∷ surface 4 [] ∷ crc ∷ surface 0 [] ∷ crc ∷ raise ∷ crc ∷ []) ≡ 4
 unfolding computed accesses

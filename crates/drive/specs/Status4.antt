@@ -25,7 +25,7 @@ abbrev pub leftBy : Drive → List ℕ → List Reply → List ℕ
 leftBy d u [] = u
 leftBy d u (x ∷ xs) = leftBy (replied d u x .step .drive) (replied d u x .bytes) xs
 
--- Says that the first read of a read command is awaited; left is R then.
+-- Says that the first read of a read command is awaited. Acting on the command has put R into left.
 pub record AwaitsFirst (d : Drive) (r : Retry) : Type 0 where
   pub phase : d .line .phase ≡ phase.Reading r
   pub first : r .first ≡ true
