@@ -216,6 +216,23 @@ static void show(struct bv_reply reply)
     }
 }
 
+/* Prints the spare list as the table's image has it. */
+static void show_spares(void)
+{
+    uint8_t image[BV_SECTOR_BYTES];
+    if (bv_image(&drive, image, sizeof image).kind != BV_WAIT)
+        abort();
+    printf("spares %u:", image[24]);
+    for (const uint8_t *entry = image + 26; entry < image + 26 + 3 * image[24]; entry += 3) {
+        uint32_t block = (uint32_t)entry[0] << 16 | entry[1] << 8 | entry[2];
+        if (block == 0xFFFFFE)
+            printf(" dead");
+        else
+            printf(" %u", block);
+    }
+    printf("\n");
+}
+
 int main(void)
 {
     format_disk();
@@ -231,13 +248,7 @@ int main(void)
     const uint8_t *health = buffer + BV_DATA;
     printf("health: %u spares unused, %u bad blocks, latch %u, unstored %u\n", health[BV_HEALTH_UNUSED],
            health[BV_HEALTH_BADS], health[BV_HEALTH_LATCH], health[BV_HEALTH_UNSTORED]);
-    printf("spares %zu:", drive.nspares);
-    for (size_t k = 0; k < drive.nspares; k++) {
-        if (drive.spares[k] == BV_DEAD_SPARE)
-            printf(" dead");
-        else
-            printf(" %u", drive.spares[k]);
-    }
-    printf("\n");
+    printf("table %d, unstored %d, latch %d\n", bv_has_table(&drive), bv_has_unstored(&drive), bv_is_latched(&drive));
+    show_spares();
     return 0;
 }

@@ -8,16 +8,18 @@
  *
  * WHAT IS PROMISED. For every record, every buffer and every argument a call answers as document 01 with
  * requests 1 to 3 of document 02 defines it, changes the record and the buffer as it defines, reads and
- * writes nothing else, and ends. No call waits, allocates, or keeps a pointer.
+ * writes nothing else, and ends. A refused call writes nothing at all, so that record and buffer may be
+ * write-protected during it. No call waits, allocates, or keeps a pointer.
  *
  * WHAT THE CALLER OWES, and no call can test:
- *   - `drive` points to a struct bv_drive, aligned as C aligns it;
+ *   - `drive` points to a struct bv_drive, of any content, aligned as C aligns it;
  *   - `buf` points to at least `len` bytes that may be written, `bytes` to at least `n` bytes;
  *   - the record, the buffer and the bytes do not overlap;
  *   - no pointer is null, not even where its count is 0 (pass the buffer's, say; nothing is read);
  *   - one call at a time on one record.
  * For the promise that each good read gives the right bytes it also hands record and buffer on
- * unaltered from call to call, after a bv_start that was not refused. */
+ * unaltered from call to call, after a bv_start that was not refused: proved of every such list of calls
+ * (crates/bumivondra/specs). */
 #ifndef BUMIVONDRA_H
 #define BUMIVONDRA_H
 
@@ -45,7 +47,6 @@ enum {
     BV_SPARES = 32,         /* the most entries of the spare list */
     BV_BADS = 100,          /* the most entries of the bad list */
     BV_TABLE_SECTOR = 4960, /* the sector of the table */
-    BV_DEAD_SPARE = 0xFFFE, /* the entry of a dead spare in bv_drive.spares */
     BV_MOST_ACCESSES = 478  /* a command is over after at most so many accesses */
 };
 
@@ -69,7 +70,7 @@ enum {
 /* The byte with which the host goes on; any other breaks off. */
 enum { BV_GO_ON = 0x55 };
 
-/* Response bytes: the value of BV_OFFER, and the detail of BV_AT_OFFER. */
+/* Response bytes: the value of BV_OFFER. */
 enum {
     BV_OFFER_COMMAND = 0x01, /* to take a command */
     BV_OFFER_READ = 0x02,    /* to read a block */
@@ -119,8 +120,8 @@ enum {
     BV_READ = 2,     /* read sector `value`, then call bv_surface with what came */
     BV_WRITE = 3,    /* write the data part, buf + BV_DATA, to sector `value`, then call bv_surface */
     BV_STORE = 4,    /* write bv_image's 532 bytes to BV_TABLE_SECTOR, then call bv_surface */
-    BV_FINISHED = 5, /* a command is over: the status bytes stand in the buffer */
-    BV_REFUSED = 6   /* the call is refused with code `value`; record and buffer are as they were */
+    BV_FINISHED = 5, /* a command is over: the status bytes are in the buffer */
+    BV_REFUSED = 6   /* the call is refused with code `value`; nothing was written */
 };
 
 /* Why a call is refused. They are tested in this order; of them bv_start knows BV_BAD_BUFFER alone. */
@@ -133,93 +134,60 @@ enum {
     BV_BAD_BYTES = 5   /* bv_surface: n is not 532 with a read's answer 0 or 1, or not 0 otherwise */
 };
 
-/* THE RECORD. The board keeps it and need not look into it. */
+/* THE RECORD. The board keeps it, aligned for uint16_t, and hands it to the calls. All of it is the library's
+ * own: what a board may want to see, the functions below say. */
 
-/* Where the drive stands: bv_stage.kind. */
-enum {
-    BV_AT_IDLE = 0,          /* CMD is low, nothing is under way */
-    BV_AT_OFFER = 1,         /* CMD is high, an offer stands; detail is its response byte */
-    BV_AT_COMMAND = 2,       /* command bytes are taken */
-    BV_AT_DATA = 3,          /* data bytes are taken */
-    BV_AT_START = 4,         /* the start's read is awaited; detail is how many were asked for */
-    BV_AT_STORE = 5,         /* the store is awaited */
-    BV_AT_READ = 6,          /* a read command's read is awaited */
-    BV_AT_WRITE = 7,         /* a plain write is awaited */
-    BV_AT_ATTEMPT_WRITE = 8, /* an attempt's write is awaited; detail is the attempts begun here */
-    BV_AT_ATTEMPT_READ = 9   /* an attempt's read is awaited; detail as before */
-};
-
-/* Every field that a kind does not have is 0, and a flag is 0 or 1. */
-struct bv_stage {
-    uint32_t sector;   /* the pending sector: kinds 6 to 9 */
-    uint16_t block;    /* the pending block: kinds 6, 8, 9 */
-    uint8_t kind;      /* BV_AT_IDLE to BV_AT_ATTEMPT_READ */
-    uint8_t detail;    /* kinds 1, 4, 8, 9 */
-    uint8_t first;     /* flag, kind 6: the first read is awaited */
-    uint8_t left;      /* kind 6: rereads left */
-    uint8_t spent;     /* kind 6: what further reads have cost */
-    uint8_t threshold; /* kind 6: T */
-    uint8_t good;      /* flag, kind 6: good bytes stand in the data part */
-    uint8_t spare;     /* flag, kinds 8, 9: on the next unused spare */
-    uint8_t errors;    /* kinds 6, 8, 9: E */
-    uint8_t crc;       /* flag, kinds 6, 8, 9: a CRC error was met */
-    uint8_t timeout;   /* flag, kinds 6, 8, 9: a timeout was met */
-};
-
-/* Each 0 or 1. */
-struct bv_flags {
-    uint8_t known;   /* there is a table */
-    uint8_t changed; /* it has changes that are not stored */
-    uint8_t latch;   /* a no settle in a command since the last start: writes are shut off */
-    uint8_t fresh;   /* no command finished since the last start or reset */
-};
+enum { BV_DRIVE_BYTES = 306, BV_DRIVE_ALIGN = 2 };
 
 struct bv_drive {
-    uint16_t spares[BV_SPARES]; /* entry k: the block moved to spare k, or BV_DEAD_SPARE */
-    uint16_t bads[BV_BADS];     /* the bad blocks in their order */
-    size_t nspares, nbads;      /* entries in use; the places behind them mean nothing */
-    size_t count;               /* command bytes kept */
-    size_t fed;                 /* data bytes counted, up to 533 */
-    struct bv_stage stage;
-    struct bv_flags flags;
-    uint8_t command[BV_COMMAND_BYTES];
+    uint16_t words[BV_DRIVE_BYTES / 2];
 };
+
+/* Where the drive is: what bv_phase returns. */
+enum {
+    BV_AT_IDLE = 0,        /* CMD is low, nothing is under way */
+    BV_AT_OFFER = 1,       /* CMD is high, an offer was made */
+    BV_AT_COMMAND = 2,     /* command bytes are taken */
+    BV_AT_DATA = 3,        /* data bytes are taken */
+    BV_AT_START = 4,       /* the start's read is awaited */
+    BV_AT_STORE = 5,       /* the store is awaited */
+    BV_AT_READ = 6,        /* a read command's read is awaited */
+    BV_AT_WRITE = 7,       /* a plain write is awaited */
+    BV_AT_TRIAL_WRITE = 8, /* the write of a trial is awaited */
+    BV_AT_TRIAL_READ = 9   /* the read of a trial is awaited */
+};
+
+/* Returns where the drive is. */
+static inline unsigned bv_phase(const struct bv_drive *drive)
+{
+    return drive->words[4] & 0xFF;
+}
+
+/* Returns 1 if there is a table, else 0. */
+static inline int bv_has_table(const struct bv_drive *drive)
+{
+    return drive->words[0] != 0;
+}
+
+/* Returns 1 while the table has changes that are not stored, else 0. */
+static inline int bv_has_unstored(const struct bv_drive *drive)
+{
+    return drive->words[1] != 0;
+}
+
+/* Returns 1 under the latch, after a no settle in a command and until the next start, else 0. */
+static inline int bv_is_latched(const struct bv_drive *drive)
+{
+    return drive->words[2] != 0;
+}
 
 BV_STATIC_ASSERT(sizeof(size_t) == 8, "the library is one of 64 bits");
 BV_STATIC_ASSERT(sizeof(struct bv_reply) == 8, "bv_reply");
 BV_STATIC_ASSERT(offsetof(struct bv_reply, kind) == 0, "bv_reply.kind");
 BV_STATIC_ASSERT(offsetof(struct bv_reply, value) == 4, "bv_reply.value");
-BV_STATIC_ASSERT(sizeof(struct bv_stage) == 20, "bv_stage");
-BV_STATIC_ASSERT(offsetof(struct bv_stage, sector) == 0, "bv_stage.sector");
-BV_STATIC_ASSERT(offsetof(struct bv_stage, block) == 4, "bv_stage.block");
-BV_STATIC_ASSERT(offsetof(struct bv_stage, kind) == 6, "bv_stage.kind");
-BV_STATIC_ASSERT(offsetof(struct bv_stage, detail) == 7, "bv_stage.detail");
-BV_STATIC_ASSERT(offsetof(struct bv_stage, first) == 8, "bv_stage.first");
-BV_STATIC_ASSERT(offsetof(struct bv_stage, left) == 9, "bv_stage.left");
-BV_STATIC_ASSERT(offsetof(struct bv_stage, spent) == 10, "bv_stage.spent");
-BV_STATIC_ASSERT(offsetof(struct bv_stage, threshold) == 11, "bv_stage.threshold");
-BV_STATIC_ASSERT(offsetof(struct bv_stage, good) == 12, "bv_stage.good");
-BV_STATIC_ASSERT(offsetof(struct bv_stage, spare) == 13, "bv_stage.spare");
-BV_STATIC_ASSERT(offsetof(struct bv_stage, errors) == 14, "bv_stage.errors");
-BV_STATIC_ASSERT(offsetof(struct bv_stage, crc) == 15, "bv_stage.crc");
-BV_STATIC_ASSERT(offsetof(struct bv_stage, timeout) == 16, "bv_stage.timeout");
-BV_STATIC_ASSERT(sizeof(struct bv_flags) == 4, "bv_flags");
-BV_STATIC_ASSERT(offsetof(struct bv_flags, known) == 0, "bv_flags.known");
-BV_STATIC_ASSERT(offsetof(struct bv_flags, changed) == 1, "bv_flags.changed");
-BV_STATIC_ASSERT(offsetof(struct bv_flags, latch) == 2, "bv_flags.latch");
-BV_STATIC_ASSERT(offsetof(struct bv_flags, fresh) == 3, "bv_flags.fresh");
-BV_STATIC_ASSERT(sizeof(struct bv_drive) == 328, "bv_drive");
-BV_STATIC_ASSERT(offsetof(struct bv_drive, spares) == 0, "bv_drive.spares");
-BV_STATIC_ASSERT(offsetof(struct bv_drive, bads) == 64, "bv_drive.bads");
-BV_STATIC_ASSERT(offsetof(struct bv_drive, nspares) == 264, "bv_drive.nspares");
-BV_STATIC_ASSERT(offsetof(struct bv_drive, nbads) == 272, "bv_drive.nbads");
-BV_STATIC_ASSERT(offsetof(struct bv_drive, count) == 280, "bv_drive.count");
-BV_STATIC_ASSERT(offsetof(struct bv_drive, fed) == 288, "bv_drive.fed");
-BV_STATIC_ASSERT(offsetof(struct bv_drive, stage) == 296, "bv_drive.stage");
-BV_STATIC_ASSERT(offsetof(struct bv_drive, flags) == 316, "bv_drive.flags");
-BV_STATIC_ASSERT(offsetof(struct bv_drive, command) == 320, "bv_drive.command");
+BV_STATIC_ASSERT(sizeof(struct bv_drive) == BV_DRIVE_BYTES, "bv_drive");
 
-/* THE CALLS. In each, `buf` and `len` are the lent buffer. A refused call changes nothing. */
+/* THE CALLS. In each, `buf` and `len` are the lent buffer. A refused call writes nothing. */
 
 /* Power came on, or the drive is to be made anew. Whatever the record held, it is made anew: no table, no
  * latch, nothing under way. The buffer is zeroed. Answers BV_READ of BV_TABLE_SECTOR, or refuses with
@@ -241,7 +209,7 @@ struct bv_reply bv_raise(struct bv_drive *drive, uint8_t *buf, size_t len);
  * or BV_WRITE, or BV_FINISHED where it is over without an access. Reads of BV_NUMBER_TABLE and BV_NUMBER_HEALTH
  * are so over, and with a table the data part then has the bytes of bv_image, or the health block's, whatever it
  * held. With any other byte the command is broken off: status 80 00 00 00, idle, BV_FINISHED. With no offer
- * standing BV_BAD_PLACE. */
+ * made BV_BAD_PLACE. */
 struct bv_reply bv_lower(struct bv_drive *drive, uint8_t *buf, size_t len, uint8_t byte);
 
 /* The host sent `n` bytes, any number in a call. Command bytes: the first six are kept, later ones are
@@ -266,8 +234,8 @@ struct bv_reply bv_reset(struct bv_drive *drive, uint8_t *buf, size_t len);
 
 /* Writes the table's image into 532 bytes, which are not the buffer of the other calls but its own. In
  * place whenever there is a table, while an access is awaited too, since the board fetches the bytes of a
- * store with it. Leaves the record as it is. Answers BV_WAIT, or BV_BAD_PLACE with no table. */
-struct bv_reply bv_image(struct bv_drive *drive, uint8_t *image, size_t len);
+ * store with it. Writes nothing into the record. Answers BV_WAIT, or BV_BAD_PLACE with no table. */
+struct bv_reply bv_image(const struct bv_drive *drive, uint8_t *image, size_t len);
 
 #ifdef __cplusplus
 }

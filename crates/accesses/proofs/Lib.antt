@@ -1,2 +1,1 @@
-pub mod Awaited
-pub mod Tables
+pub mod Answers

@@ -1,42 +1,89 @@
 // The surface's answers: to the start's reads, the store, a read command, a write and an attempt of the
-// move routine; each with document 01's codes 4 and 5 first.
+// move routine; document 01's codes 4 and 5 first.
 ghost use mathlib.Core.Path.{_≡_};
-ghost use mathlib.Core.Bool.{true, cond, not, _&&_};
+ghost use mathlib.Core.Bool.{true};
 ghost use mathlib.Core.List.{[]};
-ghost use Prim.Native.Nat.{_+_, _≤_};
-ghost use lib.Dec.{ltb, leb, eqb};
-ghost use lib.ListN.{length};
-ghost use Rattle.geometry.specs.Geometry.{tableSector};
+ghost use Prim.Native.Nat.{_≤_};
 ghost use Rattle.drive.specs.declared.Phase.the-variants as phase;
 ghost use Rattle.drive.specs.declared.Answer.the-variants as answer;
-ghost use Rattle.drive.specs.Records.{retryOk, lineOk};
-ghost use Rattle.drive.specs.Results.{say, toPhase};
-ghost use Rattle.drive.specs.Sparing.{tried, checked};
-ghost use Rattle.drive.specs.Access.{toRead, toWrite, withTable, startAnswered, storeAnswered, readAnswered, writeAnswered, answered};
-ghost use Rattle.records.specs.Turns.{turnOf, lent};
+ghost use Rattle.drive.specs.Records.{accessOk, stateOk};
+ghost use Rattle.drive.specs.Results.{say, inPhase};
+ghost use Rattle.drive.specs.Access.{asksRead, answerFits, bytesFit, isTrialRead, verifies, withTable, startAnswered, storeAnswered};
+ghost use Rattle.drive.specs.Access.{writeAnswered, follows, answered};
+ghost use Rattle.records.specs.Turns.{lent};
+use drive::Access;
 use drive::Answer;
 use drive::Change;
 use drive::Ending;
-use drive::Line;
+use drive::Leaves;
 use drive::Marks;
 use drive::Offer;
+use drive::Part;
 use drive::Phase;
 use drive::Refusal;
-use drive::Retry;
-use drive::Trial;
+use drive::State;
+use drive::Status;
+use drive::Turn;
 use image::Found;
-use records::Turn;
 
-// How many bytes an answer to a read brings.
-fn due(a: u8) -> usize
-    ensures { λ x. ⌜ x ≡ cond (leb a 1) 532 0 ⌝ }
+// Says whether an access reads.
+fn asks_read(x: Access) -> bool
+    ensures { λ r. ⌜ r ≡ asksRead x ⌝ }
 {
-    if a <= 1 { 532 } else { 0 }
+    match x {
+        Access::Start(_) => true,
+        Access::Store => false,
+        Access::Read(_) => true,
+        Access::Write(_) => false,
+        Access::TrialWrite(_) => false,
+        Access::TrialRead(_) => true,
+    }
 }
 
-// The table has come.
-fn take_table(l: Line) -> Turn
-    ensures { λ x. ⌜ x ≡ turnOf (withTable l []) ⌝ }
+// Says whether an access is a trial's read.
+fn is_trial_read(x: Access) -> bool
+    ensures { λ r. ⌜ r ≡ isTrialRead x ⌝ }
+{
+    match x {
+        Access::Start(_) => false,
+        Access::Store => false,
+        Access::Read(_) => false,
+        Access::Write(_) => false,
+        Access::TrialWrite(_) => false,
+        Access::TrialRead(_) => true,
+    }
+}
+
+// Says whether the bytes that came are compared with the data part.
+pub fn verifies(p: Phase, a: u8) -> bool
+    ensures { λ r. ⌜ r ≡ verifies p a ⌝ }
+{
+    match p {
+        Phase::Idle => false,
+        Phase::Offered(_) => false,
+        Phase::Command => false,
+        Phase::Data => false,
+        Phase::Awaiting(x) => is_trial_read(x) & (a == 0),
+    }
+}
+
+// Says whether code 4 does not apply: an answer of 0 to 3, and no 1 to a write.
+fn answer_fits(read: bool, a: u8) -> bool
+    ensures { λ r. ⌜ r ≡ answerFits read a ⌝ }
+{
+    (a <= 3) & (read | !(a == 1))
+}
+
+// Says whether code 5 does not apply to n bytes: 532 with a read's 0 or 1, else none.
+fn bytes_fit(read: bool, a: u8, n: usize) -> bool
+    ensures { λ r. ⌜ r ≡ bytesFit read a n ⌝ }
+{
+    if read & (a <= 1) { n == 532 } else { n == 0 }
+}
+
+// Ends the start with the table that was read.
+fn with_table(l: State) -> Turn
+    ensures { λ x. ⌜ x ≡ withTable l ⌝ }
 {
     let m = l.marks;
     let known = Marks {
@@ -46,73 +93,58 @@ fn take_table(l: Line) -> Turn
         fresh: m.fresh,
     };
     Turn {
-        line: records::with_marks(l, known, Phase::Idle),
+        state: records::with_marks(l, known, Phase::Idle),
         answer: Answer::Wait,
         change: Change::Load,
+        leaves: Leaves {
+            status: Status::Kept,
+            part: Part::Kept,
+        },
     }
 }
 
-// It waits, idle, with no table.
-fn give_up(l: Line) -> Turn
-    ensures { λ x. ⌜ x ≡ turnOf (say (toPhase l phase.Idle) answer.Wait []) ⌝ }
+// Ends the start with no table.
+fn give_up(l: State) -> Turn
+    ensures { λ x. ⌜ x ≡ say (inPhase l phase.Idle) answer.Wait ⌝ }
 {
-    records::said(records::in_phase(l, Phase::Idle), Answer::Wait)
+    records::say(records::in_phase(l, Phase::Idle), Answer::Wait)
 }
 
-// Read k of the start brought no table: one more, up to ten.
-fn count_try(k: u8, l: Line) -> Turn
-    ensures { λ x. ⌜ x ≡ turnOf (cond (ltb k 10) (say (toPhase l (phase.Starting (k + 1))) (answer.Read tableSector) []) (say (toPhase l phase.Idle) answer.Wait [])) ⌝ }
+// Counts read k of the start, which brought no table: asks for one more, up to ten.
+fn count_try(k: u8, l: State) -> Turn
+    ensures { λ x. ⌜ x ≡ startAnswered k l 2 [] ⌝ }
 {
     if k < 10 {
         let s = geometry::table_sector();
-        return records::said(
-            records::in_phase(l, Phase::Starting(k + 1)),
+        return records::say(
+            records::in_phase(l, Phase::Awaiting(Access::Start(k + 1))),
             Answer::Read(s),
         );
     }
     give_up(l)
 }
 
-// Read k of the start answered 0: the table, if the bytes are a well-formed image.
-fn take_image(k: u8, l: Line, bytes: &[u8]) -> Turn
-    ensures { λ x. ⌜ x ≡ turnOf (startAnswered k l [] 0 (now (bytes .entry))) ⌝ }
+// Returns what answer a to read k of the start leads to: the table, if a well-formed image came.
+fn start(k: u8, l: State, a: u8, bytes: &[u8]) -> Turn
+    ensures { λ x. ⌜ x ≡ startAnswered k l a (now (bytes .entry)) ⌝ }
 {
+    if a == 3 {
+        return give_up(l);
+    }
+    if a != 0 {
+        return count_try(k, l);
+    }
     let read = image::read_image(bytes);
     let found = read.found;
     let Found::Lists(_, _) = found else {
         return count_try(k, l);
     };
-    take_table(l)
+    with_table(l)
 }
 
-// Read k of the start answered.
-fn start_answered(k: u8, l: Line, a: u8, bytes: &[u8]) -> Turn
-    ensures { λ x. ⌜ x ≡ turnOf (startAnswered k l [] a (now (bytes .entry))) ⌝ }
-{
-    if a == 0 {
-        return take_image(k, l, bytes);
-    }
-    if a == 3 {
-        return give_up(l);
-    }
-    count_try(k, l)
-}
-
-fn start(k: u8, l: Line, a: u8, bytes: &[u8]) -> Turn
-    ensures { λ x. ⌜ x ≡ turnOf (toRead l [] a (now (bytes .entry)) (startAnswered k l [] a (now (bytes .entry)))) ⌝ }
-{
-    if 3 < a {
-        return records::refused(l, Refusal::Answer);
-    }
-    if bytes.len() != due(a) {
-        return records::refused(l, Refusal::Bytes);
-    }
-    start_answered(k, l, a, bytes)
-}
-
-// The store answered: if done, stored. Then offer 01.
-fn store_answered(l: Line, a: u8) -> Turn
-    ensures { λ x. ⌜ x ≡ turnOf (storeAnswered l [] a) ⌝ }
+// Offers 01 after the store. Answered 0, the table has no changes to store any more.
+fn store(l: State, a: u8) -> Turn
+    ensures { λ x. ⌜ x ≡ storeAnswered l a ⌝ }
 {
     let m = l.marks;
     let k = Marks {
@@ -121,131 +153,89 @@ fn store_answered(l: Line, a: u8) -> Turn
         latch: m.latch,
         fresh: m.fresh,
     };
-    handshake::offer(records::with_marks(l, k, Phase::Storing), Offer::Command, 0)
+    records::offer(records::with_marks(l, k, Phase::Idle), Offer::Command, 0)
 }
 
-// Whether an answer to a write is none that document 01 has.
-fn no_write(a: u8) -> bool
-    ensures { λ x. ⌜ x ≡ not (leb a 3 && not (eqb a 1)) ⌝ }
+// Returns what answer a to a plain write leads to.
+fn write(l: State, a: u8) -> Turn
+    ensures { λ x. ⌜ x ≡ writeAnswered l a ⌝ }
 {
-    !((a <= 3) & !(a == 1))
-}
-
-fn store(l: Line, a: u8, bytes: &[u8]) -> Turn
-    ensures { λ x. ⌜ x ≡ turnOf (toWrite l [] a (now (bytes .entry)) (storeAnswered l [] a)) ⌝ }
-{
-    if no_write(a) {
-        return records::refused(l, Refusal::Answer);
-    }
-    if bytes.len() != 0 {
-        return records::refused(l, Refusal::Bytes);
-    }
-    store_answered(l, a)
-}
-
-fn read(l: Line, bads: &[u16], m: usize, r: Retry, buf: &mut [u8], a: u8, bytes: &[u8]) -> Turn
-    requires { ⌜ (length (now buf) ≡ 536) × (retryOk r ≡ true) ⌝ }
-    ensures { λ x. ⌜ (x ≡ turnOf (toRead l (now (buf .entry)) a (now (bytes .entry)) (readAnswered r l (lent [] 0 (now (bads .entry)) m) (now (buf .entry)) a (now (bytes .entry))))) × (now (buf .exit) ≡ toRead l (now (buf .entry)) a (now (bytes .entry)) (readAnswered r l (lent [] 0 (now (bads .entry)) m) (now (buf .entry)) a (now (bytes .entry))) .bytes) ⌝ }
-{
-    if 3 < a {
-        return records::refused(l, Refusal::Answer);
-    }
-    if bytes.len() != due(a) {
-        return records::refused(l, Refusal::Bytes);
-    }
-    reading::answered(l, bads, m, r, buf, a, bytes)
-}
-
-// A plain write answered.
-fn write_answered(l: Line, buf: &mut [u8], a: u8) -> Turn
-    requires { ⌜ length (now buf) ≡ 536 ⌝ }
-    ensures { λ x. ⌜ (x ≡ turnOf (writeAnswered l (now (buf .entry)) a)) × (now (buf .exit) ≡ writeAnswered l (now (buf .entry)) a .bytes) ⌝ }
-{
-    let m = l.marks;
-    let s = retries::nothing_met();
+    let s = records::clean();
     if a == 0 {
-        return records::finished(l, m, Change::Keep, Ending::Good, s, buf);
+        return records::finish(l, Change::Keep, Ending::Good, s, Part::Kept);
     }
     if a == 3 {
-        let k = records::with_latch(m);
-        return records::finished(l, k, Change::Keep, Ending::Latched, s, buf);
+        return records::finish(l, Change::Keep, Ending::Latched, s, Part::Kept);
     }
-    let seen = retries::with_answer(a, s);
-    records::finished(l, m, Change::Keep, Ending::Failed, seen, buf)
+    records::finish(
+        l,
+        Change::Keep,
+        Ending::Failed,
+        records::met(a, s),
+        Part::Kept,
+    )
 }
 
-fn write(l: Line, buf: &mut [u8], a: u8, bytes: &[u8]) -> Turn
-    requires { ⌜ length (now buf) ≡ 536 ⌝ }
-    ensures { λ x. ⌜ (x ≡ turnOf (toWrite l (now (buf .entry)) a (now (bytes .entry)) (writeAnswered l (now (buf .entry)) a))) × (now (buf .exit) ≡ toWrite l (now (buf .entry)) a (now (bytes .entry)) (writeAnswered l (now (buf .entry)) a) .bytes) ⌝ }
-{
-    if no_write(a) {
-        return records::refused(l, Refusal::Answer);
-    }
-    if bytes.len() != 0 {
-        return records::refused(l, Refusal::Bytes);
-    }
-    write_answered(l, buf, a)
-}
-
-fn attempt_written(l: Line, n: usize, r: Trial, buf: &mut [u8], a: u8, bytes: &[u8]) -> Turn
-    requires { ⌜ (length (now buf) ≡ 536) × (r .attempts ≤ 2) × (n ≤ 32) ⌝ }
-    ensures { λ x. ⌜ (x ≡ turnOf (toWrite l (now (buf .entry)) a (now (bytes .entry)) (tried l (lent [] n [] 0) r (now (buf .entry)) a))) × (now (buf .exit) ≡ toWrite l (now (buf .entry)) a (now (bytes .entry)) (tried l (lent [] n [] 0) r (now (buf .entry)) a) .bytes) ⌝ }
-{
-    if no_write(a) {
-        return records::refused(l, Refusal::Answer);
-    }
-    if bytes.len() != 0 {
-        return records::refused(l, Refusal::Bytes);
-    }
-    sparing::write_answered(l, n, r, buf, a)
-}
-
-fn attempt_read(
-    l: Line,
+// Returns what the answer to each access leads to.
+fn follow(
+    x: Access,
+    l: State,
     n: usize,
     bads: &[u16],
     m: usize,
-    r: Trial,
-    buf: &mut [u8],
     a: u8,
     bytes: &[u8],
+    equal: bool,
 ) -> Turn
-    requires { ⌜ (length (now buf) ≡ 536) × (r .attempts ≤ 2) × (n ≤ 32) ⌝ }
-    ensures { λ x. ⌜ (x ≡ turnOf (toRead l (now (buf .entry)) a (now (bytes .entry)) (checked l (lent [] n (now (bads .entry)) m) r (now (buf .entry)) a (now (bytes .entry))))) × (now (buf .exit) ≡ toRead l (now (buf .entry)) a (now (bytes .entry)) (checked l (lent [] n (now (bads .entry)) m) r (now (buf .entry)) a (now (bytes .entry))) .bytes) ⌝ }
+    requires { ⌜ (n ≤ 32) × (accessOk n (l .marks .known) x ≡ true) ⌝ }
+    ensures { λ r. ⌜ r ≡ follows x l (lent [] n (now (bads .entry)) m) a (now (bytes .entry)) equal ⌝ }
 {
-    if 3 < a {
-        return records::refused(l, Refusal::Answer);
+    match x {
+        Access::Start(k) => start(k, l, a, bytes),
+        Access::Store => store(l, a),
+        Access::Read(r) => reading::read(l, bads, m, r, a),
+        Access::Write(_) => write(l, a),
+        Access::TrialWrite(r) => sparing::tried(l, n, r, a),
+        Access::TrialRead(r) => sparing::checked(l, n, bads, m, r, a, equal),
     }
-    if bytes.len() != due(a) {
-        return records::refused(l, Refusal::Bytes);
-    }
-    sparing::read_answered(l, n, bads, m, r, buf, a, bytes)
 }
 
-// The surface's answer, with n spares listed and the first m of bads as the bad list.
-pub fn surface(
-    l: Line,
+// Refuses with code 4 or 5, or follows the awaited access.
+fn fit(
+    x: Access,
+    l: State,
     n: usize,
     bads: &[u16],
     m: usize,
-    buf: &mut [u8],
     a: u8,
     bytes: &[u8],
+    equal: bool,
 ) -> Turn
-    requires { ⌜ (length (now buf) ≡ 536) × (n ≤ 32) × (lineOk n l ≡ true) ⌝ }
-    ensures { λ x. ⌜ (x ≡ turnOf (answered (l .phase) l (lent [] n (now (bads .entry)) m) (now (buf .entry)) a (now (bytes .entry)))) × (now (buf .exit) ≡ answered (l .phase) l (lent [] n (now (bads .entry)) m) (now (buf .entry)) a (now (bytes .entry)) .bytes) ⌝ }
+    requires { ⌜ (n ≤ 32) × (accessOk n (l .marks .known) x ≡ true) ⌝ }
+    ensures { λ r. ⌜ r ≡ answered (phase.Awaiting x) l (lent [] n (now (bads .entry)) m) a (now (bytes .entry)) equal ⌝ }
+{
+    let read = asks_read(x);
+    if !answer_fits(read, a) {
+        return records::refuse(l, Refusal::Answer);
+    }
+    if !bytes_fit(read, a, bytes.len()) {
+        return records::refuse(l, Refusal::Bytes);
+    }
+    follow(x, l, n, bads, m, a, bytes, equal)
+}
+
+// Returns what the surface's answer does in each phase, with n spares listed and the first m of bads as
+// the bad list. equal: a verify brought the bytes of the data part.
+pub fn surface(l: State, n: usize, bads: &[u16], m: usize, a: u8, bytes: &[u8], equal: bool) -> Turn
+    requires { ⌜ (n ≤ 32) × (stateOk n l ≡ true) ⌝ }
+    ensures { λ x. ⌜ x ≡ answered (l .phase) l (lent [] n (now (bads .entry)) m) a (now (bytes .entry)) equal ⌝ }
 {
     let p = l.phase;
     match p {
-        Phase::Idle => records::refused(l, Refusal::Place),
-        Phase::Offered(_) => records::refused(l, Refusal::Place),
-        Phase::Command => records::refused(l, Refusal::Place),
-        Phase::Data => records::refused(l, Refusal::Place),
-        Phase::Starting(k) => start(k, l, a, bytes),
-        Phase::Storing => store(l, a, bytes),
-        Phase::Reading(r) => read(l, bads, m, r, buf, a, bytes),
-        Phase::Writing(_) => write(l, buf, a, bytes),
-        Phase::Trying(r) => attempt_written(l, n, r, buf, a, bytes),
-        Phase::Checking(r) => attempt_read(l, n, bads, m, r, buf, a, bytes),
+        Phase::Idle => records::refuse(l, Refusal::Place),
+        Phase::Offered(_) => records::refuse(l, Refusal::Place),
+        Phase::Command => records::refuse(l, Refusal::Place),
+        Phase::Data => records::refuse(l, Refusal::Place),
+        Phase::Awaiting(x) => fit(x, l, n, bads, m, a, bytes, equal),
     }
 }

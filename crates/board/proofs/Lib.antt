@@ -1,3 +1,5 @@
+pub mod Kit
+pub mod Types
 pub mod Thin
 pub mod ThinByte
 pub mod ThinBytes

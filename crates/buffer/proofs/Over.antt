@@ -1,10 +1,9 @@
--- A run laid over a list, and a run laid after another.
+-- A run written into a list, and a run written after another.
 use mathlib.Core.Path.{_≡_, refl, ap, sym, _∙_}
 use mathlib.Core.List.{List, [], _∷_, _++_, append-assoc, append-nil}
-use Prim.Native.Nat.{ℕ, zero, suc, _+_, _-_, _≤_, _<_}
+use Prim.Native.Nat.{ℕ, zero, suc, _+_, _≤_, _<_}
 use native.Mathlib.Omega.{arith}
-use native.Mathlib.Numerals.{add-one}
-use lib.ListN.{length, take, drop, getD, set, replicate, length-append, length-drop, length-replicate, take-append-drop, drop-of-length-le}
+use lib.ListN.{length, take, drop, getD, set, replicate, length-append, length-drop, take-append-drop}
 use lib.Seq.{take-at, drop-append-add, drop-drop, drop-cons, set-at, append-snoc, length-take-le}
 use Rattle.buffer.specs.Runs.{over}
 
@@ -16,7 +15,7 @@ grow done run o at e =
     let d = ap (λ (k : ℕ). drop (k + length run) (done ++ drop at o)) (sym e) ∙ drop-append-add done (drop at o) (length run) ∙ drop-drop (length run) at o in
     rw (t, d)
 
--- nothing laid
+-- nothing written
 pub over-none : (at : ℕ) (o : List ℕ) → over at [] o ≡ o
 unfolding over
 over-none at o =
@@ -26,7 +25,7 @@ over-none at o =
 head-length : (at : ℕ) (run o : List ℕ) → at ≤ length o → length (take at o ++ run) ≡ at + length run
 head-length at run o h = omega (arith, length-append (take at o) run, length-take-le at o h)
 
--- one run laid after another is both laid at once
+-- one run written after another is both written at once
 pub over-over : (at : ℕ) (r q o : List ℕ) (k : ℕ) → at + length r ≡ k → k ≤ length o → over k q (over at r o) ≡ over at (r ++ q) o
 unfolding over
 over-over at r q o k e h =

@@ -1,10 +1,10 @@
-// Runs of bytes in lent buffers: laid over, filled, compared.
+// Runs of bytes in lent buffers: written, filled, compared.
 ghost use mathlib.Core.Path.{_≡_};
 ghost use Prim.Native.Nat.{_+_, _≤_};
 ghost use lib.ListN.{length, replicate};
 ghost use Rattle.buffer.specs.Runs.{over, same, allAre};
 
-// The run laid over out from place at on.
+// Writes the run from place `at` of out on.
 pub fn put(out: &mut [u8], at: usize, run: &[u8])
     requires { ⌜ at + length (now run) ≤ length (now out) ⌝ }
     ensures { λ r. ⌜ now (out .exit) ≡ over at (now (run .entry)) (now (out .entry)) ⌝ }
@@ -16,7 +16,7 @@ pub fn put(out: &mut [u8], at: usize, run: &[u8])
     }
 }
 
-// The byte v, n times, laid over out from place at on.
+// Writes v n times from place `at` of out on.
 pub fn fill(out: &mut [u8], at: usize, n: usize, v: u8)
     requires { ⌜ at + n ≤ length (now out) ⌝ }
     ensures { λ r. ⌜ now (out .exit) ≡ over at (replicate n v) (now (out .entry)) ⌝ }
@@ -28,7 +28,7 @@ pub fn fill(out: &mut [u8], at: usize, n: usize, v: u8)
     }
 }
 
-// Whether two runs are the same. The loop has no branch, so that it is compiled to wide compares.
+// Says whether two runs are the same. The loop has no branch, so that it is compiled to wide compares.
 pub fn same_bytes(a: &[u8], b: &[u8]) -> bool
     ensures { λ r. ⌜ r ≡ same (now (a .entry)) (now (b .entry)) ⌝ }
 {
@@ -44,7 +44,7 @@ pub fn same_bytes(a: &[u8], b: &[u8]) -> bool
     ok
 }
 
-// Whether every byte is v.
+// Says whether every byte is v.
 pub fn all_are(s: &[u8], v: u8) -> bool
     ensures { λ r. ⌜ r ≡ allAre v (now (s .entry)) ⌝ }
 {

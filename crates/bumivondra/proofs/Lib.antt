@@ -1,5 +1,1 @@
-pub mod Thin
-pub mod ThinByteBytes
-pub mod ThinLine
-pub mod ThinLineByte
-pub mod ThinLineBytes
+pub mod Demand3

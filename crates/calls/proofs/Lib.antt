@@ -1,2 +1,4 @@
-pub mod Asides
-pub mod Parts
+pub mod Buffers
+pub mod Guarded
+pub mod Keeping
+pub mod Loads

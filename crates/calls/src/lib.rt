@@ -1,119 +1,320 @@
-// The calls on the line, with the table's lists lent: codes 1 and 2 first, then what the call's own rule
-// says. Whoever holds a record, in whatever form, calls these.
+// The seven calls of document 01. Each refuses with codes 1 and 2, lets its rule decide, and leaves the
+// buffer as the turn says. Over lent lists: whoever holds a record, in whatever form, calls these. Over
+// the whole record: the methods of Controller.
 ghost use mathlib.Core.Path.{_≡_};
 ghost use mathlib.Core.Bool.{_&&_};
-ghost use Rattle.table.specs.Tables.{listsOk};
-ghost use Rattle.drive.specs.Records.{lineOk};
-ghost use Rattle.drive.specs.Results.{guarded};
-ghost use Rattle.drive.specs.Handshake.{raised, lowered, fedTo, rested};
-ghost use Rattle.drive.specs.Access.{answered};
-ghost use Rattle.records.specs.Turns.{turnOf, lent};
-use drive::Line;
+ghost use lib.ListN.{length};
+ghost use Rattle.buffer.specs.Runs.{same};
+ghost use Rattle.drive.specs.Words.{dataOf};
+ghost use Rattle.drive.specs.Records.{recordOk};
+ghost use Rattle.drive.specs.Access.{verifies};
+ghost use Rattle.drive.specs.Calls as call;
+ghost use Rattle.drive.specs.Calls.{started, startOf, raiseOf, lowerOf, feedOf, surfaceOf, resetOf, imageOutOf};
+ghost use Rattle.records.specs.Turns.{lent};
+ghost use Rattle.calls.specs.Gives.{guardOf, Returns, recordOf, handed, Gives, Answers};
+use drive::Access;
+use drive::Answer;
+use drive::Drive;
+use drive::Marks;
+use drive::Phase;
 use drive::Refusal;
-use records::Turn;
+use drive::State;
+use drive::Step;
+use drive::Turn;
+use table::Table;
 
-// Code 1, over the record's parts.
-pub fn sound<'a>(spares: &'a [u16], n: usize, bads: &'a [u16], m: usize, l: Line) -> bool
-    ensures { λ r. ⌜ r ≡ (listsOk (now (spares .entry)) n (now (bads .entry)) m && lineOk n l) ⌝ }
-{
-    table::lists_ok(spares, n, bads, m) & records::line_ok(n, l)
+pub mod tables;
+
+// Names what codes 1 and 2 say of a call.
+pub enum Verdict {
+    Passes,
+    Refuses(Refusal),
 }
 
+// Applies codes 1 and 2. fits: as many bytes are lent as the call wants.
+fn guard<'a>(
+    spares: &'a [u16],
+    n: usize,
+    bads: &'a [u16],
+    m: usize,
+    l: State,
+    fits: bool,
+) -> Verdict
+    ensures { λ r. ⌜ r ≡ guardOf (recordOk (recordOf (lent (now (spares .entry)) n (now (bads .entry)) m) l)) fits ⌝ }
+{
+    if !(table::lists_ok(spares, n, bads, m) & records::state_ok(n, l)) {
+        return Verdict::Refuses(Refusal::Record);
+    }
+    if !fits {
+        return Verdict::Refuses(Refusal::Buffer);
+    }
+    Verdict::Passes
+}
+
+// Raises the CMD line.
 pub fn raise<'a>(
     spares: &'a [u16],
     n: usize,
     bads: &'a [u16],
     m: usize,
-    l: Line,
+    l: State,
     buf: &mut [u8],
 ) -> Turn
-    ensures { λ x. ⌜ (x ≡ turnOf (guarded (listsOk (now (spares .entry)) n (now (bads .entry)) m && lineOk n l) 536 l (now (buf .entry)) (raised (l .phase) l (now (buf .entry))))) × (now (buf .exit) ≡ guarded (listsOk (now (spares .entry)) n (now (bads .entry)) m && lineOk n l) 536 l (now (buf .entry)) (raised (l .phase) l (now (buf .entry))) .bytes) ⌝ }
+    ensures { λ x. ⌜ Gives call.raise (lent (now (spares .entry)) n (now (bads .entry)) m) l (now (buf .entry)) x (now (buf .exit)) ⌝ }
 {
-    if !sound(spares, n, bads, m, l) {
-        return records::refused(l, Refusal::Record);
+    let g = guard(spares, n, bads, m, l, buf.len() == 536);
+    match g {
+        Verdict::Refuses(r) => records::refuse(l, r),
+        Verdict::Passes => {
+            let x = handshake::raise(l);
+            let leaves = x.leaves;
+            leaving::put(leaves, spares, n, bads, m, b"", buf);
+            x
+        }
     }
-    if buf.len() != 536 {
-        return records::refused(l, Refusal::Buffer);
-    }
-    handshake::raise(l, buf)
 }
 
+// Lowers the CMD line with byte b.
 pub fn lower<'a>(
     spares: &'a [u16],
     n: usize,
     bads: &'a [u16],
     m: usize,
-    l: Line,
+    l: State,
     buf: &mut [u8],
     b: u8,
 ) -> Turn
-    ensures { λ x. ⌜ (x ≡ turnOf (guarded (listsOk (now (spares .entry)) n (now (bads .entry)) m && lineOk n l) 536 l (now (buf .entry)) (lowered (l .phase) l (lent (now (spares .entry)) n (now (bads .entry)) m) (now (buf .entry)) b))) × (now (buf .exit) ≡ guarded (listsOk (now (spares .entry)) n (now (bads .entry)) m && lineOk n l) 536 l (now (buf .entry)) (lowered (l .phase) l (lent (now (spares .entry)) n (now (bads .entry)) m) (now (buf .entry)) b) .bytes) ⌝ }
+    ensures { λ x. ⌜ Gives (call.lower b) (lent (now (spares .entry)) n (now (bads .entry)) m) l (now (buf .entry)) x (now (buf .exit)) ⌝ }
 {
-    if !sound(spares, n, bads, m, l) {
-        return records::refused(l, Refusal::Record);
+    let g = guard(spares, n, bads, m, l, buf.len() == 536);
+    match g {
+        Verdict::Refuses(r) => records::refuse(l, r),
+        Verdict::Passes => {
+            let x = handshake::lower(l, spares, n, bads, m, b);
+            let leaves = x.leaves;
+            leaving::put(leaves, spares, n, bads, m, b"", buf);
+            x
+        }
     }
-    if buf.len() != 536 {
-        return records::refused(l, Refusal::Buffer);
-    }
-    acting::lower(l, spares, n, bads, m, buf, b)
 }
 
+// Feeds bytes.
 pub fn feed<'a>(
     spares: &'a [u16],
     n: usize,
     bads: &'a [u16],
     m: usize,
-    l: Line,
+    l: State,
     buf: &mut [u8],
     bytes: &[u8],
 ) -> Turn
-    ensures { λ x. ⌜ (x ≡ turnOf (guarded (listsOk (now (spares .entry)) n (now (bads .entry)) m && lineOk n l) 536 l (now (buf .entry)) (fedTo (l .phase) l (now (buf .entry)) (now (bytes .entry))))) × (now (buf .exit) ≡ guarded (listsOk (now (spares .entry)) n (now (bads .entry)) m && lineOk n l) 536 l (now (buf .entry)) (fedTo (l .phase) l (now (buf .entry)) (now (bytes .entry))) .bytes) ⌝ }
+    ensures { λ x. ⌜ Gives (call.feed (now (bytes .entry))) (lent (now (spares .entry)) n (now (bads .entry)) m) l (now (buf .entry)) x (now (buf .exit)) ⌝ }
 {
-    if !sound(spares, n, bads, m, l) {
-        return records::refused(l, Refusal::Record);
+    let g = guard(spares, n, bads, m, l, buf.len() == 536);
+    match g {
+        Verdict::Refuses(r) => records::refuse(l, r),
+        Verdict::Passes => {
+            let x = handshake::feed(l, bytes);
+            let leaves = x.leaves;
+            leaving::put(leaves, spares, n, bads, m, bytes, buf);
+            x
+        }
     }
-    if buf.len() != 536 {
-        return records::refused(l, Refusal::Buffer);
-    }
-    feeding::feed(l, buf, bytes)
 }
 
+// Says whether a verify brought the bytes of the data part.
+fn equal(p: Phase, buf: &[u8], a: u8, bytes: &[u8]) -> bool
+    requires { ⌜ length (now buf) ≡ 536 ⌝ }
+    ensures { λ r. ⌜ r ≡ (verifies p a && same (now (bytes .entry)) (dataOf (now (buf .entry)))) ⌝ }
+{
+    if accesses::verifies(p, a) {
+        return buffer::same_bytes(bytes, &buf[4..]);
+    }
+    false
+}
+
+// Takes the surface's answer and the bytes that came with it.
 pub fn surface<'a>(
     spares: &'a [u16],
     n: usize,
     bads: &'a [u16],
     m: usize,
-    l: Line,
+    l: State,
     buf: &mut [u8],
     a: u8,
     bytes: &[u8],
 ) -> Turn
-    ensures { λ x. ⌜ (x ≡ turnOf (guarded (listsOk (now (spares .entry)) n (now (bads .entry)) m && lineOk n l) 536 l (now (buf .entry)) (answered (l .phase) l (lent (now (spares .entry)) n (now (bads .entry)) m) (now (buf .entry)) a (now (bytes .entry))))) × (now (buf .exit) ≡ guarded (listsOk (now (spares .entry)) n (now (bads .entry)) m && lineOk n l) 536 l (now (buf .entry)) (answered (l .phase) l (lent (now (spares .entry)) n (now (bads .entry)) m) (now (buf .entry)) a (now (bytes .entry))) .bytes) ⌝ }
+    ensures { λ x. ⌜ Answers a (now (bytes .entry)) (lent (now (spares .entry)) n (now (bads .entry)) m) l (now (buf .entry)) x (now (buf .exit)) ⌝ }
 {
-    if !sound(spares, n, bads, m, l) {
-        return records::refused(l, Refusal::Record);
+    let g = guard(spares, n, bads, m, l, buf.len() == 536);
+    match g {
+        Verdict::Refuses(r) => records::refuse(l, r),
+        Verdict::Passes => {
+            let p = l.phase;
+            let same = equal(p, buf, a, bytes);
+            let x = accesses::surface(l, n, bads, m, a, bytes, same);
+            let leaves = x.leaves;
+            leaving::put(leaves, spares, n, bads, m, bytes, buf);
+            x
+        }
     }
-    if buf.len() != 536 {
-        return records::refused(l, Refusal::Buffer);
-    }
-    accesses::surface(l, n, bads, m, buf, a, bytes)
 }
 
+// Resets the drive. The buffer stays.
 pub fn reset<'a>(
     spares: &'a [u16],
     n: usize,
     bads: &'a [u16],
     m: usize,
-    l: Line,
+    l: State,
     buf: &mut [u8],
 ) -> Turn
-    ensures { λ x. ⌜ (x ≡ turnOf (guarded (listsOk (now (spares .entry)) n (now (bads .entry)) m && lineOk n l) 536 l (now (buf .entry)) (rested (l .phase) l (now (buf .entry))))) × (now (buf .exit) ≡ guarded (listsOk (now (spares .entry)) n (now (bads .entry)) m && lineOk n l) 536 l (now (buf .entry)) (rested (l .phase) l (now (buf .entry))) .bytes) ⌝ }
+    ensures { λ x. ⌜ Gives call.reset (lent (now (spares .entry)) n (now (bads .entry)) m) l (now (buf .entry)) x (now (buf .exit)) ⌝ }
 {
-    if !sound(spares, n, bads, m, l) {
-        return records::refused(l, Refusal::Record);
+    let g = guard(spares, n, bads, m, l, buf.len() == 536);
+    match g {
+        Verdict::Refuses(r) => records::refuse(l, r),
+        Verdict::Passes => handshake::reset(l),
     }
-    if buf.len() != 536 {
-        return records::refused(l, Refusal::Buffer);
+}
+
+// Returns the record that start makes.
+fn started() -> Drive
+    ensures { λ r. ⌜ r ≡ started ⌝ }
+{
+    let t = Table::empty();
+    let m = Marks {
+        known: false,
+        changed: false,
+        latch: false,
+        fresh: true,
+    };
+    let l = State {
+        phase: Phase::Awaiting(Access::Start(1)),
+        marks: m,
+        command: [0; 6],
+        count: 0,
+        fed: 0,
+    };
+    Drive { table: t, state: l }
+}
+
+// Hands a turn back with the table that comes after it.
+fn hand_back(t: Table, x: Turn) -> Step
+    ensures { λ r. ⌜ r ≡ handed t x ⌝ }
+{
+    let next = x.state;
+    let answer = x.answer;
+    Step {
+        drive: Drive {
+            table: t,
+            state: next,
+        },
+        answer: answer,
     }
-    handshake::reset(l)
+}
+
+// Answers a, and hands the record back as it is.
+fn say(d: Drive, a: Answer) -> Step
+    ensures { λ r. ⌜ r ≡ record { drive = d; answer = a } ⌝ }
+{
+    Step {
+        drive: d,
+        answer: a,
+    }
+}
+
+// Holds the record of a drive.
+pub struct Controller(pub Drive);
+
+impl Controller {
+    // Makes the record anew, zeroes the buffer and asks for the table.
+    pub fn start(self, buf: &mut [u8]) -> Step
+        ensures { λ x. ⌜ Returns (startOf (self .0) (now (buf .entry))) x (now (buf .exit)) ⌝ }
+    {
+        if buf.len() != 536 {
+            let d = self.0;
+            return say(d, Answer::Refused(Refusal::Buffer));
+        }
+        buffer::fill(buf, 0, 536, 0);
+        let s = geometry::table_sector();
+        say(started(), Answer::Read(s))
+    }
+
+    // Raises the CMD line.
+    pub fn raise(self, buf: &mut [u8]) -> Step
+        ensures { λ x. ⌜ Returns (raiseOf (self .0) (now (buf .entry))) x (now (buf .exit)) ⌝ }
+    {
+        let d = self.0;
+        let t = d.table;
+        let l = d.state;
+        let x = raise(&t.spares, t.nspares, &t.bads, t.nbads, l, buf);
+        hand_back(t, x)
+    }
+
+    // Lowers the CMD line with byte b.
+    pub fn lower(self, buf: &mut [u8], b: u8) -> Step
+        ensures { λ x. ⌜ Returns (lowerOf (self .0) (now (buf .entry)) b) x (now (buf .exit)) ⌝ }
+    {
+        let d = self.0;
+        let t = d.table;
+        let l = d.state;
+        let x = lower(&t.spares, t.nspares, &t.bads, t.nbads, l, buf, b);
+        hand_back(t, x)
+    }
+
+    // Feeds bytes.
+    pub fn feed(self, buf: &mut [u8], bytes: &[u8]) -> Step
+        ensures { λ x. ⌜ Returns (feedOf (self .0) (now (buf .entry)) (now (bytes .entry))) x (now (buf .exit)) ⌝ }
+    {
+        let d = self.0;
+        let t = d.table;
+        let l = d.state;
+        let x = feed(&t.spares, t.nspares, &t.bads, t.nbads, l, buf, bytes);
+        hand_back(t, x)
+    }
+
+    // Takes the surface's answer and the bytes that came with it.
+    pub fn surface(self, buf: &mut [u8], a: u8, bytes: &[u8]) -> Step
+        ensures { λ x. ⌜ Returns (surfaceOf (self .0) (now (buf .entry)) a (now (bytes .entry))) x (now (buf .exit)) ⌝ }
+    {
+        let d = self.0;
+        let t = d.table;
+        let l = d.state;
+        let x = surface(&t.spares, t.nspares, &t.bads, t.nbads, l, buf, a, bytes);
+        let change = x.change;
+        hand_back(tables::alter(t, change, bytes), x)
+    }
+
+    // Resets the drive.
+    pub fn reset(self, buf: &mut [u8]) -> Step
+        ensures { λ x. ⌜ Returns (resetOf (self .0) (now (buf .entry))) x (now (buf .exit)) ⌝ }
+    {
+        let d = self.0;
+        let t = d.table;
+        let l = d.state;
+        let x = reset(&t.spares, t.nspares, &t.bads, t.nbads, l, buf);
+        hand_back(t, x)
+    }
+
+    // Builds the table's image in the 532 bytes lent.
+    pub fn image(self, buf: &mut [u8]) -> Step
+        ensures { λ x. ⌜ Returns (imageOutOf (self .0) (now (buf .entry))) x (now (buf .exit)) ⌝ }
+    {
+        let d = self.0;
+        let t = d.table;
+        let l = d.state;
+        let g = guard(&t.spares, t.nspares, &t.bads, t.nbads, l, buf.len() == 532);
+        let m = l.marks;
+        match g {
+            Verdict::Refuses(r) => say(d, Answer::Refused(r)),
+            Verdict::Passes => {
+                if !m.known {
+                    return say(d, Answer::Refused(Refusal::Place));
+                }
+                leaving::write_table(&t.spares, t.nspares, &t.bads, t.nbads, buf);
+                say(d, Answer::Wait)
+            }
+        }
+    }
 }

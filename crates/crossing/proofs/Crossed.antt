@@ -1,89 +1,80 @@
--- A call through its packing, put together from what its parts say.
-use mathlib.Core.Path.{_≡_, sym, ap, _∙_}
-use mathlib.Core.Bool.{Bool, true, false, cond, not, _&&_}
-use mathlib.Core.List.{List, []}
-use Prim.Native.Nat.{ℕ}
-use borrow.Author.Tests.{not-true, not-false, eq-eqb, ne-eqb}
+-- What C is shown of a call, put together from what its parts say.
+use mathlib.Core.Path.{_≡_, refl, sym, ap, subst, _∙_}
+use mathlib.Core.Bool.{Bool, true, false, cond}
+use mathlib.Core.List.{List, _++_}
+use Prim.Native.Nat.{ℕ, _≤_}
 use lib.Dec.{eqb}
-use lib.ListN.{length}
+use lib.ListN.{length, take, drop, getD, take-append-drop}
+use lib.Seq.{getD-drop, drop-drop}
 use Rattle.table.specs.declared.Table.{Table}
-use Rattle.table.specs.Tables.{listsOk}
-use Rattle.drive.specs.declared.Drive.{Drive}
-use Rattle.drive.specs.declared.Line.{Line}
+use Rattle.drive.specs.declared.State.{State}
 use Rattle.drive.specs.declared.Step.{Step}
+use Rattle.drive.specs.declared.Answer.{Answer}
 use Rattle.drive.specs.declared.Answer.the-variants as answer
-use Rattle.drive.specs.declared.Refusal.the-variants as refusal
-use Rattle.drive.specs.Records.{lineOk, recordOk}
-use Rattle.drive.specs.Results.{Out, Result, changed, guarded}
-use Rattle.drive.specs.Calls.{called, startOf}
-use Rattle.records.specs.declared.Turn.{Turn}
-use Rattle.records.specs.Turns.{turnOf}
-use Rattle.controller.proofs.Steps.{steps}
-use Rattle.controller.proofs.Keeping.{guarded-stays}
-use Rattle.packed.specs.declared.Packed.{Packed}
-use Rattle.packed.specs.declared.PackedLine.{PackedLine}
-use Rattle.packed.specs.Packing.{isPacking, packLine, packOf, unpackOf}
+use Rattle.drive.specs.Views.{ofAnswer}
+use Rattle.drive.specs.Results.{Out}
+use Rattle.records.specs.Turns.{lent}
+use Rattle.calls.specs.Gives.{recordOf, Returns}
+use Rattle.packed.specs.Packing.{packState, packTable, packOf, sparesAt, badsAt, tableAt, stateAt}
+use Rattle.packed.proofs.Round.{table-words}
 use Rattle.crossing.specs.declared.Reply.{Reply}
-use Rattle.crossing.specs.declared.PackedStep.{PackedStep}
-use Rattle.crossing.specs.Crossing.{replyOf, beside, crossed, through, throughBytes, anew}
+use Rattle.crossing.specs.Crossing.{replyOf, shown, kept, crossed}
 
--- what the parts say of a step: the record, packed, and the answer as numbers
-packs-step : (f : Drive → Out) (p : Packed) (d : Drive) → d ≡ unpackOf p → (r : Step) → r ≡ f d .step → (q : Packed) → q ≡ packOf (r .drive) → (a : Reply) → a ≡ replyOf (r .answer)
-    → record { packed = q; reply = a } ≡ crossed (f (unpackOf p))
-packs-step f p d e r h q g a k = (λ i. record { packed = g i; reply = k i }) ∙ ap (λ (s : Step). record { packed = packOf (s .drive); reply = replyOf (s .answer) }) (h ∙ ap (λ (x : Drive). f x .step) e)
+-- THE LISTS AND THE STATE THAT ARE LENT TO A CALL are those of the words.
+module _ (w : List ℕ) {s b : List ℕ} {n m : ℕ} {l : State} where
+  pub of-words :
+      (P : Table → State → Type 0) → s ≡ sparesAt w → n ≡ getD w 19 0 → b ≡ badsAt w → m ≡ getD w 20 0 → l ≡ stateAt w → P (lent s n b m) l → P (tableAt w) (stateAt w)
+  unfolding tableAt
+  of-words P es en eb em el p =
+      subst (λ (t : Table). P t (stateAt w)) (λ i. lent (es i) (en i) (eb i) (em i)) (subst (λ (l : State). P (lent s n b m) l) el p)
 
-module _ (f : Drive → Out) (p : Packed) (u : List ℕ) (ok : Bool) (is : ok ≡ isPacking (p .line)) where
-  pub stopped : not ok ≡ true → (a : Reply) → a ≡ replyOf (answer.Refused refusal.Record) → (record { packed = p; reply = a } ≡ through f p) × (u ≡ throughBytes f p u)
-  stopped h a k = let z = sym is ∙ not-true ok h in (rw (k, z), rw z)
+-- THE REPLY: its kind is 6 exactly for a refusal.
+refused-kind : (a : Answer) → eqb (replyOf a .kind) 6 ≡ ofAnswer a .refused
+refused-kind answer.Wait = refl
+refused-kind (answer.Offer o) = refl
+refused-kind (answer.Read s) = refl
+refused-kind (answer.Write s) = refl
+refused-kind answer.Store = refl
+refused-kind answer.Finished = refl
+refused-kind (answer.Refused r) = refl
 
-  pub passes :
-      not ok ≡ false → (d : Drive) → d ≡ unpackOf p → (r : Step) (v : List ℕ) → r ≡ f d .step → v ≡ f d .bytes → (q : Packed) → q ≡ packOf (r .drive) → (a : Reply) → a ≡ replyOf (r .answer)
-      → (record { packed = q; reply = a } ≡ through f p) × (v ≡ throughBytes f p u)
-  passes h d e r v s b q g a k =
-      let z = sym is ∙ not-false ok h in
-      (rw z (packs-step f p d e r s q g a k), rw z (b ∙ ap (λ (x : Drive). f x .bytes) e))
+module _ (a : Answer) {r : Reply} (is : r ≡ replyOf a) where
+  kind-so : (t : Bool) → eqb (r .kind) 6 ≡ t → ofAnswer a .refused ≡ t
+  kind-so t e = sym (refused-kind a) ∙ ap (λ (r : Reply). eqb (r .kind) 6) (sym is) ∙ e
 
-module _ (p : Packed) (u : List ℕ) where
-  pub start-stopped : eqb (length u) 536 ≡ false → (a : Reply) → a ≡ replyOf (answer.Refused refusal.Buffer) → (record { packed = p; reply = a } ≡ anew p u) × (u ≡ startOf (unpackOf p) u .bytes)
-  unfolding startOf
-  start-stopped h a k = (rw (k, h), rw h)
+  -- Where it was 6 the words stay, whatever else would be written,
+  pub left-where-refused : (w v : List ℕ) → eqb (r .kind) 6 ≡ true → w ≡ kept a w v
+  left-where-refused w v e = rw (kind-so true e)
 
-  pub start-passes :
-      eqb (length u) 536 ≡ true → (d : Drive) → d ≡ unpackOf p → (r : Step) (v : List ℕ) → r ≡ startOf d u .step → v ≡ startOf d u .bytes → (q : Packed) → q ≡ packOf (r .drive) → (a : Reply)
-      → a ≡ replyOf (r .answer) → (record { packed = q; reply = a } ≡ anew p u) × (v ≡ startOf (unpackOf p) u .bytes)
-  start-passes h d e r v s b q g a k =
-      (rw h (packs-step (λ (x : Drive). startOf x u) p d e r s q g a k), b ∙ ap (λ (x : Drive). startOf x u .bytes) e)
+  pub same-where-refused : (w v v′ : List ℕ) → eqb (r .kind) 6 ≡ true → kept a w v ≡ kept a w v′
+  same-where-refused w v v′ e = sym (left-where-refused w v e) ∙ left-where-refused w v′ e
 
--- a call whose rule is X, of the line
-module _ (X : Line → Result) (p : Packed) (u bs : List ℕ) (ok : Bool) (is : ok ≡ isPacking (p .line)) where
-  abbrev d : Drive
-  d = unpackOf p
+  -- and else they are written.
+  pub written-where-not : (w v : List ℕ) → eqb (r .kind) 6 ≡ false → v ≡ kept a w v
+  written-where-not w v e = rw (kind-so false e)
 
-  abbrev ruled : Line → Result
-  ruled l = guarded (listsOk (p .table .spares) (p .table .nspares) (p .table .bads) (p .table .nbads) && lineOk (p .table .nspares) l) 536 l u (X l)
+-- Its parts make what C is shown of a result.
+pub shows : (w v u : List ℕ) (x : Out) (s : Step) (r : Reply) → Returns x s u → r ≡ replyOf (s .answer) → v ≡ kept (s .answer) w (packOf (s .drive)) → shown r v u ≡ crossed w x
+shows w v u x s r g e k = (λ i. shown (e i) (k i) (g .1 i)) ∙ ap (λ (s : Step). shown (replyOf (s .answer)) (kept (s .answer) w (packOf (s .drive))) (x .bytes)) (g .0)
 
-  -- what it hands back and leaves
-  abbrev Gives : PackedStep → List ℕ → Type 0
-  Gives x v =
-      (x ≡ cond (isPacking (p .line)) (crossed (called d u bs (X (d .line)))) (record { packed = p; reply = replyOf (answer.Refused refusal.Record) }))
-      × (v ≡ cond (isPacking (p .line)) (called d u bs (X (d .line)) .bytes) u)
+-- THE WORDS
+module _ (w : List ℕ) (h : length w ≡ 153) (a : getD w 19 0 ≤ 65535) (b : getD w 20 0 ≤ 65535) where
+  -- A state written into the words is packed beside their table,
+  pub state-packed : (l : State) → packState l ++ drop 19 w ≡ packOf (recordOf (tableAt w) l)
+  unfolding packOf
+  state-packed l = ap (λ (r : List ℕ). packState l ++ r) (sym (table-words w h a b))
 
-  pub table-passes :
-      not ok ≡ false → (l : Line) → l ≡ d .line → (w : Turn) (v : List ℕ) → w ≡ turnOf (ruled l) → v ≡ ruled l .bytes → (t : Table) → t ≡ changed (w .change) (p .table) bs → (k : PackedLine) → k ≡ packLine (w .line)
-      → (a : Reply) → a ≡ replyOf (w .answer) → Gives (record { packed = record { table = t; line = k }; reply = a }) v
-  unfolding recordOk
-  table-passes h l e w v s b t c k g a f =
-      let z = sym is ∙ not-false ok h in
-      let s′ = s ∙ ap (λ (l : Line). turnOf (ruled l)) e in
-      let y = steps d u bs (X (d .line)) w s′ t (c ∙ ap (λ (w : Turn). changed (w .change) (p .table) bs) s′) v (b ∙ ap (λ (l : Line). ruled l .bytes) e) in
-      (rw z ((λ i. record { packed = record { table = t; line = g i }; reply = f i }) ∙ ap (λ (s : Step). record { packed = packOf (s .drive); reply = replyOf (s .answer) }) (y .0)), rw z (y .1))
+  -- and a table that is packed again changes nothing.
+  pub table-kept : w ≡ take 19 w ++ packTable (tableAt w)
+  table-kept = sym (ap (λ (r : List ℕ). take 19 w ++ r) (table-words w h a b) ∙ take-append-drop 19 w)
 
--- and one that leaves the table
-module _ (X : Line → Result) (p : Packed) (u : List ℕ) (ok : Bool) (is : ok ≡ isPacking (p .line)) (stays : (l : Line) → p .table ≡ changed (X l .change) (p .table) []) where
-  pub line-passes :
-      not ok ≡ false → (l : Line) → l ≡ unpackOf p .line → (w : Turn) (v : List ℕ) → w ≡ turnOf (ruled X p u [] ok is l) → v ≡ ruled X p u [] ok is l .bytes → (k : PackedLine) → k ≡ packLine (w .line) → (a : Reply)
-      → a ≡ replyOf (w .answer) → Gives X p u [] ok is (beside p (record { line = k; reply = a })) v
-  line-passes h l e w v s b k g a f =
-      let o = listsOk (p .table .spares) (p .table .nspares) (p .table .bads) (p .table .nbads) && lineOk (p .table .nspares) l in
-      let c = guarded-stays o 536 l (p .table) u (X l) (stays l) ∙ ap (λ (w : Turn). changed (w .change) (p .table) []) (sym s) in
-      table-passes X p u [] ok is h l e w v s b (p .table) c k g a f
+-- A state that is written leaves the table,
+pub table-stays : (w : List ℕ) (l : State) → tableAt (packState l ++ drop 19 w) ≡ tableAt w
+unfolding tableAt packState
+table-stays w l =
+    λ i. record { spares = take 32 (drop-drop 2 19 w i); bads = take 100 (drop-drop 34 19 w i); nspares = getD-drop 19 w 0 0 i; nbads = getD-drop 19 w 1 0 i }
+
+-- and a table beside it makes the whole record.
+pub both-packed : (r : List ℕ) (l : State) (t : Table) → take 19 (packState l ++ r) ++ packTable t ≡ packOf (recordOf t l)
+unfolding packOf packState
+both-packed r l t = refl

@@ -1,45 +1,66 @@
--- The calls as C sees them: over a packed record, with the answer as two numbers.
+-- The calls as C sees them: over a record's words, with the answer as two numbers.
 use mathlib.Core.Bool.{Bool, true, false, cond}
+use mathlib.Core.Path.{_≡_}
 use mathlib.Core.List.{List}
 use Prim.Native.Nat.{ℕ}
-use lib.Dec.{eqb}
-use lib.ListN.{length}
-use Rattle.drive.specs.declared.Drive.{Drive}
+use Rattle.table.specs.declared.Table.{Table}
+use Rattle.drive.specs.declared.Turn.{Turn}
 use Rattle.drive.specs.declared.Answer.{Answer}
 use Rattle.drive.specs.declared.Answer.the-variants as answer
-use Rattle.drive.specs.declared.Refusal.the-variants as refusal
 use Rattle.drive.specs.Words.{response, codeOf}
 use Rattle.drive.specs.Results.{Out}
-use Rattle.drive.specs.Calls.{startOf}
-use Rattle.packed.specs.declared.Packed.{Packed}
-use Rattle.packed.specs.Packing.{isPacking, packOf, unpackOf}
+use Rattle.drive.specs.Calls.{Call, surface, stepOf, startOf, imageOutOf}
+use Rattle.drive.specs.Views.{ofAnswer}
+use Rattle.packed.specs.Packing.{packOf, unpackOf}
+use Rattle.calls.specs.Gives.{recordOf}
 use Rattle.crossing.specs.declared.Reply.{Reply}
-use Rattle.crossing.specs.declared.LineStep.{LineStep}
-use Rattle.crossing.specs.declared.PackedStep.{PackedStep}
 
+abbrev pub reply : ℕ → ℕ → Reply
+reply k n = record { kind = k; value = n }
+
+-- Returns the two numbers of an answer.
 abbrev pub replyOf : Answer → Reply
-replyOf answer.Wait = record { kind = 0; value = 0 }
-replyOf (answer.Offer o) = record { kind = 1; value = response o }
-replyOf (answer.Read s) = record { kind = 2; value = s .0 }
-replyOf (answer.Write s) = record { kind = 3; value = s .0 }
-replyOf answer.Store = record { kind = 4; value = 0 }
-replyOf answer.Finished = record { kind = 5; value = 0 }
-replyOf (answer.Refused r) = record { kind = 6; value = codeOf r }
+replyOf answer.Wait = reply 0 0
+replyOf (answer.Offer o) = reply 1 (response o)
+replyOf (answer.Read s) = reply 2 (s .0)
+replyOf (answer.Write s) = reply 3 (s .0)
+replyOf answer.Store = reply 4 0
+replyOf answer.Finished = reply 5 0
+replyOf (answer.Refused r) = reply 6 (codeOf r)
 
--- the step of a call that hands back the line alone: the table is the one that was given
-abbrev pub beside : Packed → LineStep → PackedStep
-beside p x = record { packed = record { table = p .table; line = x .line }; reply = x .reply }
+-- Holds what C is shown of a call: the reply, the record's words and the buffer's bytes.
+pub record Shown : Type 0 where
+  pub reply : Reply
+  pub words : List ℕ
+  pub bytes : List ℕ
 
-abbrev pub crossed : Out → PackedStep
-crossed x = record { packed = packOf (x .step .drive); reply = replyOf (x .step .answer) }
+abbrev pub shown : Reply → List ℕ → List ℕ → Shown
+shown r w u = record { reply = r; words = w; bytes = u }
 
--- a call by its definition; numbers that are no packing of any record are refused with code 1 and left
-abbrev pub through : (Drive → Out) → Packed → PackedStep
-through f p = cond (isPacking (p .line)) (crossed (f (unpackOf p))) (record { packed = p; reply = replyOf (answer.Refused refusal.Record) })
+-- Returns the words after a call: v, or w as they were where it is refused. "leaves: all unchanged"
+abbrev pub kept : Answer → List ℕ → List ℕ → List ℕ
+kept a w v = cond (ofAnswer a .refused) w v
 
-abbrev pub throughBytes : (Drive → Out) → Packed → List ℕ → List ℕ
-throughBytes f p u = cond (isPacking (p .line)) (f (unpackOf p) .bytes) u
+-- Returns what C is shown of a call with the result x on the words w.
+abbrev pub crossed : List ℕ → Out → Shown
+crossed w x = shown (replyOf (x .step .answer)) (kept (x .step .answer) w (packOf (x .step .drive))) (x .bytes)
 
--- start: "of the codes only 2 applies"
-abbrev pub anew : Packed → List ℕ → PackedStep
-anew p u = cond (eqb (length u) 536) (crossed (startOf (unpackOf p) u)) (record { packed = p; reply = replyOf (answer.Refused refusal.Buffer) })
+-- Returns what C is shown of a call of the list, on the words w and the buffer u.
+abbrev pub callShown : Call → List ℕ → List ℕ → Shown
+callShown c w u = crossed w (stepOf c (unpackOf w) u)
+
+-- Returns what C is shown of the surface's answer a with the bytes bs.
+abbrev pub answerShown : ℕ → List ℕ → List ℕ → List ℕ → Shown
+answerShown a bs w u = callShown (surface a bs) w u
+
+-- Returns what C is shown of start.
+abbrev pub startShown : List ℕ → List ℕ → Shown
+startShown w u = crossed w (startOf (unpackOf w) u)
+
+-- Returns what C is shown of image, which writes no word.
+abbrev pub imageShown : List ℕ → List ℕ → Shown
+imageShown w u = shown (replyOf (imageOutOf (unpackOf w) u .step .answer)) w (imageOutOf (unpackOf w) u .bytes)
+
+-- Says that r and v are the reply and the words after the turn x on the words w, with the table t after it.
+abbrev pub Keeps : Table → Turn → List ℕ → Reply → List ℕ → Type 0
+Keeps t x w r v = (r ≡ replyOf (x .answer)) × (v ≡ kept (x .answer) w (packOf (recordOf t (x .state))))

@@ -1,20 +1,22 @@
-// The calls over a packed record, by value: unpacked, called, and packed again. Numbers that are no
-// packing of any record are refused with code 1. Raise, lower, feed and reset leave the table, so they
-// hand back the line alone.
+// The calls over a record's words, which are lent: unpacked, called, and what comes of it written back. A
+// refused call writes nothing.
 ghost use mathlib.Core.Path.{_≡_};
-ghost use Rattle.drive.specs.declared.Drive.{Drive as Drive'};
+ghost use mathlib.Core.List.{_++_};
+ghost use lib.ListN.{length, take};
 ghost use Rattle.drive.specs.Words.{codeOf};
-ghost use Rattle.drive.specs.Calls.{startOf, raiseOf, lowerOf, feedOf, surfaceOf, resetOf, imageOutOf};
-ghost use Rattle.packed.specs.Packing.{unpackOf};
-ghost use Rattle.crossing.specs.Crossing.{replyOf, beside, through, throughBytes, anew};
-use controller::Controller;
+ghost use Rattle.drive.specs.Results.{changed};
+ghost use Rattle.drive.specs.Calls as call;
+ghost use Rattle.calls.specs.Gives.{Gives, Formed, Answers};
+ghost use Rattle.packed.specs.Packing.{packTable, stateAt, tableAt, unpackOf};
+ghost use Rattle.crossing.specs.Crossing.{reply, replyOf, Keeps, shown, startShown, imageShown};
+use calls::Controller;
 use drive::Answer;
 use drive::Change;
+use drive::Drive;
 use drive::Refusal;
-use packed::Packed;
-use packed::PackedLine;
+use drive::Turn;
 
-// What a call answers: 0 wait, 1 offer and its response byte, 2 read and its sector, 3 write and its
+// Holds what a call answers: 0 wait, 1 offer and its response byte, 2 read and its sector, 3 write and its
 // sector, 4 store, 5 finished, 6 refused and the code.
 #[repr(C)]
 pub struct Reply {
@@ -22,19 +24,8 @@ pub struct Reply {
     pub value: u32,
 }
 
-#[repr(C)]
-pub struct LineStep {
-    pub line: PackedLine,
-    pub reply: Reply,
-}
-
-#[repr(C)]
-pub struct PackedStep {
-    pub packed: Packed,
-    pub reply: Reply,
-}
-
-fn code(r: Refusal) -> u32
+// Returns the code of a refusal.
+fn code_of(r: Refusal) -> u32
     ensures { λ x. ⌜ x ≡ codeOf r ⌝ }
 {
     match r {
@@ -46,194 +37,165 @@ fn code(r: Refusal) -> u32
     }
 }
 
-fn said(kind: u32, value: u32) -> Reply
-    ensures { λ r. ⌜ r ≡ record { kind = kind; value = value } ⌝ }
-{
-    Reply {
-        kind: kind,
-        value: value,
+impl Reply {
+    fn new(kind: u32, value: u32) -> Reply
+        ensures { λ r. ⌜ r ≡ reply kind value ⌝ }
+    {
+        Reply {
+            kind: kind,
+            value: value,
+        }
     }
 }
 
-fn spell(a: Answer) -> Reply
+// Returns the two numbers of an answer.
+pub fn reply_of(a: Answer) -> Reply
     ensures { λ r. ⌜ r ≡ replyOf a ⌝ }
 {
     match a {
-        Answer::Wait => said(0, 0),
-        Answer::Offer(o) => said(1, packed::as_response(o) as u32),
-        Answer::Read(s) => said(2, s.0),
-        Answer::Write(s) => said(3, s.0),
-        Answer::Store => said(4, 0),
-        Answer::Finished => said(5, 0),
-        Answer::Refused(r) => said(6, code(r)),
+        Answer::Wait => Reply::new(0, 0),
+        Answer::Offer(o) => Reply::new(1, packed::response(o) as u32),
+        Answer::Read(s) => Reply::new(2, s.0),
+        Answer::Write(s) => Reply::new(3, s.0),
+        Answer::Store => Reply::new(4, 0),
+        Answer::Finished => Reply::new(5, 0),
+        Answer::Refused(r) => Reply::new(6, code_of(r)),
     }
 }
 
-// Start makes the record anew from any numbers.
-pub fn start(p: Packed, buf: &mut [u8]) -> PackedStep
-    ensures { λ x. ⌜ (x ≡ anew p (now (buf .entry))) × (now (buf .exit) ≡ startOf (unpackOf p) (now (buf .entry)) .bytes) ⌝ }
+// Raises the CMD line.
+pub fn raise(w: &[u16], buf: &mut [u8]) -> Turn
+    requires { ⌜ length (now w) ≡ 153 ⌝ }
+    ensures { λ x. ⌜ Gives call.raise (tableAt (now (w .entry))) (stateAt (now (w .entry))) (now (buf .entry)) x (now (buf .exit)) ⌝ }
 {
-    if buf.len() != 536 {
-        return PackedStep {
-            packed: p,
-            reply: said(6, 2),
-        };
+    let n = packed::number(w[19]);
+    let m = packed::number(w[20]);
+    let l = packed::state_at(w);
+    calls::raise(packed::spares(w), n, packed::bads(w), m, l, buf)
+}
+
+// Lowers the CMD line with byte b.
+pub fn lower(w: &[u16], buf: &mut [u8], b: u8) -> Turn
+    requires { ⌜ length (now w) ≡ 153 ⌝ }
+    ensures { λ x. ⌜ Gives (call.lower b) (tableAt (now (w .entry))) (stateAt (now (w .entry))) (now (buf .entry)) x (now (buf .exit)) ⌝ }
+{
+    let n = packed::number(w[19]);
+    let m = packed::number(w[20]);
+    let l = packed::state_at(w);
+    calls::lower(packed::spares(w), n, packed::bads(w), m, l, buf, b)
+}
+
+// Feeds bytes.
+pub fn feed(w: &[u16], buf: &mut [u8], bytes: &[u8]) -> Turn
+    requires { ⌜ length (now w) ≡ 153 ⌝ }
+    ensures { λ x. ⌜ Gives (call.feed (now (bytes .entry))) (tableAt (now (w .entry))) (stateAt (now (w .entry))) (now (buf .entry)) x (now (buf .exit)) ⌝ }
+{
+    let n = packed::number(w[19]);
+    let m = packed::number(w[20]);
+    let l = packed::state_at(w);
+    calls::feed(packed::spares(w), n, packed::bads(w), m, l, buf, bytes)
+}
+
+// Takes the surface's answer and the bytes that came with it.
+pub fn surface(w: &[u16], buf: &mut [u8], a: u8, bytes: &[u8]) -> Turn
+    requires { ⌜ length (now w) ≡ 153 ⌝ }
+    ensures { λ x. ⌜ Answers a (now (bytes .entry)) (tableAt (now (w .entry))) (stateAt (now (w .entry))) (now (buf .entry)) x (now (buf .exit)) ⌝ }
+{
+    let n = packed::number(w[19]);
+    let m = packed::number(w[20]);
+    let l = packed::state_at(w);
+    calls::surface(packed::spares(w), n, packed::bads(w), m, l, buf, a, bytes)
+}
+
+// Resets the drive.
+pub fn reset(w: &[u16], buf: &mut [u8]) -> Turn
+    requires { ⌜ length (now w) ≡ 153 ⌝ }
+    ensures { λ x. ⌜ Gives call.reset (tableAt (now (w .entry))) (stateAt (now (w .entry))) (now (buf .entry)) x (now (buf .exit)) ⌝ }
+{
+    let n = packed::number(w[19]);
+    let m = packed::number(w[20]);
+    let l = packed::state_at(w);
+    calls::reset(packed::spares(w), n, packed::bads(w), m, l, buf)
+}
+
+// Writes the state of a turn, unless it refuses, and returns its reply.
+pub fn keep(w: &mut [u16], x: Turn) -> Reply
+    requires { ⌜ length (now w) ≡ 153 ⌝ }
+    ensures { λ r. ⌜ Keeps (tableAt (now (w .entry))) x (now (w .entry)) r (now (w .exit)) ⌝ }
+{
+    let a = x.answer;
+    let r = reply_of(a);
+    if r.kind == 6 {
+        return r;
     }
-    let d = packed::unpack(p);
-    let step = Controller(d).start(buf);
-    let drive = step.drive;
-    let answer = step.answer;
-    PackedStep {
-        packed: packed::pack(drive),
-        reply: spell(answer),
+    let l = x.state;
+    packed::put_state(w, l);
+    r
+}
+
+// Writes what a change makes of the table.
+fn alter(w: &mut [u16], c: Change, bytes: &[u8])
+    requires { ⌜ (length (now w) ≡ 153) × Formed (now bytes) c ⌝ }
+    ensures { λ r. ⌜ now (w .exit) ≡ take 19 (now (w .entry)) ++ packTable (changed c (tableAt (now (w .entry))) (now (bytes .entry))) ⌝ }
+{
+    match c {
+        Change::Keep => {}
+        _ => {
+            let t = packed::table_at(w);
+            packed::put_table(w, calls::tables::alter(t, c, bytes));
+        }
     }
 }
 
-pub fn raise(p: Packed, buf: &mut [u8]) -> LineStep
-    ensures { λ x. ⌜ (beside p x ≡ through (λ (d : Drive'). raiseOf d (now (buf .entry))) p) × (now (buf .exit) ≡ throughBytes (λ (d : Drive'). raiseOf d (now (buf .entry))) p (now (buf .entry))) ⌝ }
+// Writes the state and the table of a turn, unless it refuses, and returns its reply.
+pub fn settle(w: &mut [u16], x: Turn, bytes: &[u8]) -> Reply
+    requires { ⌜ (length (now w) ≡ 153) × Formed (now bytes) (x .change) ⌝ }
+    ensures { λ r. ⌜ Keeps (changed (x .change) (tableAt (now (w .entry))) (now (bytes .entry))) x (now (w .entry)) r (now (w .exit)) ⌝ }
 {
-    let line = p.line;
-    if !packed::is_packing(line) {
-        return LineStep {
-            line: line,
-            reply: said(6, 1),
-        };
+    let r = keep(w, x);
+    if r.kind == 6 {
+        return r;
     }
-    let t = p.table;
-    let spares = t.spares;
-    let bads = t.bads;
-    let l = packed::unpack_line(line);
-    let turn = calls::raise(&spares, t.nspares, &bads, t.nbads, l, buf);
-    let next = turn.line;
-    let answer = turn.answer;
-    LineStep {
-        line: packed::pack_line(next),
-        reply: spell(answer),
-    }
+    let c = x.change;
+    alter(w, c, bytes);
+    r
 }
 
-pub fn lower(p: Packed, buf: &mut [u8], b: u8) -> LineStep
-    ensures { λ x. ⌜ (beside p x ≡ through (λ (d : Drive'). lowerOf d (now (buf .entry)) b) p) × (now (buf .exit) ≡ throughBytes (λ (d : Drive'). lowerOf d (now (buf .entry)) b) p (now (buf .entry))) ⌝ }
+// Returns the record of the words.
+fn record_at(w: &[u16]) -> Controller
+    requires { ⌜ length (now w) ≡ 153 ⌝ }
+    ensures { λ r. ⌜ r .0 ≡ unpackOf (now (w .entry)) ⌝ }
 {
-    let line = p.line;
-    if !packed::is_packing(line) {
-        return LineStep {
-            line: line,
-            reply: said(6, 1),
-        };
-    }
-    let t = p.table;
-    let spares = t.spares;
-    let bads = t.bads;
-    let l = packed::unpack_line(line);
-    let turn = calls::lower(&spares, t.nspares, &bads, t.nbads, l, buf, b);
-    let next = turn.line;
-    let answer = turn.answer;
-    LineStep {
-        line: packed::pack_line(next),
-        reply: spell(answer),
-    }
+    let t = packed::table_at(w);
+    let l = packed::state_at(w);
+    Controller(Drive { table: t, state: l })
 }
 
-pub fn feed(p: Packed, buf: &mut [u8], bytes: &[u8]) -> LineStep
-    ensures { λ x. ⌜ (beside p x ≡ through (λ (d : Drive'). feedOf d (now (buf .entry)) (now (bytes .entry))) p) × (now (buf .exit) ≡ throughBytes (λ (d : Drive'). feedOf d (now (buf .entry)) (now (bytes .entry))) p (now (buf .entry))) ⌝ }
+// Starts the drive: zeroes the buffer, writes a new record and returns the reply, unless it refuses.
+pub fn start(w: &mut [u16], buf: &mut [u8]) -> Reply
+    requires { ⌜ length (now w) ≡ 153 ⌝ }
+    ensures { λ r. ⌜ shown r (now (w .exit)) (now (buf .exit)) ≡ startShown (now (w .entry)) (now (buf .entry)) ⌝ }
 {
-    let line = p.line;
-    if !packed::is_packing(line) {
-        return LineStep {
-            line: line,
-            reply: said(6, 1),
-        };
+    let step = record_at(w).start(buf);
+    let a = step.answer;
+    let r = reply_of(a);
+    if r.kind == 6 {
+        return r;
     }
-    let t = p.table;
-    let spares = t.spares;
-    let bads = t.bads;
-    let l = packed::unpack_line(line);
-    let turn = calls::feed(&spares, t.nspares, &bads, t.nbads, l, buf, bytes);
-    let next = turn.line;
-    let answer = turn.answer;
-    LineStep {
-        line: packed::pack_line(next),
-        reply: spell(answer),
-    }
+    let d = step.drive;
+    let t = d.table;
+    let l = d.state;
+    packed::put_state(w, l);
+    packed::put_table(w, t);
+    r
 }
 
-pub fn surface(p: Packed, buf: &mut [u8], a: u8, bytes: &[u8]) -> PackedStep
-    ensures { λ x. ⌜ (x ≡ through (λ (d : Drive'). surfaceOf d (now (buf .entry)) a (now (bytes .entry))) p) × (now (buf .exit) ≡ throughBytes (λ (d : Drive'). surfaceOf d (now (buf .entry)) a (now (bytes .entry))) p (now (buf .entry))) ⌝ }
+// Builds the table's image in the 532 bytes lent.
+pub fn image(w: &[u16], buf: &mut [u8]) -> Reply
+    requires { ⌜ length (now w) ≡ 153 ⌝ }
+    ensures { λ r. ⌜ shown r (now (w .entry)) (now (buf .exit)) ≡ imageShown (now (w .entry)) (now (buf .entry)) ⌝ }
 {
-    let line = p.line;
-    if !packed::is_packing(line) {
-        return PackedStep {
-            packed: p,
-            reply: said(6, 1),
-        };
-    }
-    let t = p.table;
-    let l = packed::unpack_line(line);
-    let turn = calls::surface(&t.spares, t.nspares, &t.bads, t.nbads, l, buf, a, bytes);
-    let next = turn.line;
-    let answer = turn.answer;
-    let change = turn.change;
-    let after = packed::pack_line(next);
-    let reply = spell(answer);
-    // A table that is kept is not copied once more.
-    match change {
-        Change::Keep => PackedStep {
-            packed: Packed {
-                table: t,
-                line: after,
-            },
-            reply: reply,
-        },
-        _ => PackedStep {
-            packed: Packed {
-                table: controller::alter(t, change, bytes),
-                line: after,
-            },
-            reply: reply,
-        },
-    }
-}
-
-pub fn reset(p: Packed, buf: &mut [u8]) -> LineStep
-    ensures { λ x. ⌜ (beside p x ≡ through (λ (d : Drive'). resetOf d (now (buf .entry))) p) × (now (buf .exit) ≡ throughBytes (λ (d : Drive'). resetOf d (now (buf .entry))) p (now (buf .entry))) ⌝ }
-{
-    let line = p.line;
-    if !packed::is_packing(line) {
-        return LineStep {
-            line: line,
-            reply: said(6, 1),
-        };
-    }
-    let t = p.table;
-    let spares = t.spares;
-    let bads = t.bads;
-    let l = packed::unpack_line(line);
-    let turn = calls::reset(&spares, t.nspares, &bads, t.nbads, l, buf);
-    let next = turn.line;
-    let answer = turn.answer;
-    LineStep {
-        line: packed::pack_line(next),
-        reply: spell(answer),
-    }
-}
-
-pub fn image(p: Packed, buf: &mut [u8]) -> PackedStep
-    ensures { λ x. ⌜ (x ≡ through (λ (d : Drive'). imageOutOf d (now (buf .entry))) p) × (now (buf .exit) ≡ throughBytes (λ (d : Drive'). imageOutOf d (now (buf .entry))) p (now (buf .entry))) ⌝ }
-{
-    let line = p.line;
-    if !packed::is_packing(line) {
-        return PackedStep {
-            packed: p,
-            reply: said(6, 1),
-        };
-    }
-    let d = packed::unpack(p);
-    let step = Controller(d).image(buf);
-    let drive = step.drive;
-    let answer = step.answer;
-    PackedStep {
-        packed: packed::pack(drive),
-        reply: spell(answer),
-    }
+    let step = record_at(w).image(buf);
+    let a = step.answer;
+    reply_of(a)
 }

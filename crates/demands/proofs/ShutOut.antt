@@ -8,295 +8,270 @@ use Prim.Native.Nat.{ℕ, _+_, _≤_}
 use native.Mathlib.Omega.{arith}
 use lib.Dec.{eqb, ltb}
 use lib.ListN.{length, getD, take}
+use lib.Seq.{take-all}
 use borrow.Author.Tests.{eqb-true, eq-eqb, ne-eqb, ltb-false, le-ltb}
 use Rattle.geometry.specs.Geometry.{isBlock}
-use Rattle.geometry.specs.declared.Block.{Block}
 use Rattle.logic.proofs.Bools.{branch, clash, and-left, and-right}
-use Rattle.lists.specs.Lists.{memberOf}
 use Rattle.table.specs.declared.Table.{Table}
-use Rattle.table.specs.Tables.{spareList, badList, killedNext}
+use Rattle.table.specs.Tables.{spareList, killedNext}
 use Rattle.buffer.specs.Runs.{same}
 use Rattle.buffer.proofs.Compare.{same-equal}
-use Rattle.drive.specs.declared.Drive.{Drive}
-use Rattle.drive.specs.declared.Line.{Line}
-use Rattle.drive.specs.declared.Offer.the-variants as offer
-use Rattle.drive.specs.declared.Marks.{Marks}
-use Rattle.drive.specs.declared.Seen.{Seen}
-use Rattle.drive.specs.declared.Retry.{Retry}
-use Rattle.drive.specs.declared.Trial.{Trial}
-use Rattle.drive.specs.declared.Phase.{Phase}
-use Rattle.drive.specs.declared.Phase.the-variants as phase
+use Rattle.drive.specs.declared.Access.the-variants as access
 use Rattle.drive.specs.declared.Answer.the-variants as answer
-use Rattle.drive.specs.declared.Ending.{Ending}
-use Rattle.drive.specs.declared.Ending.the-variants as ending
 use Rattle.drive.specs.declared.Change.{Change}
 use Rattle.drive.specs.declared.Change.the-variants as change
+use Rattle.drive.specs.declared.Drive.{Drive}
+use Rattle.drive.specs.declared.Ending.{Ending}
+use Rattle.drive.specs.declared.Ending.the-variants as ending
+use Rattle.drive.specs.declared.Marks.{Marks}
+use Rattle.drive.specs.declared.Order.{Order}
 use Rattle.drive.specs.declared.Outcome.{Outcome}
 use Rattle.drive.specs.declared.Outcome.the-variants as outcome
-use Rattle.drive.specs.Words.{dataOf, withData, opcodeOf, numberOf, retriesOf, thresholdOf, blockOf, ending2, statusOf}
-use Rattle.drive.specs.Records.{recordOk}
+use Rattle.drive.specs.declared.Part.{Part}
+use Rattle.drive.specs.declared.Part.the-variants as part
+use Rattle.drive.specs.declared.Phase.{Phase}
+use Rattle.drive.specs.declared.Phase.the-variants as phase
+use Rattle.drive.specs.declared.Retry.{Retry}
+use Rattle.drive.specs.declared.Seen.{Seen}
+use Rattle.drive.specs.declared.State.{State}
+use Rattle.drive.specs.declared.Trial.{Trial}
+use Rattle.drive.specs.declared.Turn.{Turn}
+use Rattle.drive.specs.Words.{dataOf, rowOf, statusOf, isRead, orderOf}
+use Rattle.drive.specs.Records.{recordOk, awaits}
 use Rattle.drive.specs.Values.{Typed}
-use Rattle.drive.specs.Results.{Out, Result, changed, outOf, finish, altered, clean}
-use Rattle.drive.specs.Handshake.{writes, noNumber, acted, firstRead, goesOn, lowered}
-use Rattle.drive.specs.Retries.{met, afterRead}
-use Rattle.drive.specs.Sparing.{nextAttempt, missed, brokenOff, verified, tried, checked}
-use Rattle.drive.specs.Access.{toRead, keptData, lost, settled, reads, readAnswered, writeAnswered, answered}
+use Rattle.drive.specs.Results.{Out, four, partLeft, statusLeft, outOf, withMarks, finished, finish, clean}
+use Rattle.drive.specs.Handshake.{firstRead, noNumber, writes, acted}
+use Rattle.drive.specs.Retries.{afterRead}
+use Rattle.drive.specs.Sparing.{tried, checked}
+use Rattle.drive.specs.Access.{isTrialRead, fitting, keptPart, reads, writeAnswered, follows, answered}
 use Rattle.drive.specs.Calls.{lower, surface, lowerOf, surfaceOf, stepOf}
-use Rattle.drive.specs.History.{bit, isFinished, good}
+use Rattle.drive.specs.History.{bit, good}
 use Rattle.drive.specs.Over.{Reply, command, Completes}
 use Rattle.drive.specs.Status4.{failures, numbers, leftBy}
+use Rattle.drive.specs.TableRead.{OffersRead}
+use Rattle.drive.specs.Views.{ofAnswer}
+use Rattle.records.proofs.Ladders.{acted-cases, NextAttempt, Missed, Stopped, tried-cases, checked-cases, lost-cases, settled-cases, write-cases}
+use Rattle.demands.proofs.Parts.{data-put, data-with}
+use Rattle.demands.proofs.Numbers.{acts-on}
 use Rattle.demands.proofs.Statuses.{fails, good-is}
 use Rattle.demands.proofs.Sim.{Ln}
 use Rattle.demands.proofs.Valid.{step-valid}
 use Rattle.demands.proofs.Status4.{status-4}
 
--- a result that is finished, and good by its status 1
-abbrev pub Fine : Result → Bool
-Fine x = isFinished (x .answer) && not (bit 1 (getD (x .bytes) 0 0))
+-- Says whether a call finished, good by its status 1.
+abbrev pub endsWell : Out → Bool
+endsWell y = ofAnswer (y .step .answer) .finished && not (bit 1 (getD (y .bytes) 0 0))
 
--- A FIRST GOOD READ IS GOOD, with those bytes.
-pub first-good : (r : Retry) (l : Line) (t : Table) (u bs : List ℕ) → r .first ≡ true → r .good ≡ false → length bs ≡ 532
-    → answered (phase.Reading r) l t u 0 bs ≡ finish l (l .marks) change.Keep ending.Good (r .seen) (withData u bs)
-unfolding answered toRead readAnswered afterRead reads keptData
-first-good r l t u bs f g n = rw (f, g, eq-eqb (length bs) 532 n)
+module _ (t : Table) (bs u : List ℕ) where
+  -- Says that a turn does not end well.
+  abbrev pub Bad : Turn → Type 0
+  Bad x = endsWell (outOf t bs u x) ≡ true → ⊥
 
--- an ending that is a failure is not fine
-pub bad-finish : (e : Ending) (s : Seen) (n : Bool) (u : List ℕ) → fails e ≡ true → not (bit 1 (getD (statusOf e s n ++ dataOf u) 0 0)) ≡ true → ⊥
-unfolding good
-bad-finish e s n u f h = clash h (good-is (surface 0 []) answer.Finished e s n u ∙ ap not f)
+  -- A failure is one, whatever becomes of the table.
+  pub bad-finish : (l : State) (e : Ending) (s : Seen) (p : Part) → fails e ≡ true → Bad (finish l change.Keep e s p)
+  unfolding statusLeft good
+  bad-finish l e s p f h = clash h (good-is (surface 0 []) answer.Finished e s (l .marks .fresh) (partLeft p t bs u) ∙ ap not f)
 
--- NO COMMAND FOR A BLOCK IS FINE WITHOUT AN ACCESS OF ITS OWN: acting on it does not end it well.
-pub needs-access : (l : Line) (t : Table) (u : List ℕ) → isBlock (numberOf (l .command)) ≡ true → Fine (acted l t u) ≡ true → ⊥
-unfolding acted writes
-needs-access l t u i =
-    branch N (ltb 532 (l .fed)) (λ e. bad-finish ending.Overrun clean _ u refl)
-    (λ e. branch N (noNumber (opcodeOf (l .command)) (numberOf (l .command))) (λ e. bad-finish ending.NoBlock clean _ u refl)
-    (λ e. branch N (eqb (numberOf (l .command)) 0xFFFFFE) (λ e. λ h. not-block 0xFFFFFE refl e)
-    (λ e. branch N (not (l .marks .known)) (λ e. bad-finish (ending.NoTable (not (eqb (opcodeOf (l .command)) 0x00))) clean _ u refl)
-    (λ e. branch N (eqb (numberOf (l .command)) 0xFFFFFF) (λ e. λ h. not-block 0xFFFFFF refl e)
-    (λ e. branch N (eqb (numberOf (l .command)) 0xFFFFFD) (λ e. λ h. not-block 0xFFFFFD refl e)
-    (λ e. branch N (eqb (opcodeOf (l .command)) 0x00) (λ e. λ h. clash h refl)
-    (λ e. branch N (l .marks .latch) (λ e. bad-finish ending.Latched clean _ u refl)
-    (λ e. branch N (eqb (opcodeOf (l .command)) 0x01 && not (memberOf (numberOf (l .command)) (badList t))) (λ e. λ h. clash h refl) (λ e. λ h. clash h refl)))))))))
-  where
-    N : Result → Type 0
-    N x = Fine x ≡ true → ⊥
-
-    not-block : (m : ℕ) → isBlock m ≡ false → eqb (numberOf (l .command)) m ≡ true → ⊥
-    not-block m e p = clash i (ap isBlock (eqb-true (numberOf (l .command)) m p) ∙ e)
-
--- A WRITE REPORTED GOOD WAS MADE. A plain write is fine only if its one write was answered 0;
-pub write-made : (l : Line) (u : List ℕ) (a : ℕ) → Fine (writeAnswered l u a) ≡ true → a ≡ 0
-unfolding writeAnswered
-write-made l u a =
-    branch N (eqb a 0) (λ e. λ h. eqb-true a 0 e)
-    (λ e. branch N (eqb a 3) (λ z. λ h. absurd (bad-finish ending.Latched clean _ u refl h)) (λ z. λ h. absurd (bad-finish ending.Failed (met a clean) _ u refl h)))
-  where
-    N : Result → Type 0
-    N x = Fine x ≡ true → a ≡ 0
-
--- an attempt's read is asked for only after its write was answered 0,
-abbrev pub isChecking : Phase → Bool
-isChecking phase.Idle = false
-isChecking (phase.Offered o) = false
-isChecking phase.Command = false
-isChecking phase.Data = false
-isChecking (phase.Starting k) = false
-isChecking phase.Storing = false
-isChecking (phase.Reading r) = false
-isChecking (phase.Writing s) = false
-isChecking (phase.Trying r) = false
-isChecking (phase.Checking r) = true
-
-module _ (l : Line) (t : Table) (r : Trial) (u : List ℕ) where
-  abbrev Unchecked : Result → Type 0
-  Unchecked x = isChecking (x .line .phase) ≡ false
-
-  next-unchecked : (j : ℕ) (m : Marks) (ch : Change) (s : Seen) → Unchecked (nextAttempt j l m ch r s u)
-  unfolding nextAttempt
-  next-unchecked j m ch s = branch Unchecked (ltb j 32) (λ e. refl) (λ e. refl)
-
-  pub missed-unchecked : (s : Seen) → Unchecked (missed l t r s u)
-  unfolding missed
-  missed-unchecked s = branch Unchecked (ltb (r .attempts) 2) (λ e. refl) (λ e. branch Unchecked (r .spare) (λ z. next-unchecked _ _ _ s) (λ z. next-unchecked _ _ _ s))
-
-  pub broken-unchecked : Unchecked (brokenOff l r u)
-  unfolding brokenOff
-  broken-unchecked = branch Unchecked (r .spare) (λ z. refl) (λ z. refl)
-
-  pub attempt-made : (a : ℕ) → isChecking (tried l t r u a .line .phase) ≡ true → a ≡ 0
-  unfolding tried
-  attempt-made a =
-      branch N (eqb a 0) (λ e. λ h. eqb-true a 0 e)
-      (λ e. branch N (eqb a 3) (λ z. λ h. clash h broken-unchecked) (λ z. λ h. clash h (missed-unchecked (met a (r .seen)))))
+  -- NO COMMAND FOR A BLOCK ENDS WELL WITHOUT AN ACCESS OF ITS OWN: acting on it does not end it well. Nor does it ask for a trial's read.
+  pub acts-first : (o : Order) (l : State) → (isBlock (o .number) ≡ true → Bad (acted o l t)) × (awaits isTrialRead (acted o l t .state .phase) ≡ false)
+  acts-first o l =
+      acted-cases (λ (x : Turn). (isBlock (o .number) ≡ true → Bad x) × (awaits isTrialRead (x .state .phase) ≡ false)) o l t
+      (record {
+        overrun = λ e. (λ i. bad-finish l _ _ _ refl, refl);
+        no-block = λ e f. (λ i. bad-finish l _ _ _ refl, refl);
+        buffer = λ e f. (λ i h. not-block 0xFFFFFE refl f i, refl);
+        no-table = λ e f. (λ i. bad-finish l (ending.NoTable (not (isRead (o .kind)))) _ _ refl, refl);
+        table = λ e f. (λ i h. not-block 0xFFFFFF refl f i, refl);
+        health = λ e f. (λ i h. not-block 0xFFFFFD refl f i, refl);
+        read = λ b e. (λ i h. clash h refl, refl);
+        latched = λ b e f. (λ i. bad-finish l _ _ _ refl, refl);
+        plain = λ b e f g. (λ i h. clash h refl, refl);
+        verify = λ b e f g. (λ i h. clash h refl, refl);
+      })
     where
-      N : Result → Type 0
-      N x = isChecking (x .line .phase) ≡ true → a ≡ 0
+      not-block : (m : ℕ) → isBlock m ≡ false → eqb (o .number) m ≡ true → isBlock (o .number) ≡ true → ⊥
+      not-block m e p i = clash i (ap isBlock (eqb-true (o .number) m p) ∙ e)
 
-  -- and ends well only if the read brought the same bytes.
-  next-not-fine : (j : ℕ) (m : Marks) (ch : Change) (s : Seen) → Fine (nextAttempt j l m ch r s u) ≡ true → ⊥
-  unfolding nextAttempt
-  next-not-fine j m ch s = branch (λ (x : Result). Fine x ≡ true → ⊥) (ltb j 32) (λ e. λ h. clash h refl) (λ e. bad-finish ending.NoSpare s _ u refl)
+  pub needs-access : (o : Order) (l : State) → isBlock (o .number) ≡ true → Bad (acted o l t)
+  needs-access o l = acts-first o l .0
 
-  pub missed-not-fine : (s : Seen) → Fine (missed l t r s u) ≡ true → ⊥
-  unfolding missed
-  missed-not-fine s =
-      branch (λ (x : Result). Fine x ≡ true → ⊥) (ltb (r .attempts) 2) (λ e. λ h. clash h refl)
-      (λ e. branch (λ (x : Result). Fine x ≡ true → ⊥) (r .spare) (λ z. next-not-fine _ _ _ s) (λ z. next-not-fine _ _ _ s))
+  -- A WRITE REPORTED GOOD WAS MADE. A plain write ends well only if its one write was answered 0;
+  pub write-made : (l : State) (a : ℕ) → endsWell (outOf t bs u (writeAnswered l a)) ≡ true → a ≡ 0
+  write-made l a =
+      write-cases (λ (x : Turn). endsWell (outOf t bs u x) ≡ true → a ≡ 0) l a
+      (record { done = λ e h. eqb-true a 0 e; stops = λ e f h. absurd (bad-finish l _ _ _ refl h); fails = λ e f h. absurd (bad-finish l _ _ _ refl h) })
 
-  pub broken-not-fine : Fine (brokenOff l r u) ≡ true → ⊥
-  unfolding brokenOff
-  broken-not-fine = branch (λ (x : Result). Fine x ≡ true → ⊥) (r .spare) (λ z. bad-finish ending.Latched (r .seen) _ u refl) (λ z. bad-finish ending.Latched (r .seen) _ u refl)
+  -- Says that a turn neither ends well nor asks for a trial's read.
+  pub record Fails (x : Turn) : Type 0 where
+    pub bad : Bad x
+    pub unchecked : awaits isTrialRead (x .state .phase) ≡ false
 
-  pub verify-made : (a : ℕ) (bs : List ℕ) → Fine (checked l t r u a bs) ≡ true → (a ≡ 0) × (bs ≡ dataOf u)
-  unfolding checked
-  verify-made a bs =
-      branch N (eqb a 0 && same bs (dataOf u))
-      (λ e. λ h. (eqb-true a 0 (and-left (eqb a 0) (same bs (dataOf u)) e), same-equal bs (dataOf u) (and-right (eqb a 0) (same bs (dataOf u)) e)))
-      (λ e. branch N (eqb a 3) (λ z. λ h. absurd (broken-not-fine h)) (λ z. λ h. absurd (missed-not-fine (met (cond (eqb a 0) 1 a) (r .seen)) h)))
-    where
-      N : Result → Type 0
-      N x = Fine x ≡ true → (a ≡ 0) × (bs ≡ dataOf u)
+  -- A trial that failed or was stopped is such a turn.
+  module _ (P : Turn → Type 0) (h : (x : Turn) → Fails x → P x) (l : State) (r : Trial) where
+    ended : (c : Change) (e : Ending) (s : Seen) → fails e ≡ true → Fails (finish l c e s part.Kept)
+    ended c e s f = record { bad = bad-finish l e s part.Kept f; unchecked = refl }
+
+    nexts : (n : ℕ) (c : Change) (s : Seen) → NextAttempt P n l c r s
+    nexts n c s = record { spare = λ e. h _ (record { bad = λ z. clash z refl; unchecked = refl }); no-spare = λ e. h _ (ended c _ s refl) }
+
+    pub misses : (s : Seen) → Missed P l t r s
+    misses s = record { again = λ e. h _ (record { bad = λ z. clash z refl; unchecked = refl }); dead = λ e f. nexts _ _ s; left = λ e f. nexts _ _ s }
+
+    pub stops : Stopped P l r
+    stops = record { dead = λ e. h _ (ended _ _ _ refl); present = λ e. h _ (ended _ _ _ refl) }
+
+  module _ (l : State) (r : Trial) (a : ℕ) where
+    -- a trial's read is asked for only after its write was answered 0,
+    pub attempt-made : awaits isTrialRead (tried l t r a .state .phase) ≡ true → a ≡ 0
+    attempt-made = tried-cases N l t r a (record { done = λ e h. eqb-true a 0 e; stops = λ e. stops N not-read l r; fails = λ e f. misses N not-read l r _ })
+      where
+        N : Turn → Type 0
+        N x = awaits isTrialRead (x .state .phase) ≡ true → a ≡ 0
+
+        not-read : (x : Turn) → Fails x → N x
+        not-read x f h = clash h (f .unchecked)
+
+    -- and ends well only if the read brought the same bytes.
+    pub verify-made : endsWell (outOf t bs u (checked l t r a (eqb a 0 && same bs (dataOf u)))) ≡ true → (a ≡ 0) × (bs ≡ dataOf u)
+    verify-made =
+        checked-cases N l t r a (eqb a 0 && same bs (dataOf u))
+        (record {
+          verifies = λ e. record { moved = λ f h. made e; listed = λ f g h. made e; stays = λ f g h. made e };
+          stops = λ e f. stops N not-well l r;
+          fails = λ e f. misses N not-well l r _;
+        })
+      where
+        N : Turn → Type 0
+        N x = endsWell (outOf t bs u x) ≡ true → (a ≡ 0) × (bs ≡ dataOf u)
+
+        not-well : (x : Turn) → Fails x → N x
+        not-well x f h = absurd (f .bad h)
+
+        made : (eqb a 0 && same bs (dataOf u)) ≡ true → (a ≡ 0) × (bs ≡ dataOf u)
+        made e = (eqb-true a 0 (and-left (eqb a 0) (same bs (dataOf u)) e), same-equal bs (dataOf u) (and-right (eqb a 0) (same bs (dataOf u)) e))
+
+-- Says whether a call finished with "no spare".
+abbrev pub saysNoSpare : Out → Bool
+saysNoSpare y = ofAnswer (y .step .answer) .finished && bit 64 (getD (y .bytes) 1 0)
 
 -- "NO SPARE" ONLY WITH 32 ENTRIES LISTED: the table as the call leaves it has no unused spare.
-abbrev pub SaysNoSpare : Result → Bool
-SaysNoSpare x = isFinished (x .answer) && bit 64 (getD (x .bytes) 1 0)
+module _ (l : State) (t : Table) (bs u : List ℕ) where
+  abbrev pub Full : Turn → Type 0
+  Full x = saysNoSpare (outOf t bs u x) ≡ true → 32 ≤ outOf t bs u x .step .drive .table .nspares
 
-silent-finish : (e : Ending) (s : Seen) (n : Bool) (u : List ℕ) → bit 64 (ending2 e) ≡ false → bit 64 (getD (statusOf e s n ++ dataOf u) 1 0) ≡ false
-unfolding statusOf
-silent-finish e s n u h = h
-
-module _ (l : Line) (t : Table) (u bs : List ℕ) where
-  abbrev Full : Result → Type 0
-  Full x = SaysNoSpare x ≡ true → 32 ≤ changed (x .change) t bs .nspares
-
-  quiet : {A : Type 0} (e : Ending) (s : Seen) (n : Bool) (v : List ℕ) → bit 64 (ending2 e) ≡ false → bit 64 (getD (statusOf e s n ++ dataOf v) 1 0) ≡ true → A
-  quiet e s n v h z = clash z (silent-finish e s n v h)
-
-  next-full : (j : ℕ) (m : Marks) (ch : Change) (r : Trial) (s : Seen) → j ≤ changed ch t bs .nspares → Full (nextAttempt j l m ch r s u)
-  unfolding nextAttempt
-  next-full j m ch r s h = branch Full (ltb j 32) (λ e. λ z. clash z refl) (λ e. λ z. omega (arith, ltb-false j 32 e, h))
+  quiet : {A : Type 0} (e : Ending) (s : Seen) (p : Part) → bit 64 (rowOf e .1) ≡ false → saysNoSpare (outOf t bs u (finish l change.Keep e s p)) ≡ true → A
+  unfolding statusLeft statusOf
+  quiet e s p h z = clash z h
 
   killed-most : 32 ≤ t .nspares + 1 → 32 ≤ killedNext t .nspares
   unfolding killedNext
   killed-most h = branch (λ (x : Table). 32 ≤ x .nspares) (ltb (t .nspares) 32) (λ e. h) (λ e. ltb-false (t .nspares) 32 e)
 
-  killed-next : (r : Trial) (s : Seen) → Full (nextAttempt (t .nspares + 1) l (altered (l .marks)) change.Kill r s u)
-  unfolding nextAttempt
-  killed-next r s = branch Full (ltb (t .nspares + 1) 32) (λ e. λ z. clash z refl) (λ e. λ z. killed-most (ltb-false (t .nspares + 1) 32 e))
+  misses-full : (r : Trial) (s : Seen) → Missed Full l t r s
+  misses-full r s =
+      record {
+        again = λ e z. clash z refl;
+        dead = λ e f. record { spare = λ g z. clash z refl; no-spare = λ g z. killed-most (ltb-false (t .nspares + 1) 32 g) };
+        left = λ e f. record { spare = λ g z. clash z refl; no-spare = λ g z. ltb-false (t .nspares) 32 g };
+      }
 
-  missed-full : (r : Trial) (s : Seen) → Full (missed l t r s u)
-  unfolding missed
-  missed-full r s =
-      branch Full (ltb (r .attempts) 2) (λ e. λ z. clash z refl)
-      (λ e. branch Full (r .spare) (λ y. killed-next r s) (λ y. next-full (t .nspares) (l .marks) change.Keep r s (omega arith)))
+  stops-full : (r : Trial) → Stopped Full l r
+  unfolding bit
+  stops-full r = record { dead = λ e. quiet ending.Latched _ _ refl; present = λ e. quiet ending.Latched _ _ refl }
 
-  broken-full : (r : Trial) → Full (brokenOff l r u)
-  unfolding brokenOff bit ending2
-  broken-full r = branch Full (r .spare) (λ y. quiet ending.Latched _ _ u refl) (λ y. quiet ending.Latched _ _ u refl)
+  pub no-spare-tried : (r : Trial) (a : ℕ) → Full (tried l t r a)
+  no-spare-tried r a = tried-cases Full l t r a (record { done = λ e z. clash z refl; stops = λ e. stops-full r; fails = λ e f. misses-full r _ })
 
-  verified-full : (r : Trial) → Full (verified l t r u)
-  unfolding verified bit ending2
-  verified-full r =
-      branch Full (r .spare) (λ y. quiet ending.Moved _ _ u refl)
-      (λ y. branch Full (memberOf (r .block .0) (badList t)) (λ x. quiet ending.Good _ _ u refl) (λ x. quiet ending.Good _ _ u refl))
+  pub no-spare-checked : (r : Trial) (a : ℕ) (equal : Bool) → Full (checked l t r a equal)
+  unfolding bit
+  no-spare-checked r a equal =
+      checked-cases Full l t r a equal
+      (record {
+        verifies = λ e. record { moved = λ f. quiet ending.Moved _ _ refl; listed = λ f g. quiet ending.Good _ _ refl; stays = λ f g. quiet ending.Good _ _ refl };
+        stops = λ e f. stops-full r;
+        fails = λ e f. misses-full r _;
+      })
 
-  pub no-spare-tried : (r : Trial) (a : ℕ) → Full (tried l t r u a)
-  unfolding tried
-  no-spare-tried r a = branch Full (eqb a 0) (λ e. λ z. clash z refl) (λ e. branch Full (eqb a 3) (λ y. broken-full r) (λ y. missed-full r (met a (r .seen))))
+  -- A read does not say so at all.
+  pub no-spare-read : (x : Outcome) (p : Part) → Full (reads x l t p)
+  unfolding reads bit
+  no-spare-read (outcome.Done r) p = quiet ending.Good _ p refl
+  no-spare-read (outcome.Again r) p = λ z. clash z refl
+  no-spare-read (outcome.Settle r) p = settled-cases Full l r p (record { below = λ e. quiet ending.Good _ p refl; latched = λ e f. quiet ending.Latched _ p refl; tries = λ e f z. clash z refl })
+  no-spare-read (outcome.Lost r) p =
+      lost-cases Full l t r p (record { listed = λ e. quiet ending.Failed _ p refl; entered = λ e f. quiet ending.Failed _ p refl; full = λ e f. quiet ending.BadFull _ p refl })
+  no-spare-read (outcome.Stop r) p = quiet ending.Latched _ p refl
 
-  pub no-spare-checked : (r : Trial) (a : ℕ) → Full (checked l t r u a bs)
-  unfolding checked
-  no-spare-checked r a =
-      branch Full (eqb a 0 && same bs (dataOf u)) (λ e. verified-full r)
-      (λ e. branch Full (eqb a 3) (λ y. broken-full r) (λ y. missed-full r (met (cond (eqb a 0) 1 a) (r .seen))))
+-- Returns the result of a command that ended well, with these bytes in the data part.
+abbrev pub goodWith : Table → State → Seen → List ℕ → Out
+goodWith t l s bs =
+    record { step = record { drive = record { table = t; state = withMarks l (finished (l .marks) change.Keep ending.Good) phase.Idle }; answer = answer.Finished }; bytes = four (statusOf ending.Good s (l .marks .fresh)) ++ bs }
 
-  -- no other access says so at all
-  reads-quiet : (x : Outcome) (v : List ℕ) → Full (reads x l t v)
-  unfolding reads lost settled bit ending2
-  reads-quiet (outcome.Done r) v = quiet ending.Good _ _ v refl
-  reads-quiet (outcome.Again r) v = λ z. clash z refl
-  reads-quiet (outcome.Settle r) v =
-      branch Full (ltb (r .seen .errors) (r .threshold)) (λ e. quiet ending.Good _ _ v refl) (λ e. branch Full (l .marks .latch) (λ y. quiet ending.Latched _ _ v refl) (λ y. λ z. clash z refl))
-  reads-quiet (outcome.Lost r) v =
-      branch Full (memberOf (r .block .0) (badList t)) (λ e. quiet ending.Failed _ _ v refl)
-      (λ e. branch Full (ltb (t .nbads) 100) (λ y. quiet ending.Failed _ _ v refl) (λ y. quiet ending.BadFull _ _ v refl))
-  reads-quiet (outcome.Stop r) v = quiet ending.Latched _ _ v refl
+-- A FIRST GOOD READ IS GOOD, with those bytes.
+pub first-good : (r : Retry) (l : State) (t : Table) (u bs : List ℕ) (equal : Bool) → r .first ≡ true → r .good ≡ false → length u ≡ 536 → length bs ≡ 532
+    → outOf t bs u (answered (phase.Awaiting (access.Read r)) l t 0 bs equal) ≡ goodWith t l (r .seen) bs
+unfolding answered fitting follows afterRead reads keptPart partLeft statusLeft
+first-good r l t u bs equal f g lu lb = rw (eq-eqb (length bs) 532 lb, f, g, take-all 532 bs (omega arith), data-put u bs lu lb, data-with u bs lu)
 
 -- A READ OF A BLOCK WHOSE FIRST ANSWER IS 0 FINISHES GOOD WITH THOSE BYTES.
-module _ (t : Table) (mk : Marks) (c u bs : List ℕ) (n f : ℕ)
-    (ok : recordOk (record { table = t; line = Ln (phase.Offered offer.Read) mk c n f }) ≡ true) (ty : Typed (record { table = t; line = Ln (phase.Offered offer.Read) mk c n f }))
-    (lu : length u ≡ 536) (lb : length bs ≡ 532) (kn : mk .known ≡ true) (few : f ≤ 532) (op : opcodeOf c ≡ 0) (i : isBlock (numberOf c) ≡ true) where
-  abbrev line₀ : Line
-  line₀ = Ln (phase.Offered offer.Read) mk c n f
-
-  abbrev drive₀ : Drive
-  drive₀ = record { table = t; line = line₀ }
-
-  number-is : noNumber (opcodeOf c) (numberOf c) ≡ false
-  unfolding noNumber
-  number-is = rw i
-
-  not-this : (m : ℕ) → isBlock m ≡ false → eqb (numberOf c) m ≡ false
-  not-this m e = ne-eqb (numberOf c) m (λ q. clash (ap isBlock (sym q) ∙ i) e)
-
-  acts-read : acted line₀ t u ≡ firstRead line₀ (blockOf c) (spareList t) u
-  unfolding acted
-  acts-read = rw (le-ltb 532 f few, number-is, not-this 0xFFFFFE refl, kn, not-this 0xFFFFFF refl, not-this 0xFFFFFD refl, eq-eqb (opcodeOf c) 0 op)
-
-  -- the lower asks for the block's sector,
-  pub asks-for-it : lowerOf drive₀ u 0x55 ≡ outOf t [] (firstRead line₀ (blockOf c) (spareList t) u)
-  unfolding lowerOf lowered goesOn
-  asks-for-it = rw (ok, eq-eqb (length u) 536 lu) (ap (outOf t []) acts-read)
+module _ (v : ℕ) (d : Drive) (u bs : List ℕ) (o : OffersRead v d) (ty : Typed d) (lu : length u ≡ 536) (lb : length bs ≡ 532) (i : isBlock v ≡ true) where
+  abbrev order : Order
+  order = orderOf (d .state .command)
 
   abbrev asked : Out
-  asked = outOf t [] (firstRead line₀ (blockOf c) (spareList t) u)
+  asked = outOf (d .table) [] u (firstRead order (d .state) (spareList (d .table)))
+
+  not-this : (m : ℕ) → isBlock m ≡ false → eqb (order .number) m ≡ false
+  not-this m e = ne-eqb (order .number) m (λ q. clash (ap isBlock (sym q ∙ o .number) ∙ i) e)
+
+  number-is : noNumber (order .kind) (order .number) ≡ false
+  unfolding noNumber
+  number-is = rw (o .number, i)
+
+  acts-read : acted order (d .state) (d .table) ≡ firstRead order (d .state) (spareList (d .table))
+  unfolding acted
+  acts-read = rw (le-ltb 532 (d .state .fed) (o .few), number-is, not-this 0xFFFFFE refl, o .known, not-this 0xFFFFFF refl, not-this 0xFFFFFD refl, o .kind)
+
+  -- The lower asks for the block's sector,
+  pub asks-for-it : lowerOf d u 0x55 ≡ asked
+  unfolding partLeft statusLeft
+  asks-for-it = acts-on v d u _ o lu acts-read
 
   asked-ok : recordOk (asked .step .drive) ≡ true
   unfolding stepOf
-  asked-ok = subst (λ (x : Out). recordOk (x .step .drive) ≡ true) asks-for-it (step-valid (lower 0x55) drive₀ u (omega arith) ty ok)
+  asked-ok = subst (λ (x : Out). recordOk (x .step .drive) ≡ true) asks-for-it (step-valid (lower 0x55) d u (omega arith) ty (o .valid))
 
   -- and its answer 0 ends the command, good, with the bytes that it brought.
-  pub gives-it : surfaceOf (asked .step .drive) u 0 bs ≡ outOf t bs (finish (asked .step .drive .line) mk change.Keep ending.Good clean (withData u bs))
+  pub gives-it : surfaceOf (asked .step .drive) u 0 bs ≡ goodWith (d .table) (asked .step .drive .state) clean bs
   unfolding surfaceOf
-  gives-it = rw (asked-ok, eq-eqb (length u) 536 lu) (ap (outOf t bs) (first-good _ (asked .step .drive .line) t u bs refl refl lb))
+  gives-it = rw (asked-ok, eq-eqb (length u) 536 lu) (first-good _ (asked .step .drive .state) (d .table) u bs _ refl refl lu lb)
 
   -- However it ends, its status 4 is the number of the R rereads answered 1 or 2, R being the fifth byte of the command.
   pub status-4-of-it : (x : Reply) (xs : List Reply) → Completes command (asked .step .drive) u (x ∷ xs)
-      → getD (leftBy (asked .step .drive) u (x ∷ xs)) 3 0 ≡ failures (take (retriesOf c) (numbers xs))
+      → getD (leftBy (asked .step .drive) u (x ∷ xs)) 3 0 ≡ failures (take (getD (d .state .command) 4 0) (numbers xs))
   status-4-of-it x xs h = status-4 (asked .step .drive) u _ x xs (record { phase = refl; first = refl; clean = refl }) h
 
--- ACTING ON A COMMAND DEPENDS ON ITS OWN OPCODE, NUMBER, R, T AND COUNT OF DATA BYTES, ON TABLE, MARKS AND BUFFER, and on nothing
--- else: two lines that differ in all else give the same answer, bytes, change of the table, phase and marks.
-pub record Alike (x y : Result) : Type 0 where
+-- Says that two turns agree in all but the command bytes and counts that they keep.
+pub record Alike (x y : Turn) : Type 0 where
   pub answer : x .answer ≡ y .answer
   pub change : x .change ≡ y .change
-  pub bytes : x .bytes ≡ y .bytes
-  pub phase : x .line .phase ≡ y .line .phase
-  pub marks : x .line .marks ≡ y .line .marks
+  pub leaves : x .leaves ≡ y .leaves
+  pub phase : x .state .phase ≡ y .state .phase
+  pub marks : x .state .marks ≡ y .state .marks
 
-alike-both : (q : Bool) {x x' y y' : Result} → (q ≡ true → Alike x x') → (q ≡ false → Alike y y') → Alike (cond q x y) (cond q x' y')
-alike-both true f g = f refl
-alike-both false f g = g refl
+over-cond : {A : Type 0} (f : Turn → A) (q : Bool) (x y : Turn) → f (cond q x y) ≡ cond q (f x) (f y)
+over-cond f true x y = refl
+over-cond f false x y = refl
 
-abbrev alike : {x y : Result} → x .answer ≡ y .answer → x .change ≡ y .change → x .bytes ≡ y .bytes → x .line .phase ≡ y .line .phase → x .line .marks ≡ y .line .marks → Alike x y
-alike a b c d e = record { answer = a; change = b; bytes = c; phase = d; marks = e }
-
-read-alike : (p p' : Phase) (m : Marks) (c c' : List ℕ) (n n' f : ℕ) (b : Block) (spares u : List ℕ) → retriesOf c ≡ retriesOf c' → thresholdOf c ≡ thresholdOf c'
-    → Alike (firstRead (Ln p m c n f) b spares u) (firstRead (Ln p' m c' n' f) b spares u)
-read-alike p p' m c c' n n' f b spares u er et = record { answer = refl; change = refl; bytes = refl; phase = rw (er, et); marks = refl }
-
-pub acts-alike : (p p' : Phase) (m : Marks) (c c' : List ℕ) (n n' f : ℕ) (t : Table) (u : List ℕ) → opcodeOf c ≡ opcodeOf c' → numberOf c ≡ numberOf c'
-    → retriesOf c ≡ retriesOf c' → thresholdOf c ≡ thresholdOf c' → Alike (acted (Ln p m c n f) t u) (acted (Ln p' m c' n' f) t u)
-unfolding acted writes noNumber
-acts-alike p p' m c c' n n' f t u eo en er et =
-    rw (eo, en)
-    (alike-both (ltb 532 f) (λ q. alike refl refl refl refl refl)
-    (λ q. alike-both (noNumber (opcodeOf c') (numberOf c')) (λ q. alike refl refl refl refl refl)
-    (λ q. alike-both (eqb (numberOf c') 0xFFFFFE) (λ q. alike refl refl refl refl refl)
-    (λ q. alike-both (not (m .known)) (λ q. alike refl refl refl refl refl)
-    (λ q. alike-both (eqb (numberOf c') 0xFFFFFF) (λ q. alike refl refl refl refl refl)
-    (λ q. alike-both (eqb (numberOf c') 0xFFFFFD) (λ q. alike refl refl refl refl refl)
-    (λ q. alike-both (eqb (opcodeOf c') 0x00) (λ q. read-alike p p' m c c' n n' f (blockOf c') (spareList t) u er et)
-    (λ q. alike-both (m .latch) (λ q. alike refl refl refl refl refl)
-    (λ q. alike-both (eqb (opcodeOf c') 0x01 && not (memberOf (numberOf c') (badList t))) (λ q. alike refl refl refl refl refl) (λ q. alike refl refl refl refl refl))))))))))
+-- ACTING ON A COMMAND DEPENDS ON ITS OWN OPCODE, NUMBER, R, T AND COUNT OF DATA BYTES, ON TABLE AND MARKS, and on nothing else: two
+-- states that differ in all else give the same answer, change of the table, phase and marks, and leave the same in the buffer.
+pub acts-alike : (o : Order) (p p' : Phase) (m : Marks) (c c' : List ℕ) (n n' f : ℕ) (t : Table) → Alike (acted o (Ln p m c n f) t) (acted o (Ln p' m c' n' f) t)
+unfolding acted writes
+acts-alike o p p' m c c' n n' f t =
+    record {
+      answer = simp (over-cond (λ (x : Turn). x .answer));
+      change = simp (over-cond (λ (x : Turn). x .change));
+      leaves = simp (over-cond (λ (x : Turn). x .leaves));
+      phase = simp (over-cond (λ (x : Turn). x .state .phase));
+      marks = simp (over-cond (λ (x : Turn). x .state .marks));
+    }

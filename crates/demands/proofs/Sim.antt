@@ -1,45 +1,45 @@
 -- The invariant between the world (record, buffer, sectors) and the history, and what one call has to keep.
-use mathlib.Core.Path.{_≡_, refl, sym, subst, ap, _∙_}
-use mathlib.Core.Bool.{Bool, true, false, cond, not, _&&_, _||_}
-use mathlib.Core.Logic.{_⊎_, inl, inr}
-use mathlib.Core.List.{List, [], _∷_, _++_}
-use Prim.Native.Nat.{ℕ, zero, suc, _+_, _≤_, _<_}
+use mathlib.Core.Path.{_≡_, refl, sym, _∙_}
+use mathlib.Core.Bool.{Bool, true, false}
+use mathlib.Core.Logic.{_⊎_}
+use mathlib.Core.List.{List, []}
+use Prim.Native.Nat.{ℕ, _≤_, _<_}
 use native.Mathlib.Omega.{arith}
-use lib.Dec.{eqb}
-use lib.ListN.{length, take}
-use borrow.Author.Tests.{eqb-true, eqb-false}
+use lib.ListN.{length}
 use Rattle.geometry.specs.Geometry.{isBlock, spareOf, tableSector}
 use Rattle.geometry.specs.declared.Block.{Block}
 use Rattle.geometry.specs.declared.Sector.{Sector}
-use Rattle.logic.proofs.Bools.{branch, clash}
+use Rattle.logic.proofs.Bools.{clash}
 use Rattle.table.specs.declared.Table.{Table}
 use Rattle.table.specs.Tables.{spareList, sectorOf, Shaped}
 use Rattle.table.proofs.Placing.{sectors-apart}
-use Rattle.drive.specs.declared.Drive.{Drive}
-use Rattle.drive.specs.declared.Line.{Line}
+use Rattle.drive.specs.declared.State.{State}
 use Rattle.drive.specs.declared.Marks.{Marks}
 use Rattle.drive.specs.declared.Retry.{Retry}
 use Rattle.drive.specs.declared.Trial.{Trial}
 use Rattle.drive.specs.declared.Offer.{Offer}
 use Rattle.drive.specs.declared.Offer.the-variants as offer
+use Rattle.drive.specs.declared.Access.{Access}
+use Rattle.drive.specs.declared.Access.the-variants as access
 use Rattle.drive.specs.declared.Phase.{Phase}
 use Rattle.drive.specs.declared.Phase.the-variants as phase
 use Rattle.drive.specs.declared.Answer.{Answer}
 use Rattle.drive.specs.declared.Answer.the-variants as answer
 use Rattle.drive.specs.declared.Refusal.{Refusal}
-use Rattle.drive.specs.Words.{dataOf, numberOf, opcodeOf, blockOf}
-use Rattle.drive.specs.Results.{Out, Result, outOf, refuse}
+use Rattle.drive.specs.Words.{dataOf, numberOf, kindOf, isRead}
+use Rattle.drive.specs.Results.{Out, partLeft, statusLeft, outOf, refuse}
 use Rattle.drive.specs.Calls.{Call}
-use Rattle.drive.specs.History.{Bytes, Content, held, Sectors, Where, nowhere, at, Entry, History, In, padded, next, Fits, Apart}
+use Rattle.drive.specs.History.{held, Sectors, History, In, padded, next, Fits, Apart}
 use Rattle.drive.specs.Run.{Event, World, after, Permits, entryOf}
+use Rattle.drive.specs.Views.{Bytes, Where, nowhere, at}
 use Rattle.demands.proofs.Parts.{Prefix, Cmd}
 
--- a line, a world and a history, written out
-abbrev pub Ln : Phase → Marks → Bytes → ℕ → ℕ → Line
+-- Returns a state, a world, a history, written out.
+abbrev pub Ln : Phase → Marks → Bytes → ℕ → ℕ → State
 Ln p mk c n f = record { phase = p; marks = mk; command = c; count = n; fed = f }
 
-abbrev pub W : Table → Line → Bytes → Sectors → Answer → World
-W t l u σ a = record { drive = record { table = t; line = l }; buffer = u; sectors = σ; asked = a }
+abbrev pub W : Table → State → Bytes → Sectors → Answer → World
+W t l u σ a = record { drive = record { table = t; state = l }; buffer = u; sectors = σ; asked = a }
 
 abbrev pub Hs : (Block → Where) → (Block → List Bytes) → Answer → Bytes → Bytes → Bool → Bool → Bool → Where → History
 Hs pl ca a h fd ac to wr lr =
@@ -51,7 +51,7 @@ Blocky b = isBlock (b .0) ≡ true
 abbrev pub placeOf : Table → Block → Sector
 placeOf t b = sectorOf (spareList t) b
 
--- THE BOOKS: each block is where the table puts it, and what its sector holds is a candidate, or an exception
+-- THE BOOKS: says that each block is where the table puts it, and that what its sector holds is a candidate, or an exception.
 pub record Books (t : Table) (σ : Sectors) (pl : Block → Where) (ca : Block → List Bytes) (also : Block → Bytes → Type 0) : Type 0 where
   pub shaped : Shaped t
   pub short : length (spareList t) ≤ 32
@@ -61,74 +61,74 @@ pub record Books (t : Table) (σ : Sectors) (pl : Block → Where) (ca : Block �
 abbrev pub Quiet : Block → Bytes → Type 0
 Quiet b y = ⊥
 
--- the exception while a command is under way that may have written: its own bytes, at its own block
+-- Names the exception while a command is under way that may have written: its own bytes, at its own block.
 abbrev pub Own : Block → Bytes → Block → Bytes → Type 0
 Own n x b y = (b .0 ≡ n .0) × (y ≡ x)
 
--- with a table known its books hold; without one no block has a place
+-- Says that with a table known its books hold, and that without one no block has a place.
 pub record Ground (known : Bool) (t : Table) (σ : Sectors) (pl : Block → Where) (ca : Block → List Bytes) : Type 0 where
   pub tabled : known ≡ true → Books t σ pl ca Quiet
   pub tableless : known ≡ false → (b : Block) → pl b ≡ nowhere
 
--- between commands: phase, command bytes, their count, data count; last answer, bytes fed, data fed
+-- Lists what may be between commands: phase, command bytes, their count, data count; last answer, bytes fed, data fed.
 pub data Shake (u : Bytes) : Phase → Bytes → ℕ → ℕ → Answer → Bytes → Bytes → Type 0 where
-  storing : {c : Bytes} {n f : ℕ} {h fd : Bytes} → Shake u phase.Storing c n f answer.Store h fd
+  storing : {c : Bytes} {n f : ℕ} {h fd : Bytes} → Shake u (phase.Awaiting access.Store) c n f answer.Store h fd
   resting : {c : Bytes} {n f : ℕ} {a : Answer} {h fd : Bytes} → Shake u phase.Idle c n f a h fd
   offer1 : {c : Bytes} {f : ℕ} {fd : Bytes} → Shake u (phase.Offered offer.Command) c 0 f (answer.Offer offer.Command) [] fd
   heads : {c : Bytes} {n f : ℕ} {h fd : Bytes} → Prefix 6 6 c n h → Shake u phase.Command c n f answer.Wait h fd
-  offer2 : {c : Bytes} {n : ℕ} {h fd : Bytes} → Cmd c h → eqb (opcodeOf c) 0 ≡ true → Shake u (phase.Offered offer.Read) c n 0 (answer.Offer offer.Read) h fd
-  offer3 : {c : Bytes} {n : ℕ} {h : Bytes} → Cmd c h → eqb (opcodeOf c) 0 ≡ false → Shake u (phase.Offered offer.Write) c n 0 (answer.Offer offer.Write) h []
-  offer4 : {c : Bytes} {n : ℕ} {h : Bytes} → Cmd c h → eqb (opcodeOf c) 0 ≡ false → Shake u (phase.Offered offer.Verify) c n 0 (answer.Offer offer.Verify) h []
-  takes : {c : Bytes} {n f : ℕ} {h fd : Bytes} → Cmd c h → eqb (opcodeOf c) 0 ≡ false → Prefix 532 533 (dataOf u) f fd → Shake u phase.Data c n f answer.Wait h fd
-  offer6 : {c : Bytes} {n f : ℕ} {h fd : Bytes} → Cmd c h → eqb (opcodeOf c) 0 ≡ false → dataOf u ≡ padded fd
+  offer2 : {c : Bytes} {n : ℕ} {h fd : Bytes} → Cmd c h → isRead (kindOf c) ≡ true → Shake u (phase.Offered offer.Read) c n 0 (answer.Offer offer.Read) h fd
+  offer3 : {c : Bytes} {n : ℕ} {h : Bytes} → Cmd c h → isRead (kindOf c) ≡ false → Shake u (phase.Offered offer.Write) c n 0 (answer.Offer offer.Write) h []
+  offer4 : {c : Bytes} {n : ℕ} {h : Bytes} → Cmd c h → isRead (kindOf c) ≡ false → Shake u (phase.Offered offer.Verify) c n 0 (answer.Offer offer.Verify) h []
+  takes : {c : Bytes} {n f : ℕ} {h fd : Bytes} → Cmd c h → isRead (kindOf c) ≡ false → Prefix 532 533 (dataOf u) f fd → Shake u phase.Data c n f answer.Wait h fd
+  offer6 : {c : Bytes} {n f : ℕ} {h fd : Bytes} → Cmd c h → isRead (kindOf c) ≡ false → dataOf u ≡ padded fd
       → Shake u (phase.Offered offer.Act) c n f (answer.Offer offer.Act) h fd
 
--- what the history will take for the command's bytes is the data part; rd: the command is a read
+-- Says that what the history will take for the command's bytes is the data part. rd: the command is a read.
 pub record Bound (ca : Block → List Bytes) (b : Block) (rd : Bool) (u mine : Bytes) : Type 0 where
   pub as-read : rd ≡ true → In (dataOf u) (ca b)
   pub as-write : rd ≡ false → dataOf u ≡ mine
 
--- where an attempt stands: on the block's present sector, or on the next unused spare
+-- Says that an attempt is on the block's present sector, or on the next unused spare.
 pub record Spot (t : Table) (b : Block) (r : Trial) : Type 0 where
   pub present : r .spare ≡ false → r .sector ≡ placeOf t b
   pub aside : r .spare ≡ true → (t .nspares < 32) × (r .sector ≡ spareOf (t .nspares))
 
--- a command under way: phase, what is asked, wrote, last read
-pub data Work (t : Table) (σ : Sectors) (pl : Block → Where) (ca : Block → List Bytes) (b : Block) (rd : Bool) (u mine : Bytes) : Phase → Answer → Bool → Where → Type 0 where
+-- Lists what may be while a command is under way: the access, what is asked, wrote, last read.
+pub data Work (t : Table) (σ : Sectors) (pl : Block → Where) (ca : Block → List Bytes) (b : Block) (rd : Bool) (u mine : Bytes) : Access → Answer → Bool → Where → Type 0 where
   rereads : {r : Retry} {s : Sector} {wr : Bool} {lr : Where} → r .block ≡ b → r .sector ≡ s → s ≡ placeOf t b → rd ≡ true → (r .good ≡ true → σ s ≡ held (dataOf u))
-      → Books t σ pl ca Quiet → Work t σ pl ca b rd u mine (phase.Reading r) (answer.Read s) wr lr
+      → Books t σ pl ca Quiet → Work t σ pl ca b rd u mine (access.Read r) (answer.Read s) wr lr
   writing : {s : Sector} {wr : Bool} {lr : Where} → wr ≡ true → s ≡ placeOf t b → rd ≡ false → dataOf u ≡ mine
-      → Books t σ pl ca Quiet → Work t σ pl ca b rd u mine (phase.Writing s) (answer.Write s) wr lr
+      → Books t σ pl ca Quiet → Work t σ pl ca b rd u mine (access.Write s) (answer.Write s) wr lr
   trying : {r : Trial} {s : Sector} {wr : Bool} {lr : Where} → wr ≡ true → r .block ≡ b → r .sector ≡ s → Spot t b r → Bound ca b rd u mine
-      → Books t σ pl ca (Own b (dataOf u)) → Work t σ pl ca b rd u mine (phase.Trying r) (answer.Write s) wr lr
+      → Books t σ pl ca (Own b (dataOf u)) → Work t σ pl ca b rd u mine (access.TrialWrite r) (answer.Write s) wr lr
   checking : {r : Trial} {s : Sector} {wr : Bool} {lr : Where} → wr ≡ true → lr ≡ at s → r .block ≡ b → r .sector ≡ s → Spot t b r → Bound ca b rd u mine
-      → Books t σ pl ca (Own b (dataOf u)) → Work t σ pl ca b rd u mine (phase.Checking r) (answer.Read s) wr lr
+      → Books t σ pl ca (Own b (dataOf u)) → Work t σ pl ca b rd u mine (access.TrialRead r) (answer.Read s) wr lr
 
--- THE INVARIANT
+-- THE INVARIANT: lists what record, buffer, sectors and history may be together.
 pub data Sim (start : Sectors) : World → History → Type 0 where
   at-start : {t : Table} {mk : Marks} {c : Bytes} {n f k : ℕ} {u : Bytes} {pl : Block → Where} {ca : Block → List Bytes} {h fd : Bytes} {to wr : Bool} {lr : Where}
       → length c ≡ 6 → mk .known ≡ false → ((b : Block) → pl b ≡ nowhere)
-      → Sim start (W t (Ln (phase.Starting k) mk c n f) u start (answer.Read tableSector)) (Hs pl ca (answer.Read tableSector) h fd false to wr lr)
+      → Sim start (W t (Ln (phase.Awaiting (access.Start k)) mk c n f) u start (answer.Read tableSector)) (Hs pl ca (answer.Read tableSector) h fd false to wr lr)
   at-rest : {t : Table} {mk : Marks} {c : Bytes} {n f : ℕ} {p : Phase} {u : Bytes} {σ : Sectors} {a : Answer} {pl : Block → Where} {ca : Block → List Bytes} {h fd : Bytes} {to wr : Bool} {lr : Where}
       → length c ≡ 6 → Ground (mk .known) t σ pl ca → Shake u p c n f a h fd → Sim start (W t (Ln p mk c n f) u σ a) (Hs pl ca a h fd false to wr lr)
-  at-work : {t : Table} {mk : Marks} {c : Bytes} {n f : ℕ} {p : Phase} {u : Bytes} {σ : Sectors} {a : Answer} {pl : Block → Where} {ca : Block → List Bytes} {h fd : Bytes} {wr : Bool} {lr : Where} {b : Block} {rd : Bool}
-      → length c ≡ 6 → mk .known ≡ true → Blocky b → numberOf h ≡ b .0 → eqb (opcodeOf h) 0 ≡ rd → Work t σ pl ca b rd u (padded fd) p a wr lr
-      → Sim start (W t (Ln p mk c n f) u σ a) (Hs pl ca a h fd true true wr lr)
+  at-work : {t : Table} {mk : Marks} {c : Bytes} {n f : ℕ} {x : Access} {u : Bytes} {σ : Sectors} {a : Answer} {pl : Block → Where} {ca : Block → List Bytes} {h fd : Bytes} {wr : Bool} {lr : Where} {b : Block} {rd : Bool}
+      → length c ≡ 6 → mk .known ≡ true → Blocky b → numberOf h ≡ b .0 → isRead (kindOf h) ≡ rd → Work t σ pl ca b rd u (padded fd) x a wr lr
+      → Sim start (W t (Ln (phase.Awaiting x) mk c n f) u σ a) (Hs pl ca a h fd true true wr lr)
 
--- WHAT A CALL HAS TO KEEP, as a property of its result
+-- WHAT A CALL HAS TO KEEP, as a property of its result.
 abbrev pub Good : Sectors → World → History → Event → Out → Type 0
 Good start w H e x = Permits w e x → Fits H (entryOf e x) × Sim start (after w e x) (next start H (entryOf e x))
 
 abbrev pub ev : Call → Bool → Event
 ev c sp = record { call = c; spoils = sp }
 
--- a refusal keeps all
-pub declined : {start : Sectors} {t : Table} {l : Line} {u : Bytes} {σ : Sectors} {a : Answer} {H : History} (c : Call) (sp : Bool) (r : Refusal) (bs : Bytes)
-    → Sim start (W t l u σ a) H → Good start (W t l u σ a) H (ev c sp) (outOf t bs (refuse r l u))
-unfolding next
+-- A refusal keeps all.
+pub declined : {start : Sectors} {t : Table} {l : State} {u : Bytes} {σ : Sectors} {a : Answer} {H : History} (c : Call) (sp : Bool) (r : Refusal) (bs : Bytes)
+    → Sim start (W t l u σ a) H → Good start (W t l u σ a) H (ev c sp) (outOf t bs u (refuse r l))
+unfolding next partLeft statusLeft
 declined c sp r bs m = λ ok. (record { read-rule = λ x. clash x refl; first-rule = λ x. clash x refl }, m)
 
--- NO TWO BLOCKS AT ONE SECTOR, from the invariant
+-- NO TWO BLOCKS ARE AT ONE SECTOR, by the invariant.
 at-inj : {a b : Sector} → at a ≡ at b → a ≡ b
 at-inj e = cc
 
@@ -138,7 +138,7 @@ not-at e = let z : _≡_ {A = ℕ} 0 1 = cc in omega arith
 books-apart : {t : Table} {σ : Sectors} {pl : Block → Where} {ca : Block → List Bytes} {also : Block → Bytes → Type 0} → Books t σ pl ca also → Apart pl
 books-apart {t} k b c s ib ic eb ec = sectors-apart (spareList t) b c (k .short) (at-inj (sym (k .where-is b ib) ∙ (eb ∙ (sym ec ∙ k .where-is c ic))))
 
-work-apart : {t : Table} {σ : Sectors} {pl : Block → Where} {ca : Block → List Bytes} {b : Block} {rd : Bool} {u mine : Bytes} {p : Phase} {a : Answer} {wr : Bool} {lr : Where}
+work-apart : {t : Table} {σ : Sectors} {pl : Block → Where} {ca : Block → List Bytes} {b : Block} {rd : Bool} {u mine : Bytes} {p : Access} {a : Answer} {wr : Bool} {lr : Where}
     → Work t σ pl ca b rd u mine p a wr lr → Apart pl
 work-apart (rereads eb es ep o g k) = books-apart k
 work-apart (writing w e o g k) = books-apart k

@@ -1,139 +1,64 @@
--- STATUS 4 IS E: each answer counts as one of the R rereads or not at all, and the move routine keeps the count.
-use mathlib.Core.Path.{_≡_, refl, ap, _∙_}
+-- STATUS 4 IS E: each answer counts as one of the R rereads or not at all, and sparing keeps the count.
+use mathlib.Core.Path.{_≡_, refl, sym, ap, subst₂, _∙_}
 use mathlib.Core.Bool.{Bool, true, false, cond, not, _&&_, _||_}
 use mathlib.Core.Logic.{_⊎_, inl, inr}
 use mathlib.Core.List.{List, [], _∷_}
 use Prim.Native.Nat.{ℕ, zero, suc, _+_, _-_, _≤_, _<_}
 use native.Mathlib.Omega.{arith}
 use lib.Dec.{eqb, ltb, leb}
-use lib.ListN.{length, take, drop, getD}
+use lib.ListN.{take, drop, getD}
 use borrow.Author.Tests.{eqb-true, ltb-true, ltb-false, leb-true}
-use Rattle.logic.proofs.Bools.{branch, clash}
-use Rattle.lists.specs.Lists.{memberOf}
+use Rattle.logic.proofs.Bools.{clash, and-left}
 use Rattle.table.specs.declared.Table.{Table}
-use Rattle.table.specs.Tables.{badList}
-use Rattle.buffer.specs.Runs.{same}
+use Rattle.drive.specs.declared.Access.{Access}
+use Rattle.drive.specs.declared.Access.the-variants as access
+use Rattle.drive.specs.declared.Answer.{Answer}
+use Rattle.drive.specs.declared.Answer.the-variants as answer
+use Rattle.drive.specs.declared.Change.{Change}
+use Rattle.drive.specs.declared.Change.the-variants as change
 use Rattle.drive.specs.declared.Drive.{Drive}
-use Rattle.drive.specs.declared.Line.{Line}
-use Rattle.drive.specs.declared.Marks.{Marks}
-use Rattle.drive.specs.declared.Seen.{Seen}
-use Rattle.drive.specs.declared.Retry.{Retry}
-use Rattle.drive.specs.declared.Trial.{Trial}
+use Rattle.drive.specs.declared.Ending.{Ending}
+use Rattle.drive.specs.declared.Outcome.the-variants as outcome
+use Rattle.drive.specs.declared.Part.{Part}
 use Rattle.drive.specs.declared.Phase.{Phase}
 use Rattle.drive.specs.declared.Phase.the-variants as phase
-use Rattle.drive.specs.declared.Change.{Change}
-use Rattle.drive.specs.declared.Outcome.{Outcome}
-use Rattle.drive.specs.declared.Outcome.the-variants as outcome
-use Rattle.drive.specs.Words.{dataOf, statusOf}
-use Rattle.drive.specs.Records.{recordOk}
-use Rattle.drive.specs.Results.{Out, Result, outOf}
-use Rattle.drive.specs.Retries.{met, passed, failed, goesOnReading, afterRead}
-use Rattle.drive.specs.Sparing.{nextAttempt, missed, brokenOff, verified, tried, checked}
-use Rattle.drive.specs.Access.{toRead, toWrite, keptData, lost, settled, reads, readAnswered, writeAnswered, answered}
-use Rattle.drive.specs.Calls.{surfaceOf}
-use Rattle.drive.specs.History.{isRefused}
-use Rattle.drive.specs.Bound.{isCommand}
+use Rattle.drive.specs.declared.Retry.{Retry}
+use Rattle.drive.specs.declared.Seen.{Seen}
+use Rattle.drive.specs.declared.State.{State}
+use Rattle.drive.specs.declared.Trial.{Trial}
+use Rattle.drive.specs.declared.Turn.{Turn}
+use Rattle.drive.specs.Words.{statusOf}
+use Rattle.drive.specs.Results.{Out, finish, leave, statusLeft}
+use Rattle.drive.specs.Retries.{passed, failed, afterRead}
+use Rattle.drive.specs.Sparing.{tried, checked}
+use Rattle.drive.specs.Access.{reads, writeAnswered, follows}
+use Rattle.drive.specs.Bound.{ofCommand, isCommand}
 use Rattle.drive.specs.Over.{Reply, replied, command, Completes}
 use Rattle.drive.specs.Status4.{failures, numbers, leftBy, Status4}
+use Rattle.drive.specs.Views.{ofAnswer}
+use Rattle.records.proofs.Ladders.{NextAttempt, Missed, Stopped, tried-cases, checked-cases, lost-cases, settled-cases, GoesOnReading, after-read-cases, write-cases}
+use Rattle.demands.proofs.Awaited.{ofPhase, accepted}
 
--- E at the finish, given the answers that are still to come, the awaited one first
-abbrev total : Phase → List ℕ → ℕ
-total phase.Idle ys = 0
-total (phase.Offered o) ys = 0
-total phase.Command ys = 0
-total phase.Data ys = 0
-total (phase.Starting k) ys = 0
-total phase.Storing ys = 0
-total (phase.Reading r) ys = r .seen .errors + failures (take (r .left) (cond (r .first) (drop 1 ys) ys))
-total (phase.Writing s) ys = 0
-total (phase.Trying r) ys = r .seen .errors
-total (phase.Checking r) ys = r .seen .errors
+-- Returns E at the finish, given the answers that are still to come, the awaited one first.
+abbrev pub counted : List ℕ → Access → ℕ
+counted ys (access.Start k) = 0
+counted ys access.Store = 0
+counted ys (access.Read r) = r .seen .errors + failures (take (r .left) (cond (r .first) (drop 1 ys) ys))
+counted ys (access.Write s) = 0
+counted ys (access.TrialWrite r) = r .seen .errors
+counted ys (access.TrialRead r) = r .seen .errors
 
--- ONE ANSWER: a call that leaves the phase p and the bytes v ends the command with E in status 4, or leaves E as it is for what is
--- still to come. F is E, given that.
-abbrev Counts : (List ℕ → ℕ) → Phase → List ℕ → Type 0
-Counts F p v = ((isCommand p ≡ false) × (getD v 3 0 ≡ F [])) ⊎ ((isCommand p ≡ true) × ((ys : List ℕ) → total p ys ≡ F ys))
+abbrev pub total : Phase → List ℕ → ℕ
+total p ys = ofPhase 0 (counted ys) p
 
-abbrev Keeps : (List ℕ → ℕ) → Result → Type 0
-Keeps F x = Counts F (x .line .phase) (x .bytes)
+-- Says what one answer does to a command: the call answers b and leaves the phase p and the bytes v. It is finished and idle, with E
+-- in status 4, or awaits another access of it, with E as it is for what is still to come. F is E, given that.
+abbrev pub Counts : (List ℕ → ℕ) → Answer → Phase → List ℕ → Type 0
+Counts F b p v =
+    ((b ≡ answer.Finished) × (p ≡ phase.Idle) × (getD v 3 0 ≡ F []))
+    ⊎ ((ofAnswer b .refused ≡ false) × (ofAnswer b .finished ≡ false) × (isCommand p ≡ true) × ((ys : List ℕ) → total p ys ≡ F ys))
 
-keeps-as : (F G : List ℕ → ℕ) (x : Result) → ((ys : List ℕ) → F ys ≡ G ys) → Keeps F x → Keeps G x
-keeps-as F G x e (inl z) = inl (z .0, z .1 ∙ e [])
-keeps-as F G x e (inr z) = inr (z .0, λ ys. z .1 ys ∙ e ys)
-
--- THE MOVE ROUTINE keeps it
-module _ (t : Table) (l : Line) (u : List ℕ) (E : ℕ) where
-  abbrev K : Result → Type 0
-  K x = Keeps (λ ys. E) x
-
-  next-tries : (j : ℕ) (m : Marks) (ch : Change) (r : Trial) (s : Seen) → s .errors ≡ E → K (nextAttempt j l m ch r s u)
-  unfolding nextAttempt statusOf
-  next-tries j m ch r s h = branch K (ltb j 32) (λ e. inr (refl, λ ys. h)) (λ e. inl (refl, h))
-
-  misses : (r : Trial) (s : Seen) → s .errors ≡ E → K (missed l t r s u)
-  unfolding missed
-  misses r s h = branch K (ltb (r .attempts) 2) (λ e. inr (refl, λ ys. h)) (λ e. branch K (r .spare) (λ z. next-tries _ _ _ r s h) (λ z. next-tries _ _ _ r s h))
-
-  breaks : (r : Trial) → r .seen .errors ≡ E → K (brokenOff l r u)
-  unfolding brokenOff statusOf
-  breaks r h = branch K (r .spare) (λ e. inl (refl, h)) (λ e. inl (refl, h))
-
-  verifies : (r : Trial) → r .seen .errors ≡ E → K (verified l t r u)
-  unfolding verified statusOf
-  verifies r h = branch K (r .spare) (λ e. inl (refl, h)) (λ e. branch K (memberOf (r .block .0) (badList t)) (λ z. inl (refl, h)) (λ z. inl (refl, h)))
-
-  tries : (r : Trial) (a : ℕ) → r .seen .errors ≡ E → K (tried l t r u a)
-  unfolding tried
-  tries r a h = branch K (eqb a 0) (λ e. inr (refl, λ ys. h)) (λ e. branch K (eqb a 3) (λ z. breaks r h) (λ z. misses r (met a (r .seen)) h))
-
-  checks : (r : Trial) (a : ℕ) (bs : List ℕ) → r .seen .errors ≡ E → K (checked l t r u a bs)
-  unfolding checked
-  checks r a bs h = branch K (eqb a 0 && same bs (dataOf u)) (λ e. verifies r h) (λ e. branch K (eqb a 3) (λ z. breaks r h) (λ z. misses r (met (cond (eqb a 0) 1 a) (r .seen)) h))
-
--- A PLAIN WRITE has none
-writes : (l : Line) (u : List ℕ) (a : ℕ) → Keeps (λ ys. 0) (writeAnswered l u a)
-unfolding writeAnswered statusOf
-writes l u a = branch (Keeps (λ ys. 0)) (eqb a 0) (λ e. inl (refl, refl)) (λ e. branch (Keeps (λ ys. 0)) (eqb a 3) (λ z. inl (refl, refl)) (λ z. inl (refl, refl)))
-
--- A READ that goes on counts the failures of the rereads that are left
-none-failed : (n : ℕ) → failures (take n []) ≡ 0
-none-failed zero = refl
-none-failed (suc n) = refl
-
-abbrev toCome : Retry → List ℕ → ℕ
-toCome p ys = p .seen .errors + failures (take (p .left) ys)
-
-module _ (t : Table) (l : Line) (v : List ℕ) (p : Retry) where
-  abbrev R : Result → Type 0
-  R x = Keeps (toCome p) x
-
-  -- no answer is to come, or no reread is left
-  now : p .seen .errors ≡ toCome p []
-  now = rw (none-failed (p .left)) (omega arith)
-
-  spent : ltb 0 (p .left) ≡ false → (ys : List ℕ) → p .seen .errors ≡ toCome p ys
-  spent e ys = let z : p .left ≡ 0 = omega (arith, ltb-false 0 (p .left) e) in rw z (omega arith)
-
-  settles : ltb 0 (p .left) ≡ false → R (settled l p v)
-  unfolding settled statusOf
-  settles e = branch R (ltb (p .seen .errors) (p .threshold)) (λ z. inl (refl, now)) (λ z. branch R (l .marks .latch) (λ y. inl (refl, now)) (λ y. inr (refl, spent e)))
-
-  loses : R (lost l t p v)
-  unfolding lost statusOf
-  loses = branch R (memberOf (p .block .0) (badList t)) (λ e. inl (refl, now)) (λ e. branch R (ltb (t .nbads) 100) (λ z. inl (refl, now)) (λ z. inl (refl, now)))
-
-  goes-on : p .first ≡ false → R (reads (goesOnReading p) l t v)
-  unfolding reads goesOnReading
-  goes-on f =
-      branch Ro (ltb 0 (p .left)) (λ e. again) (λ e. branch Ro (p .good) (λ z. settles e) (λ z. branch Ro (ltb (p .spent) 90) (λ y. again) (λ y. loses)))
-    where
-      Ro : Outcome → Type 0
-      Ro x = R (reads x l t v)
-
-      again : Ro (outcome.Again p)
-      again = inr (refl, λ ys. rw f refl)
-
--- one answer counted, or not: with a reread left, and with none
+-- A good answer uses up a reread, if one is left, and a failure is counted for it.
 count-good : (n : ℕ) (xs : List ℕ) → failures (take n (0 ∷ xs)) ≡ failures (take (n - 1) xs)
 count-good zero xs = let e : 0 - 1 ≡ 0 = omega arith in rw e
 count-good (suc n) xs = let e : suc n - 1 ≡ n = omega arith in rw e
@@ -149,8 +74,73 @@ one-or-two (suc (suc zero)) h p q = refl
 one-or-two (suc (suc (suc zero))) h p q = clash refl q
 one-or-two (suc (suc (suc (suc a)))) h p q = absurd (omega arith)
 
--- what a failure does to the count: the first read's is not counted; another is one of the R rereads, or none of them is left
-bad-counted : (r : Retry) (a : ℕ) (xs : List ℕ) → (eqb a 1 || eqb a 2) ≡ true → toCome (failed r a) xs ≡ total (phase.Reading r) (a ∷ xs)
+none-failed : (n : ℕ) → failures (take n []) ≡ 0
+none-failed zero = refl
+none-failed (suc n) = refl
+
+-- EACH RUNG keeps the count.
+module _ (t : Table) (l : State) (bs u : List ℕ) (F : List ℕ → ℕ) where
+  abbrev K : Turn → Type 0
+  K x = Counts F (x .answer) (x .state .phase) (leave (x .leaves) t bs u)
+
+  -- So does an ending, whatever becomes of the table,
+  ended : (e : Ending) (s : Seen) (p : Part) → s .errors ≡ F [] → K (finish l change.Keep e s p)
+  unfolding statusLeft statusOf
+  ended e s p h = inl (refl, refl, h)
+
+  -- sparing,
+  nexts : (n : ℕ) (c : Change) (r : Trial) (s : Seen) → ((ys : List ℕ) → s .errors ≡ F ys) → NextAttempt K n l c r s
+  nexts n c r s h = record { spare = λ e. inr (refl, refl, refl, h); no-spare = λ e. ended _ _ _ (h []) }
+
+  misses : (r : Trial) (s : Seen) → ((ys : List ℕ) → s .errors ≡ F ys) → Missed K l t r s
+  misses r s h = record { again = λ e. inr (refl, refl, refl, h); dead = λ e f. nexts _ _ r s h; left = λ e f. nexts _ _ r s h }
+
+  stops : (r : Trial) → r .seen .errors ≡ F [] → Stopped K l r
+  stops r h = record { dead = λ e. ended _ _ _ h; present = λ e. ended _ _ _ h }
+
+  tries : (r : Trial) (a : ℕ) → ((ys : List ℕ) → r .seen .errors ≡ F ys) → K (tried l t r a)
+  tries r a h = tried-cases K l t r a (record { done = λ e. inr (refl, refl, refl, h); stops = λ e. stops r (h []); fails = λ e f. misses r _ h })
+
+  checks : (r : Trial) (a : ℕ) (equal : Bool) → ((ys : List ℕ) → r .seen .errors ≡ F ys) → K (checked l t r a equal)
+  checks r a equal h =
+      checked-cases K l t r a equal
+      (record {
+        verifies = λ e. record { moved = λ f. ended _ _ _ (h []); listed = λ f g. ended _ _ _ (h []); stays = λ f g. ended _ _ _ (h []) };
+        stops = λ e f. stops r (h []);
+        fails = λ e f. misses r _ h;
+      })
+
+  -- a plain write, which counts none,
+  writes : (a : ℕ) → 0 ≡ F [] → K (writeAnswered l a)
+  writes a h = write-cases K l a (record { done = λ e. ended _ _ _ h; stops = λ e f. ended _ _ _ h; fails = λ e f. ended _ _ _ h })
+
+  -- and a read that goes on, with the failures of the rereads that are left.
+  module _ (q : Part) (r : Retry) (f : r .first ≡ false) (h : (ys : List ℕ) → r .seen .errors + failures (take (r .left) ys) ≡ F ys) where
+    -- None is to come if no answer is, or if no reread is left.
+    now : r .seen .errors ≡ F []
+    now = let z = none-failed (r .left) in let y = h [] in omega arith
+
+    spent : ltb 0 (r .left) ≡ false → (ys : List ℕ) → r .seen .errors ≡ F ys
+    spent e ys = let z : r .left ≡ 0 = omega (arith, ltb-false 0 (r .left) e) in let y = rw z at (h ys) in omega arith
+
+    again : K (reads (outcome.Again r) l t q)
+    unfolding reads
+    again = inr (refl, refl, refl, λ ys. rw f (h ys))
+
+    goes-on : GoesOnReading (λ x. K (reads x l t q)) r
+    unfolding reads
+    goes-on =
+        record {
+          reread = λ e. again;
+          settles = λ e g. settled-cases K l r q (record { below = λ b. ended _ _ _ now; latched = λ b c. ended _ _ _ now; tries = λ b c. inr (refl, refl, refl, spent e) });
+          further = λ e g i. again;
+          loses = λ e g i. lost-cases K l t r q (record { listed = λ b. ended _ _ _ now; entered = λ b c. ended _ _ _ now; full = λ b c. ended _ _ _ now });
+        }
+
+-- WHAT AN ANSWER TO A READ COUNTS
+
+-- The first read's failure is not counted; another is one of the R rereads, or none of them is left.
+bad-counted : (r : Retry) (a : ℕ) (xs : List ℕ) → (eqb a 1 || eqb a 2) ≡ true → failed r a .seen .errors + failures (take (failed r a .left) xs) ≡ counted (a ∷ xs) (access.Read r)
 unfolding failed
 bad-counted r a xs h = go (r .first) (ltb 0 (r .left)) refl
   where
@@ -160,86 +150,72 @@ bad-counted r a xs h = go (r .first) (ltb 0 (r .left)) refl
     go false true e = rw (count-bad (r .left) a xs h (ltb-true 0 (r .left) e)) (omega arith)
     go false false e = let z : r .left ≡ 0 = omega (arith, ltb-false 0 (r .left) e) in rw z
 
-module _ (t : Table) (l : Line) (v : List ℕ) (r : Retry) (a : ℕ) (small : a ≤ 3) where
-  abbrev Ko : Outcome → Type 0
-  Ko x = Keeps (λ ys. total (phase.Reading r) (a ∷ ys)) (reads x l t v)
+good-counted : (r : Retry) (a : ℕ) (xs : List ℕ) → eqb a 0 ≡ true → r .first ≡ false → r .seen .errors + failures (take (r .left - 1) xs) ≡ counted (a ∷ xs) (access.Read r)
+good-counted r a xs e f = rw (f, eqb-true a 0 e, count-good (r .left) xs)
 
-  -- the answer ends the command and is no failure of a reread
-  at-end : (eqb a 1 || eqb a 2) ≡ false → r .seen .errors ≡ total (phase.Reading r) (a ∷ [])
-  at-end h = go (r .first) (r .left)
-    where
-      go : (f : Bool) (n : ℕ) → r .seen .errors ≡ r .seen .errors + failures (take n (cond f [] (a ∷ [])))
-      go true n = rw (none-failed n) (omega arith)
-      go false zero = omega arith
-      go false (suc n) = rw (h, none-failed n) (omega arith)
-
-  on : (p : Retry) → p .first ≡ false → ((ys : List ℕ) → toCome p ys ≡ total (phase.Reading r) (a ∷ ys)) → Ko (goesOnReading p)
-  on p f e = keeps-as (toCome p) (λ ys. total (phase.Reading r) (a ∷ ys)) (reads (goesOnReading p) l t v) e (goes-on t l v p f)
-
-  good-counted : eqb a 0 ≡ true → r .first ≡ false → (ys : List ℕ) → toCome (passed r) ys ≡ total (phase.Reading r) (a ∷ ys)
-  good-counted e f ys = rw (f, eqb-true a 0 e, count-good (r .left) ys)
-
-  reads-on : Ko (afterRead r a)
-  unfolding afterRead reads failed statusOf
-  reads-on =
-      branch Ko (eqb a 0)
-      (λ e. branch Ko (r .first) (λ z. inl (refl, at-end (rw (eqb-true a 0 e)))) (λ z. on (passed r) z (good-counted e z)))
-      (λ e. branch Ko (eqb a 3) (λ z. inl (refl, at-end (rw (eqb-true a 3 z)))) (λ z. on (failed r a) refl (λ ys. bad-counted r a ys (one-or-two a small e z))))
-
--- EVERY ANSWER THAT IS ACCEPTED while a command is under way
-module _ (t : Table) (l : Line) (u : List ℕ) (p : Phase) (a : ℕ) (bs : List ℕ) where
-  abbrev Accepted : Result → Type 0
-  Accepted x = isRefused (x .answer) ≡ false → Keeps (λ ys. total p (a ∷ ys)) x
-
-  to-read : (x : Result) → (a ≤ 3 → Keeps (λ ys. total p (a ∷ ys)) x) → Accepted (toRead l u a bs x)
-  unfolding toRead
-  to-read x h = branch Accepted (leb a 3) (λ e. branch Accepted (eqb (length bs) (cond (leb a 1) 532 0)) (λ z r. h (leb-true a 3 e)) (λ z r. clash refl r)) (λ e r. clash refl r)
-
-  to-write : (x : Result) → Keeps (λ ys. total p (a ∷ ys)) x → Accepted (toWrite l u a bs x)
-  unfolding toWrite
-  to-write x h = branch Accepted (leb a 3 && not (eqb a 1)) (λ e. branch Accepted (eqb (length bs) 0) (λ z r. h) (λ z r. clash refl r)) (λ e r. clash refl r)
-
-accepted : (p : Phase) (t : Table) (l : Line) (u : List ℕ) (a : ℕ) (bs : List ℕ) → isCommand p ≡ true → Accepted t l u p a bs (answered p l t u a bs)
-unfolding answered readAnswered
-accepted phase.Idle t l u a bs c = clash c refl
-accepted (phase.Offered o) t l u a bs c = clash c refl
-accepted phase.Command t l u a bs c = clash c refl
-accepted phase.Data t l u a bs c = clash c refl
-accepted (phase.Starting k) t l u a bs c = clash c refl
-accepted phase.Storing t l u a bs c = clash c refl
-accepted (phase.Reading r) t l u a bs c = to-read t l u (phase.Reading r) a bs _ (λ h. reads-on t l (keptData r u a bs) r a h)
-accepted (phase.Writing s) t l u a bs c = to-write t l u (phase.Writing s) a bs _ (writes l u a)
-accepted (phase.Trying r) t l u a bs c = to-write t l u (phase.Trying r) a bs _ (tries t l u (r .seen .errors) r a refl)
-accepted (phase.Checking r) t l u a bs c = to-read t l u (phase.Checking r) a bs _ (λ h. checks t l u (r .seen .errors) r a bs refl)
-
-abbrev Owes : Drive → Reply → Out → Type 0
-Owes d x y = isRefused (y .step .answer) ≡ false → Counts (λ ys. total (d .line .phase) (x .number ∷ ys)) (y .step .drive .line .phase) (y .bytes)
-
-step-counts : (d : Drive) (u : List ℕ) (x : Reply) → isCommand (d .line .phase) ≡ true → Owes d x (replied d u x)
-unfolding surfaceOf
-step-counts d u x c =
-    branch C (recordOk d)
-    (λ k. branch C (eqb (length u) 536) (λ h. accepted (d .line .phase) (d .table) (d .line) u (x .number) (x .bytes) c) (λ h r. clash refl r))
-    (λ k r. clash refl r)
+-- An answer that ends the command is no failure of a reread.
+at-end : (r : Retry) (a : ℕ) → (eqb a 1 || eqb a 2) ≡ false → r .seen .errors ≡ counted (a ∷ []) (access.Read r)
+at-end r a h = go (r .first) (r .left)
   where
-    C : Result → Type 0
-    C y = Owes d x (outOf (d .table) (x .bytes) y)
+    go : (f : Bool) (n : ℕ) → r .seen .errors ≡ r .seen .errors + failures (take n (cond f [] (a ∷ [])))
+    go true n = rw (none-failed n) (omega arith)
+    go false zero = omega arith
+    go false (suc n) = rw (h, none-failed n) (omega arith)
+
+module _ (t : Table) (l : State) (bs u : List ℕ) (a : ℕ) where
+  -- Says that a turn counts the answer a to an access.
+  abbrev After : Access → Turn → Type 0
+  After x y = K t l bs u (λ ys. counted (a ∷ ys) x) y
+
+  reads-on : (r : Retry) (q : Part) → a ≤ 3 → After (access.Read r) (reads (afterRead r a) l t q)
+  unfolding reads failed
+  reads-on r q small =
+      after-read-cases (λ x. After (access.Read r) (reads x l t q)) r a
+      (record {
+        done = λ e f. ended t l bs u F _ _ _ (at-end r a (rw (eqb-true a 0 e)));
+        passes = λ e f. goes-on t l bs u F q (passed r) f (λ ys. good-counted r a ys e f);
+        stops = λ e f. ended t l bs u F _ _ _ (at-end r a (rw (eqb-true a 3 f)));
+        fails = λ e f. goes-on t l bs u F q (failed r a) refl (λ ys. bad-counted r a ys (one-or-two a small e f));
+      })
+    where
+      F : List ℕ → ℕ
+      F ys = counted (a ∷ ys) (access.Read r)
+
+  -- EVERY ANSWER to an access of a command is counted.
+  counts : (x : Access) → ofCommand x ≡ true → a ≤ 3 → (equal : Bool) → After x (follows x l t a bs equal)
+  unfolding follows
+  counts (access.Start k) c h equal = clash c refl
+  counts access.Store c h equal = clash c refl
+  counts (access.Read r) c h equal = reads-on r _ h
+  counts (access.Write s) c h equal = writes t l bs u _ a refl
+  counts (access.TrialWrite r) c h equal = tries t l bs u _ r a (λ ys. refl)
+  counts (access.TrialRead r) c h equal = checks t l bs u _ r a equal (λ ys. refl)
+
+-- Says that a reply to what a phase awaits is counted.
+abbrev pub Owes : Reply → Phase → Out → Type 0
+Owes x p y = Counts (λ ys. total p (x .number ∷ ys)) (y .step .answer) (y .step .drive .state .phase) (y .bytes)
+
+pub step-counts : (d : Drive) (u : List ℕ) (x : Reply) → isCommand (d .state .phase) ≡ true → ofAnswer (replied d u x .step .answer) .refused ≡ false → Owes x (d .state .phase) (replied d u x)
+step-counts d u x c r =
+    let w = accepted d u (x .number) (x .bytes) r in
+    let small = leb-true (x .number) 3 (and-left (leb (x .number) 3) _ (w .answer)) in
+    subst₂ (Owes x) (sym (w .phase)) (sym (w .gives)) (counts (d .table) (d .state) (x .bytes) u (x .number) (w .access) (sym (ap isCommand (w .phase)) ∙ c) small _)
 
 -- THE WHOLE COMMAND
-walk : (xs : List Reply) (d : Drive) (u : List ℕ) → isCommand (d .line .phase) ≡ true → Completes command d u xs → getD (leftBy d u xs) 3 0 ≡ total (d .line .phase) (numbers xs)
+walk : (xs : List Reply) (d : Drive) (u : List ℕ) → isCommand (d .state .phase) ≡ true → Completes command d u xs → getD (leftBy d u xs) 3 0 ≡ total (d .state .phase) (numbers xs)
 walk [] d u c k = absurd k
-walk (x ∷ []) d u c k = last (step-counts d u x c (ap isRefused (k .answer)))
+walk (x ∷ []) d u c k = last (step-counts d u x c (ap (λ (a : Answer). ofAnswer a .refused) (k .answer)))
   where
-    last : Counts (λ ys. total (d .line .phase) (x .number ∷ ys)) (replied d u x .step .drive .line .phase) (replied d u x .bytes) → getD (replied d u x .bytes) 3 0 ≡ total (d .line .phase) (x .number ∷ [])
-    last (inl z) = z .1
-    last (inr z) = clash (z .0) (ap isCommand (k .phase))
+    last : Owes x (d .state .phase) (replied d u x) → getD (replied d u x .bytes) 3 0 ≡ total (d .state .phase) (x .number ∷ [])
+    last (inl z) = z .2
+    last (inr z) = clash (z .2) (ap isCommand (k .phase))
 walk (x ∷ y ∷ ys) d u c k =
     walk (y ∷ ys) (replied d u x .step .drive) (replied d u x .bytes) (k .0 .awaited) (k .1) ∙ goes (step-counts d u x c (k .0 .accepted))
   where
-    goes : Counts (λ ys. total (d .line .phase) (x .number ∷ ys)) (replied d u x .step .drive .line .phase) (replied d u x .bytes)
-        → total (replied d u x .step .drive .line .phase) (numbers (y ∷ ys)) ≡ total (d .line .phase) (x .number ∷ numbers (y ∷ ys))
-    goes (inl z) = clash (k .0 .awaited) (z .0)
-    goes (inr z) = z .1 (numbers (y ∷ ys))
+    goes : Owes x (d .state .phase) (replied d u x)
+        → total (replied d u x .step .drive .state .phase) (numbers (y ∷ ys)) ≡ total (d .state .phase) (x .number ∷ numbers (y ∷ ys))
+    goes (inl z) = clash (k .0 .awaited) (ap isCommand (z .1))
+    goes (inr z) = z .3 (numbers (y ∷ ys))
 
 pub status-4 : Status4
 status-4 d u r x xs w k =

@@ -1,26 +1,25 @@
 -- What the history allows is what the customer asked for.
 use mathlib.Core.Path.{_≡_, refl, sym, subst, ap, _∙_}
-use mathlib.Core.Bool.{Bool, true, false, cond, not, _&&_, _||_}
-use mathlib.Core.Logic.{_⊎_, inl, inr}
+use mathlib.Core.Bool.{Bool, true, false, cond, not, _&&_}
+use mathlib.Core.Logic.{inl, inr}
 use mathlib.Core.List.{List, [], _∷_}
 use Prim.Native.Nat.{ℕ}
 use native.Mathlib.Omega.{arith}
 use lib.Dec.{eqb}
-use lib.ListN.{length}
-use borrow.Author.Tests.{eqb-true, eqb-false}
-use Rattle.geometry.specs.Geometry.{isBlock}
+use borrow.Author.Tests.{eqb-true}
 use Rattle.geometry.specs.declared.Block.{Block}
-use Rattle.logic.proofs.Bools.{clash, and-left, and-right, and-true}
+use Rattle.logic.proofs.Bools.{and-true}
 use Rattle.table.specs.Tables.{spareList, sectorOf}
 use Rattle.image.specs.Images.{tableOf}
-use Rattle.drive.specs.Words.{dataOf, numberOf, blockOf}
-use Rattle.drive.specs.History.{Bytes, Sectors, Entry, History, blank, In, put, contents, isRefused, brought, learns, reports, good, isRead, hasWritten, bytesOf, candidatesNext, heard, next, Fits, Allows}
+use Rattle.drive.specs.Words.{dataOf, blockOf, isRead}
+use Rattle.drive.specs.History.{Sectors, Entry, History, blank, In, put, contents, learns, reports, good, hasWritten, bytesOf, candidatesNext, heard, next, Fits, Allows, order}
 use Rattle.drive.specs.Calls.{startOf}
 use Rattle.drive.specs.Run.{entries, begins}
 use Rattle.drive.specs.Told.{Report, found, written, attempted, given, nothing, reportOf, reportsOf, Before, none, gave, Again, Right, Demand3Told}
+use Rattle.drive.specs.Views.{Bytes, ofCall, ofAnswer}
 use Rattle.demands.proofs.Demand3.{demand-3}
 
--- a block's candidates are all allowed by what was reported of it, and one that was given is the only one
+-- Says that a block's candidates are all allowed by what was reported of it, and that one that was given is the only one.
 record Agrees (cands latest : List Bytes) (before : Before) : Type 0 where
   within : (y : Bytes) → In y cands → In y latest
   sole : (x : Bytes) → before ≡ gave x → cands ≡ x ∷ []
@@ -56,17 +55,17 @@ again y (gave x) a m = one (subst (λ (c : List Bytes). In y c) (a .sole x refl)
     one (inl e) = e
     one (inr e) = absurd e
 
--- the candidates after an entry, as maps
+-- The candidates after an entry, as maps.
 module _ (start : Sectors) (H : History) (o : Entry) where
-  nothing-heard : isRefused (o .answer) ≡ true → next start H o ≡ H
+  nothing-heard : ofAnswer (o .answer) .refused ≡ true → next start H o ≡ H
   unfolding next
   nothing-heard e = rw e
 
-  something-heard : isRefused (o .answer) ≡ false → next start H o ≡ heard start H o
+  something-heard : ofAnswer (o .answer) .refused ≡ false → next start H o ≡ heard start H o
   unfolding next
   something-heard e = rw e
 
-  learned : learns H o ≡ true → candidatesNext start H o ≡ (λ b. contents (start (sectorOf (spareList (tableOf (brought (o .call)))) b)))
+  learned : learns H o ≡ true → candidatesNext start H o ≡ (λ b. contents (start (sectorOf (spareList (tableOf (ofCall (o .call) .brought))) b)))
   unfolding candidatesNext
   learned e = rw e
 
@@ -74,20 +73,20 @@ module _ (start : Sectors) (H : History) (o : Entry) where
   unfolding candidatesNext
   silent e f = rw (e, f)
 
-  replaced : learns H o ≡ false → reports H o ≡ true → good o ≡ true → candidatesNext start H o ≡ put (H .candidates) (blockOf (H .command)) (bytesOf H o ∷ [])
+  replaced : learns H o ≡ false → reports H o ≡ true → good o ≡ true → candidatesNext start H o ≡ put (H .candidates) (blockOf (order H)) (bytesOf H o ∷ [])
   unfolding candidatesNext
   replaced e f g = rw (e, f, g)
 
-  unmoved : learns H o ≡ false → reports H o ≡ true → good o ≡ false → (not (isRead H) && hasWritten H o) ≡ false → candidatesNext start H o ≡ H .candidates
+  unmoved : learns H o ≡ false → reports H o ≡ true → good o ≡ false → (not (isRead (order H .kind)) && hasWritten H o) ≡ false → candidatesNext start H o ≡ H .candidates
   unfolding candidatesNext
   unmoved e f g h = rw (e, f, g, h)
 
-  extended : learns H o ≡ false → reports H o ≡ true → good o ≡ false → (not (isRead H) && hasWritten H o) ≡ true
-      → candidatesNext start H o ≡ put (H .candidates) (blockOf (H .command)) (bytesOf H o ∷ H .candidates (blockOf (H .command)))
+  extended : learns H o ≡ false → reports H o ≡ true → good o ≡ false → (not (isRead (order H .kind)) && hasWritten H o) ≡ true
+      → candidatesNext start H o ≡ put (H .candidates) (blockOf (order H)) (bytesOf H o ∷ H .candidates (blockOf (order H)))
   unfolding candidatesNext
   extended e f g h = rw (e, f, g, h)
 
-read-bytes : (H : History) (o : Entry) → isRead H ≡ true → bytesOf H o ≡ dataOf (o .buffer)
+read-bytes : (H : History) (o : Entry) → isRead (order H .kind) ≡ true → bytesOf H o ≡ dataOf (o .buffer)
 unfolding bytesOf
 read-bytes H o e = rw e
 
@@ -99,26 +98,26 @@ module _ (b : Block) (start : Sectors) (H : History) (o : Entry) where
   later = next start H o .candidates b
 
   abbrev mine : Bool
-  mine = eqb (b .0) (numberOf (H .command))
+  mine = eqb (b .0) (order H .number)
 
-  -- what is right after the entry, whatever follows
+  -- Says that a report leaves right what follows, if the candidates after the entry do.
   abbrev Goes : Report → Type 0
   Goes r = (latest : List Bytes) (before : Before) (rs : List Report) → Agrees now latest before
       → ((latest' : List Bytes) (before' : Before) → Agrees later latest' before' → Right latest' before' rs) → Right latest before (r ∷ rs)
 
-  same-block : mine ≡ true → blockOf (H .command) ≡ b
-  same-block e = ap (λ (n : ℕ). let x : Block = record { 0 = n } in x) (sym (eqb-true (b .0) (numberOf (H .command)) e))
+  same-block : mine ≡ true → blockOf (order H) ≡ b
+  same-block e = ap (λ (n : ℕ). let x : Block = record { 0 = n } in x) (sym (eqb-true (b .0) (order H .number) e))
 
-  -- the block's candidates after the entry, case by case
-  if-refused : isRefused (o .answer) ≡ true → later ≡ now
+  -- The block's candidates after the entry, case by case.
+  if-refused : ofAnswer (o .answer) .refused ≡ true → later ≡ now
   if-refused e = ap (λ (X : History). X .candidates b) (nothing-heard start H o e)
 
-  module _ (acc : isRefused (o .answer) ≡ false) where
+  module _ (acc : ofAnswer (o .answer) .refused ≡ false) where
     via : {f : Block → List Bytes} → candidatesNext start H o ≡ f → later ≡ f b
     unfolding heard
     via e = ap (λ (X : History). X .candidates b) (something-heard start H o acc) ∙ ap (λ (g : Block → List Bytes). g b) e
 
-    if-learned : learns H o ≡ true → later ≡ contents (start (sectorOf (spareList (tableOf (brought (o .call)))) b))
+    if-learned : learns H o ≡ true → later ≡ contents (start (sectorOf (spareList (tableOf (ofCall (o .call) .brought))) b))
     if-learned e = via (learned start H o e)
 
     if-silent : learns H o ≡ false → reports H o ≡ false → later ≡ now
@@ -127,21 +126,21 @@ module _ (b : Block) (start : Sectors) (H : History) (o : Entry) where
     if-good : learns H o ≡ false → reports H o ≡ true → good o ≡ true → later ≡ cond mine (bytesOf H o ∷ []) now
     if-good e f g = via (replaced start H o e f g)
 
-    if-failed : learns H o ≡ false → reports H o ≡ true → good o ≡ false → (not (isRead H) && hasWritten H o) ≡ false → later ≡ now
+    if-failed : learns H o ≡ false → reports H o ≡ true → good o ≡ false → (not (isRead (order H .kind)) && hasWritten H o) ≡ false → later ≡ now
     if-failed e f g h = via (unmoved start H o e f g h)
 
-    if-attempted : learns H o ≡ false → reports H o ≡ true → good o ≡ false → (not (isRead H) && hasWritten H o) ≡ true → later ≡ cond mine (bytesOf H o ∷ H .candidates (blockOf (H .command))) now
+    if-attempted : learns H o ≡ false → reports H o ≡ true → good o ≡ false → (not (isRead (order H .kind)) && hasWritten H o) ≡ true → later ≡ cond mine (bytesOf H o ∷ H .candidates (blockOf (order H))) now
     if-attempted e f g h = via (extended start H o e f g h)
 
   agreed : {c : List Bytes} {latest : List Bytes} {before : Before} → later ≡ c → Agrees c latest before → Agrees later latest before
   agreed {latest = latest} {before = before} e a = subst (λ (x : List Bytes). Agrees x latest before) (sym e) a
 
-  given-right : Fits H o → isRefused (o .answer) ≡ false → reports H o ≡ true → good o ≡ true → isRead H ≡ true → mine ≡ true → In (dataOf (o .buffer)) now
+  given-right : Fits H o → ofAnswer (o .answer) .refused ≡ false → reports H o ≡ true → good o ≡ true → isRead (order H .kind) ≡ true → mine ≡ true → In (dataOf (o .buffer)) now
   given-right fit e1 e3 e5 e6 e4 =
       subst (λ (x : Block). In (dataOf (o .buffer)) (H .candidates x)) (same-block e4)
-      (fit .read-rule (and-true (not (isRefused (o .answer)) && reports H o && good o) (isRead H) (and-true (not (isRefused (o .answer)) && reports H o) (good o) (and-true (not (isRefused (o .answer))) (reports H o) (ap not e1) e3) e5) e6))
+      (fit .read-rule (and-true (not (ofAnswer (o .answer) .refused) && reports H o && good o) (isRead (order H .kind)) (and-true (not (ofAnswer (o .answer) .refused) && reports H o) (good o) (and-true (not (ofAnswer (o .answer) .refused)) (reports H o) (ap not e1) e3) e5) e6))
 
-  -- a report about another block says nothing of this one
+  -- A report about another block says nothing of this one.
   other : (x : List Bytes) → mine ≡ false → cond mine x now ≡ now
   other x e = rw e
 
@@ -150,11 +149,11 @@ module _ (b : Block) (start : Sectors) (H : History) (o : Entry) where
 
   tells : Fits H o → Goes (reportOf b start H o)
   unfolding reportOf
-  tells fit = go (isRefused (o .answer)) refl (learns H o) refl (reports H o) refl mine refl (good o) refl (isRead H) refl (not (isRead H) && hasWritten H o) refl
+  tells fit = go (ofAnswer (o .answer) .refused) refl (learns H o) refl (reports H o) refl mine refl (good o) refl (isRead (order H .kind)) refl (not (isRead (order H .kind)) && hasWritten H o) refl
     where
-      go : (q1 : Bool) → isRefused (o .answer) ≡ q1 → (q2 : Bool) → learns H o ≡ q2 → (q3 : Bool) → reports H o ≡ q3 → (q4 : Bool) → mine ≡ q4
-          → (q5 : Bool) → good o ≡ q5 → (q6 : Bool) → isRead H ≡ q6 → (q7 : Bool) → (not (isRead H) && hasWritten H o) ≡ q7
-          → Goes (cond q1 nothing (cond q2 (found (contents (start (sectorOf (spareList (tableOf (brought (o .call)))) b)))) (cond (q3 && q4) (cond q5 (cond q6 (given (dataOf (o .buffer))) (written (bytesOf H o))) (cond q7 (attempted (bytesOf H o)) nothing)) nothing)))
+      go : (q1 : Bool) → ofAnswer (o .answer) .refused ≡ q1 → (q2 : Bool) → learns H o ≡ q2 → (q3 : Bool) → reports H o ≡ q3 → (q4 : Bool) → mine ≡ q4
+          → (q5 : Bool) → good o ≡ q5 → (q6 : Bool) → isRead (order H .kind) ≡ q6 → (q7 : Bool) → (not (isRead (order H .kind)) && hasWritten H o) ≡ q7
+          → Goes (cond q1 nothing (cond q2 (found (contents (start (sectorOf (spareList (tableOf (ofCall (o .call) .brought))) b)))) (cond (q3 && q4) (cond q5 (cond q6 (given (dataOf (o .buffer))) (written (bytesOf H o))) (cond q7 (attempted (bytesOf H o)) nothing)) nothing)))
       go true e1 q2 e2 q3 e3 q4 e4 q5 e5 q6 e6 q7 e7 latest before rs a k = k latest before (agreed (if-refused e1) a)
       go false e1 true e2 q3 e3 q4 e4 q5 e5 q6 e6 q7 e7 latest before rs a k = k _ none (agreed (if-learned e1 e2) (fresh _))
       go false e1 false e2 false e3 q4 e4 q5 e5 q6 e6 q7 e7 latest before rs a k = k latest before (agreed (if-silent e1 e2 e3) a)

@@ -3,17 +3,20 @@ use mathlib.Core.Path.{_≡_, refl}
 use mathlib.Core.Bool.{Bool, true, false}
 use mathlib.Core.List.{List, [], _∷_, _++_}
 use Prim.Native.Nat.{ℕ, zero, suc}
-use lib.ListN.{take, replicate}
+use lib.ListN.{replicate}
 use Rattle.image.specs.Images.{imageOf}
 use Rattle.drive.specs.declared.Drive.{Drive}
-use Rattle.drive.specs.declared.Line.{Line}
+use Rattle.drive.specs.declared.State.{State}
 use Rattle.drive.specs.declared.Retry.{Retry}
 use Rattle.drive.specs.declared.Phase.the-variants as phase
 use Rattle.drive.specs.declared.Offer.the-variants as offers
 use Rattle.drive.specs.declared.Answer.the-variants as answer
 use Rattle.drive.specs.declared.Change.{Change}
 use Rattle.drive.specs.declared.Change.the-variants as change
-use Rattle.drive.specs.Results.{Result, toMarked}
+use Rattle.drive.specs.declared.Status.the-variants as status
+use Rattle.drive.specs.declared.Part.the-variants as part
+use Rattle.drive.specs.declared.Turn.{Turn}
+use Rattle.drive.specs.Results.{withMarks}
 use Rattle.drive.specs.Access.{lost}
 use Rattle.drive.specs.Calls.{raise, lower, reset, raiseOf}
 use Rattle.drive.proofs.Computing.{computed}
@@ -25,7 +28,7 @@ abbrev storedOnce : Run
 storedOnce =
     record {
       sectors = disk [] [];
-      turns =
+      exchanges =
           found [] [] ++ elevenTimeouts
           ++ (raise ⇒ store ∷ timesOut ⇒ offer 0x01 ∷ lower 0x00 ⇒ finished 0x80 0x00 0x00 0 ∷ [])
           ++ stores ++ (reset ⇒ wait ∷ []) ++ opens ++ asksTable 0x80;
@@ -43,7 +46,7 @@ abbrev leavesTheBadList : Run
 leavesTheBadList =
     record {
       sectors = disk [] [];
-      turns =
+      exchanges =
           found [] [] ++ elevenTimeouts
           ++ stores ++ asksWrite 1 17 (bytes 1) ++ (go ⇒ write 17 ∷ done ⇒ read 17 ∷ gives 1 ⇒ finished 0x00 0x00 0x00 0 ∷ [])
           ++ stores ++ asksTable 0x00;
@@ -61,7 +64,7 @@ abbrev listedAlready : Run
 listedAlready =
     record {
       sectors = disk [] (17 ∷ []);
-      turns = found [] (17 ∷ []) ++ elevenTimeouts ++ opens ++ asksTable 0x00;
+      exchanges = found [] (17 ∷ []) ++ elevenTimeouts ++ opens ++ asksTable 0x00;
       part = imageOf [] (17 ∷ []);
       place = sector 17;
       candidates = bytes 7 ∷ [];
@@ -76,7 +79,7 @@ abbrev storeUnsettled : Run
 storeUnsettled =
     record {
       sectors = disk [] [];
-      turns =
+      exchanges =
           found [] [] ++ elevenTimeouts ++ (raise ⇒ store ∷ unsettled ⇒ offer 0x01 ∷ [])
           ++ asksWrite 1 18 (bytes 1) ++ (go ⇒ write 18 ∷ done ⇒ finished 0x00 0x00 0x00 0 ∷ []) ++ stores ++ asksTable 0x00;
       part = imageOf [] (17 ∷ []);
@@ -90,42 +93,49 @@ answer-3-to-a-store-latches-nothing old = happens old storeUnsettled refl
 
 -- THE BAD LIST FULL, computed without the calls: a hundred entries are tested at each of them
 
--- k, k + 1, and so on, n of them
+-- Returns k, k + 1, and so on, n of them.
 abbrev upFrom : ℕ → ℕ → List ℕ
 upFrom k zero = []
 upFrom k (suc n) = k ∷ upFrom (suc k) n
 
--- sets the latch, or not
-abbrev marked : Bool → Line → Line
-marked latch l = toMarked l (record { known = true; changed = false; latch = latch; fresh = false }) phase.Idle
+-- Returns an idle state with the latch set, or not.
+abbrev marked : Bool → State → State
+marked latch l = withMarks l (record { known = true; changed = false; latch = latch; fresh = false }) phase.Idle
 
--- a record marked changed, with no table known
+-- Returns the record marked changed, with no table known.
 abbrev unknown : Drive → Drive
-unknown d = record { table = d .table; line = toMarked (d .line) (record { known = false; changed = true; latch = false; fresh = false }) phase.Idle }
+unknown d = record { table = d .table; state = withMarks (d .state) (record { known = false; changed = true; latch = false; fresh = false }) phase.Idle }
 
--- a read of block 17 of which no access was good
+-- Holds a read of block 17 of which no access was good.
 abbrev lostRead : Retry
 lostRead =
     record { block = key; sector = record { 0 = 17 }; first = false; left = 0; spent = 90; threshold = 1; good = false; seen = record { errors = 0; crc = false; timeout = true } }
 
--- ends it, with these bad blocks listed, and the latch or not
-abbrev lostWith : Bool → List ℕ → ℕ → Result
-lostWith latch bads m = let d = with (table [] 0 bads m) true 6 0 phase.Idle in lost (marked latch (d .line)) (d .table) lostRead (replicate 536 0)
+-- Ends it, with these bad blocks listed, and the latch set or not.
+abbrev lostWith : Bool → List ℕ → ℕ → Turn
+lostWith latch bads m = let d = with (table [] 0 bads m) true 6 0 phase.Idle in lost (marked latch (d .state)) (d .table) lostRead part.Kept
 
--- what it does to the table, whether that is marked, and its status
-abbrev Gives : Result → Change → Bool → List ℕ → Type 0
-Gives x c mark status = (x .change ≡ c) × (x .line .marks .changed ≡ mark) × (take 4 (x .bytes) ≡ status)
+-- Says what it does to the table, whether that is marked, whether there is a latch, and status 2.
+abbrev Gives : Turn → Change → Bool → Bool → ℕ → Type 0
+Gives x c mark latch two =
+    (x .change ≡ c) × (x .state .marks .changed ≡ mark) × (x .state .marks .latch ≡ latch) × (x .leaves .status ≡ status.Written (record { 0 = 0x05; 1 = two; 2 = 0x00; 3 = 0 }))
 
 pub record Full : Type 0 where
-  pub entered-at-99 : Gives (lostWith false (upFrom 100 99) 99) (change.Enter key) true (0x05 ∷ 0x00 ∷ 0x00 ∷ 0 ∷ [])
-  pub full-at-100 : Gives (lostWith false (upFrom 100 100) 100) change.Keep false (0x05 ∷ 0x10 ∷ 0x00 ∷ 0 ∷ [])
-  pub listed-at-100 : Gives (lostWith false (upFrom 17 100) 100) change.Keep false (0x05 ∷ 0x00 ∷ 0x00 ∷ 0 ∷ [])
-  -- under the latch entries are made and marked all the same
-  pub entered-under-the-latch : Gives (lostWith true (upFrom 100 99) 99) (change.Enter key) true (0x05 ∷ 0x00 ∷ 0x00 ∷ 0 ∷ [])
+  pub entered-at-99 : Gives (lostWith false (upFrom 100 99) 99) (change.Enter key) true false 0x00
+  pub full-at-100 : Gives (lostWith false (upFrom 100 100) 100) change.Keep false false 0x10
+  pub listed-at-100 : Gives (lostWith false (upFrom 17 100) 100) change.Keep false false 0x00
+  -- Enters and marks under the latch all the same.
+  pub entered-under-the-latch : Gives (lostWith true (upFrom 100 99) 99) (change.Enter key) true true 0x00
 
 pub full : Full
 unfolding computed
-full = record { entered-at-99 = (refl, refl, refl); full-at-100 = (refl, refl, refl); listed-at-100 = (refl, refl, refl); entered-under-the-latch = (refl, refl, refl) }
+full =
+    record {
+      entered-at-99 = (refl, refl, refl, refl);
+      full-at-100 = (refl, refl, refl, refl);
+      listed-at-100 = (refl, refl, refl, refl);
+      entered-under-the-latch = (refl, refl, refl, refl);
+    }
 
 -- A table that is not known is not stored, though it is marked changed; no call returns such a record.
 pub a-table-that-is-not-known-is-not-stored :

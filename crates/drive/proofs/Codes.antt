@@ -7,42 +7,47 @@ use lib.ListN.{replicate}
 use Rattle.lists.specs.Lists.{dead}
 use Rattle.table.specs.declared.Table.{Table}
 use Rattle.drive.specs.declared.Drive.{Drive}
-use Rattle.drive.specs.declared.Retry.{Retry}
 use Rattle.drive.specs.declared.Trial.{Trial}
 use Rattle.drive.specs.declared.Offer.the-variants as offer
+use Rattle.drive.specs.declared.Access.{Access}
+use Rattle.drive.specs.declared.Access.the-variants as access
 use Rattle.drive.specs.declared.Phase.{Phase}
 use Rattle.drive.specs.declared.Phase.the-variants as phase
-use Rattle.drive.specs.Words.{codeIn}
 use Rattle.drive.specs.Records.{recordOk}
 use Rattle.drive.specs.Calls.{Call, raise, lower, feed, surface, reset, stepOf, imageOutOf}
+use Rattle.drive.specs.Views.{ofAnswer}
 use Rattle.drive.proofs.Computing.{computed}
 use Rattle.drive.proofs.Examples.{blocks}
 
 -- THE RECORDS
 
--- a table whose lists begin with these entries and have these counts
+-- Returns a table whose lists begin with these entries and have these counts.
 abbrev pub table : List ℕ → ℕ → List ℕ → ℕ → Table
 table s n b m = record { spares = s ++ replicate 32 0; bads = b ++ replicate 100 0; nspares = n; nbads = m }
 
--- a record with this table, known or not, so many command and data bytes counted, in this phase
+-- Returns a record with this table, known or not, so many command and data bytes counted, in this phase.
 abbrev pub with : Table → Bool → ℕ → ℕ → Phase → Drive
 with t known n f p =
-    record { table = t; line = record { phase = p; marks = record { known = known; changed = false; latch = false; fresh = false }; command = replicate 6 0; count = n; fed = f } }
+    record { table = t; state = record { phase = p; marks = record { known = known; changed = false; latch = false; fresh = false }; command = replicate 6 0; count = n; fed = f } }
 
--- one with empty lists and the most bytes that code 1 lets pass
+-- Returns one with empty lists and the most bytes that code 1 lets pass.
 abbrev pub at : Bool → Phase → Drive
 at known p = with (table [] 0 [] 0) known 6 533 p
 
--- an idle one with these lists and no table known
+-- Returns an idle one with these lists and no table known.
 abbrev pub lists : List ℕ → ℕ → List ℕ → ℕ → Drive
 lists s n b m = with (table s n b m) false 0 0 phase.Idle
 
--- a read of block b at sector s
-abbrev pub retry : ℕ → ℕ → ℕ → ℕ → ℕ → Phase
-retry b s errors left spent =
-    phase.Reading (record { block = record { 0 = b }; sector = record { 0 = s }; first = false; left = left; spent = spent; threshold = 0; good = false; seen = record { errors = errors; crc = false; timeout = false } })
+-- Returns one that awaits an access.
+abbrev pub awaiting : Bool → Access → Drive
+awaiting known x = at known (phase.Awaiting x)
 
--- an attempt for block b at sector s
+-- Returns a read of block b at sector s.
+abbrev pub retry : ℕ → ℕ → ℕ → ℕ → ℕ → Access
+retry b s errors left spent =
+    access.Read (record { block = record { 0 = b }; sector = record { 0 = s }; first = false; left = left; spent = spent; threshold = 0; good = false; seen = record { errors = errors; crc = false; timeout = false } })
+
+-- Returns an attempt for block b at sector s.
 abbrev pub trial : ℕ → ℕ → Bool → ℕ → Trial
 trial b s spare n = record { block = record { 0 = b }; sector = record { 0 = s }; spare = spare; attempts = n; seen = record { errors = 0; crc = false; timeout = false } }
 
@@ -58,36 +63,36 @@ pub record Code1 : Type 0 where
   -- "more than 6 command or 533 data bytes counted"
   pub command-bytes : Passes (with (table [] 0 [] 0) true 6 0 phase.Command) × Fails (with (table [] 0 [] 0) true 7 0 phase.Command)
   pub data-bytes : Passes (with (table [] 0 [] 0) true 0 533 phase.Data) × Fails (with (table [] 0 [] 0) true 0 534 phase.Data)
-  -- both counts are tested where nothing is awaited
+  -- Tests both counts where nothing is awaited.
   pub idle : Passes (at false phase.Idle) × Fails (with (table [] 0 [] 0) false 7 0 phase.Idle)
   pub offered : Passes (at false (phase.Offered offer.Act)) × Fails (with (table [] 0 [] 0) false 0 534 (phase.Offered offer.Act))
   -- "start reads above 10"; a start has no table
-  pub start-reads : Passes (at false (phase.Starting 10)) × Fails (at false (phase.Starting 11))
+  pub start-reads : Passes (awaiting false (access.Start 10)) × Fails (awaiting false (access.Start 11))
   -- "any access but the start's awaited with no table"
-  pub store : Passes (at true phase.Storing) × Fails (at false phase.Storing)
-  pub read : Passes (at true (retry 9727 9791 100 155 89)) × Fails (at false (retry 9727 9791 100 155 89))
-  pub write : Passes (at true (phase.Writing (record { 0 = 9791 }))) × Fails (at false (phase.Writing (record { 0 = 9791 })))
-  pub attempt : Passes (at true (phase.Trying (trial 9727 9791 false 2))) × Fails (at false (phase.Trying (trial 9727 9791 false 2)))
-  pub verify : Passes (at true (phase.Checking (trial 9727 9791 false 2))) × Fails (at false (phase.Checking (trial 9727 9791 false 2)))
+  pub store : Passes (awaiting true access.Store) × Fails (awaiting false access.Store)
+  pub read : Passes (awaiting true (retry 9727 9791 100 155 89)) × Fails (awaiting false (retry 9727 9791 100 155 89))
+  pub write : Passes (awaiting true (access.Write (record { 0 = 9791 }))) × Fails (awaiting false (access.Write (record { 0 = 9791 })))
+  pub attempt : Passes (awaiting true (access.TrialWrite (trial 9727 9791 false 2))) × Fails (awaiting false (access.TrialWrite (trial 9727 9791 false 2)))
+  pub verify : Passes (awaiting true (access.TrialRead (trial 9727 9791 false 2))) × Fails (awaiting false (access.TrialRead (trial 9727 9791 false 2)))
   -- "a pending sector or block out of range"
-  pub read-block : Fails (at true (retry 9728 0 0 0 0))
-  pub read-sector : Fails (at true (retry 0 9792 0 0 0))
-  pub write-sector : Fails (at true (phase.Writing (record { 0 = 9792 })))
-  pub attempt-block : Fails (at true (phase.Trying (trial 9728 0 false 1)))
-  pub attempt-sector : Fails (at true (phase.Trying (trial 0 9792 false 1)))
-  pub verify-block : Fails (at true (phase.Checking (trial 9728 0 false 1)))
-  pub verify-sector : Fails (at true (phase.Checking (trial 0 9792 false 1)))
+  pub read-block : Fails (awaiting true (retry 9728 0 0 0 0))
+  pub read-sector : Fails (awaiting true (retry 0 9792 0 0 0))
+  pub write-sector : Fails (awaiting true (access.Write (record { 0 = 9792 })))
+  pub attempt-block : Fails (awaiting true (access.TrialWrite (trial 9728 0 false 1)))
+  pub attempt-sector : Fails (awaiting true (access.TrialWrite (trial 0 9792 false 1)))
+  pub verify-block : Fails (awaiting true (access.TrialRead (trial 9728 0 false 1)))
+  pub verify-sector : Fails (awaiting true (access.TrialRead (trial 0 9792 false 1)))
   -- "E plus rereads left above 255, spent above 89 while a read is awaited"
-  pub errors-and-rereads : Fails (at true (retry 0 0 100 156 0)) × Fails (at true (retry 0 0 1 255 0)) × Passes (at true (retry 0 0 0 255 0))
-  pub spent : Passes (at true (retry 0 0 0 0 89)) × Fails (at true (retry 0 0 0 0 90))
+  pub errors-and-rereads : Fails (awaiting true (retry 0 0 100 156 0)) × Fails (awaiting true (retry 0 0 1 255 0)) × Passes (awaiting true (retry 0 0 0 255 0))
+  pub spent : Passes (awaiting true (retry 0 0 0 0 89)) × Fails (awaiting true (retry 0 0 0 0 90))
   -- "attempts above 2"
-  pub attempts : Fails (at true (phase.Trying (trial 0 0 false 3))) × Fails (at true (phase.Checking (trial 0 0 false 3)))
+  pub attempts : Fails (awaiting true (access.TrialWrite (trial 0 0 false 3))) × Fails (awaiting true (access.TrialRead (trial 0 0 false 3)))
   -- "a spare under trial other than the next unused"
-  pub next-spare : Passes (at true (phase.Trying (trial 0 4928 true 1))) × Fails (at true (phase.Trying (trial 0 4929 true 1)))
-  pub next-verified : Passes (at true (phase.Checking (trial 0 4928 true 1))) × Fails (at true (phase.Checking (trial 0 4929 true 1)))
-  pub spare-before : Fails (with (table (dead ∷ []) 1 (5 ∷ 6 ∷ []) 2) true 0 0 (phase.Trying (trial 0 4928 true 1)))
-  pub last-spare : Passes (with (table (replicate 31 dead) 31 [] 0) true 0 0 (phase.Trying (trial 0 4959 true 1)))
-  pub no-spare : Fails (with (table (replicate 32 dead) 32 [] 0) true 0 0 (phase.Trying (trial 0 4960 true 1)))
+  pub next-spare : Passes (awaiting true (access.TrialWrite (trial 0 4928 true 1))) × Fails (awaiting true (access.TrialWrite (trial 0 4929 true 1)))
+  pub next-verified : Passes (awaiting true (access.TrialRead (trial 0 4928 true 1))) × Fails (awaiting true (access.TrialRead (trial 0 4929 true 1)))
+  pub spare-before : Fails (with (table (dead ∷ []) 1 (5 ∷ 6 ∷ []) 2) true 0 0 (phase.Awaiting (access.TrialWrite (trial 0 4928 true 1))))
+  pub last-spare : Passes (with (table (replicate 31 dead) 31 [] 0) true 0 0 (phase.Awaiting (access.TrialWrite (trial 0 4959 true 1))))
+  pub no-spare : Fails (with (table (replicate 32 dead) 32 [] 0) true 0 0 (phase.Awaiting (access.TrialWrite (trial 0 4960 true 1))))
   -- "record with lists not well formed", in every record
   pub marks-and-both-lists : Passes (lists (dead ∷ 9727 ∷ dead ∷ []) 3 (9727 ∷ []) 1)
   pub spares-33 : Passes (lists (replicate 32 dead) 32 [] 0) × Fails (lists (replicate 33 dead) 33 [] 0)
@@ -133,23 +138,31 @@ code-1 =
 
 -- THE ORDER OF THE CODES
 
--- the code with which a call refuses, given a buffer of n bytes
+-- Returns the code with which a call refuses, given a buffer of n bytes.
 abbrev codeOfCall : Call → Drive → ℕ → ℕ
-codeOfCall c d n = codeIn (stepOf c d (replicate n 0) .step .answer)
+codeOfCall c d n = ofAnswer (stepOf c d (replicate n 0) .step .answer) .code
 
 abbrev codeOfImage : Drive → ℕ → ℕ
-codeOfImage d n = codeIn (imageOutOf d (replicate n 0) .step .answer)
+codeOfImage d n = ofAnswer (imageOutOf d (replicate n 0) .step .answer) .code
 
--- a record that code 1 refuses
+-- Holds a record that code 1 refuses.
 abbrev broken : Drive
 broken = lists (9728 ∷ []) 1 [] 0
 
--- a record that awaits the start's first read
+-- Holds a record that awaits the start's first read.
 abbrev starting : Drive
-starting = at false (phase.Starting 1)
+starting = awaiting false (access.Start 1)
+
+-- Holds an idle record with changes that are not stored.
+abbrev unstored : Drive
+unstored =
+    record {
+      table = table [] 0 [] 0;
+      state = record { phase = phase.Idle; marks = record { known = true; changed = true; latch = false; fresh = false }; command = replicate 6 0; count = 0; fed = 0 };
+    }
 
 pub record InOrder : Type 0 where
-  -- 1 before 2, and for every call
+  -- Tests 1 before 2, and for every call.
   pub first-1 :
       (codeOfCall raise broken 535 ≡ 1)
       × (codeOfCall (lower 0x55) broken 535 ≡ 1)
@@ -157,7 +170,7 @@ pub record InOrder : Type 0 where
       × (codeOfCall (surface 9 []) broken 535 ≡ 1)
       × (codeOfCall reset broken 535 ≡ 1)
       × (codeOfImage broken 536 ≡ 1)
-  -- 2 before 3 and 4
+  -- Tests 2 before 3 and 4.
   pub then-2 :
       (codeOfCall raise starting 535 ≡ 2)
       × (codeOfCall (lower 0x55) starting 537 ≡ 2)
@@ -165,20 +178,22 @@ pub record InOrder : Type 0 where
       × (codeOfCall (surface 9 []) starting 535 ≡ 2)
       × (codeOfCall reset starting 532 ≡ 2)
       × (codeOfImage starting 536 ≡ 2)
-  -- 3 before 4 and 5
+  -- Tests 3 before 4 and 5.
   pub then-3 :
       (codeOfCall raise starting 536 ≡ 3) × (codeOfCall (surface 9 (7 ∷ [])) (at true phase.Idle) 536 ≡ 3) × (codeOfImage starting 532 ≡ 3)
-  -- 4 before 5, for a read and for a write
+  -- Tests 4 before 5, for a read and for a write.
   pub then-4 :
       (codeOfCall (surface 4 (7 ∷ [])) starting 536 ≡ 4)
-      × (codeOfCall (surface 1 (7 ∷ [])) (at true phase.Storing) 536 ≡ 4)
-  pub then-5 : (codeOfCall (surface 3 (7 ∷ [])) starting 536 ≡ 5) × (codeOfCall (surface 0 (7 ∷ [])) (at true phase.Storing) 536 ≡ 5)
-  -- none where a call is taken
+      × (codeOfCall (surface 1 (7 ∷ [])) (awaiting true access.Store) 536 ≡ 4)
+  pub then-5 : (codeOfCall (surface 3 (7 ∷ [])) starting 536 ≡ 5) × (codeOfCall (surface 0 (7 ∷ [])) (awaiting true access.Store) 536 ≡ 5)
+  -- Gives none where a call is taken, whatever it answers.
   pub none :
       (codeOfCall (surface 3 []) starting 536 ≡ 0)
       × (codeOfCall raise (at true phase.Idle) 536 ≡ 0)
       × (codeOfCall (lower 0x00) (at true (phase.Offered offer.Command)) 536 ≡ 0)
       × (codeOfCall (surface 2 []) starting 536 ≡ 0)
+      × (codeOfCall (surface 2 []) (awaiting true (access.TrialWrite (trial 0 0 false 1))) 536 ≡ 0)
+      × (codeOfCall raise unstored 536 ≡ 0)
       × (codeOfImage (at true phase.Idle) 532 ≡ 0)
 
 pub in-order : InOrder
@@ -190,5 +205,5 @@ in-order =
       then-3 = (refl, refl, refl);
       then-4 = (refl, refl);
       then-5 = (refl, refl);
-      none = (refl, refl, refl, refl, refl);
+      none = (refl, refl, refl, refl, refl, refl, refl);
     }

@@ -4,16 +4,17 @@ use Rattle.lists.specs.Lists.{indexOf, memberOf, entryOk, entriesOk}
 use Rattle.table.specs.Tables.{listsOk, sectorOf, listed, killedNext, withBad, removed, withoutBad}
 use Rattle.image.specs.Images.{wide, triple, triples, listPart, framedPart, imageOf, narrow, entryAt, entriesFrom, framed, wellFormed, tableOf}
 use Rattle.buffer.specs.Runs.{over, same, allAre}
-use Rattle.drive.specs.Words.{dataOf, withData, opcodeOf, numberOf, ending1, ending2, ending3, statusOf}
-use Rattle.drive.specs.Records.{retryOk, trialOk, phaseOk, lineOk, recordOk}
-use Rattle.drive.specs.Handshake.{raisedIdle, commandOffer, raised, writes, noNumber, health, acted, goesOn, lowered, fedTo, rested}
+use Rattle.drive.specs.Words.{dataOf, withData, kindOf, numberOf, statusOf}
+use Rattle.drive.specs.Records.{retryOk, trialOk, stateOk, recordOk}
+use Rattle.drive.specs.Results.{partLeft, statusLeft}
+use Rattle.drive.specs.Handshake.{raisedIdle, offerFor, raised, writes, noNumber, health, acted, goesOn, lowered, fedTo, rested}
 use Rattle.drive.specs.Retries.{failed, goesOnReading, afterRead}
-use Rattle.drive.specs.Sparing.{nextAttempt, missed, brokenOff, verified, tried, checked}
-use Rattle.drive.specs.Access.{toRead, toWrite, startAnswered, storeAnswered, keptData, lost, settled, reads, readAnswered, writeAnswered, answered}
+use Rattle.drive.specs.Sparing.{nextAttempt, missed, stopped, verified, tried, checked}
+use Rattle.drive.specs.Access.{fitting, startAnswered, storeAnswered, keptPart, lost, settled, reads, writeAnswered, follows, answered}
 use Rattle.drive.specs.Calls.{raiseOf, lowerOf, feedOf, surfaceOf, resetOf, startOf, stepOf}
-use Rattle.drive.specs.History.{padded, bit, learns, acts, underway, reports, good, moves, isRead, bytesOf, touches, touchesFirst, hasWritten, placeNext, candidatesNext, heard, next}
+use Rattle.drive.specs.History.{padded, bit, learns, acts, underway, reports, good, moves, bytesOf, touches, touchesFirst, hasWritten, placeNext, candidatesNext, heard, next}
 
--- Gives back what it is given. A proof that unfolds this one unfolds all that its line names.
+-- Returns what it is given. A proof that unfolds this one unfolds all that its line names.
 unfoldable pub computed : {A : Type 0} → A → A
-unfolding homeOf indexOf memberOf entryOk entriesOk listsOk sectorOf listed killedNext withBad removed withoutBad wide triple triples listPart framedPart imageOf narrow entryAt entriesFrom framed wellFormed tableOf over same allAre dataOf withData opcodeOf numberOf ending1 ending2 ending3 statusOf retryOk trialOk phaseOk lineOk recordOk raisedIdle commandOffer raised writes noNumber health acted goesOn lowered fedTo rested failed goesOnReading afterRead nextAttempt missed brokenOff verified tried checked toRead toWrite startAnswered storeAnswered keptData lost settled reads readAnswered writeAnswered answered raiseOf lowerOf feedOf surfaceOf resetOf startOf stepOf padded bit learns acts underway reports good moves isRead bytesOf touches touchesFirst hasWritten placeNext candidatesNext heard next
+unfolding homeOf indexOf memberOf entryOk entriesOk listsOk sectorOf listed killedNext withBad removed withoutBad wide triple triples listPart framedPart imageOf narrow entryAt entriesFrom framed wellFormed tableOf over same allAre dataOf withData kindOf numberOf statusOf retryOk trialOk stateOk recordOk partLeft statusLeft raisedIdle offerFor raised writes noNumber health acted goesOn lowered fedTo rested failed goesOnReading afterRead nextAttempt missed stopped verified tried checked fitting startAnswered storeAnswered keptPart lost settled reads writeAnswered follows answered raiseOf lowerOf feedOf surfaceOf resetOf startOf stepOf padded bit learns acts underway reports good moves bytesOf touches touchesFirst hasWritten placeNext candidatesNext heard next
 computed x = x

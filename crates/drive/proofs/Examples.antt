@@ -9,6 +9,7 @@ use Rattle.lists.specs.Lists.{dead}
 use Rattle.table.specs.Tables.{sectorOf, emptyTable}
 use Rattle.image.specs.Images.{imageOf, wellFormed}
 use Rattle.drive.specs.declared.Drive.{Drive}
+use Rattle.drive.specs.declared.Access.the-variants as access
 use Rattle.drive.specs.declared.Phase.{Phase}
 use Rattle.drive.specs.declared.Phase.the-variants as phase
 use Rattle.drive.specs.declared.Answer.the-variants as answer
@@ -16,34 +17,34 @@ use Rattle.drive.specs.Results.{Out}
 use Rattle.drive.specs.Calls.{Call, raise, lower, feed, surface, stepOf}
 use Rattle.drive.proofs.Computing.{computed}
 
--- the sector at which a table with no spare in use has block n
+-- Returns the sector at which a table with no spare in use has block n.
 abbrev pub at-home : ℕ → ℕ
 at-home n = sectorOf [] (record { 0 = n }) .0
 
--- the blocks 0, 1, .. up to n of them
+-- Returns the blocks 0, 1, .., n of them.
 abbrev pub blocks : ℕ → List ℕ
 blocks zero = []
 blocks (suc n) = blocks n ++ (n ∷ [])
 
--- an image that is well formed in all but, perhaps, its counts
+-- Returns an image that is well formed in all but, perhaps, its counts.
 abbrev pub counted : ℕ → ℕ → List ℕ
 counted spares bads = imageOf (replicate spares dead) (blocks bads)
 
--- an idle drive with an empty table, which has finished a command since its start
+-- Holds an idle drive with an empty table, which has finished a command since its start.
 abbrev pub ready : Drive
 ready =
     record {
       table = emptyTable;
-      line = record { phase = phase.Idle; marks = record { known = true; changed = false; latch = false; fresh = false }; command = replicate 6 0; count = 0; fed = 0 };
+      state = record { phase = phase.Idle; marks = record { known = true; changed = false; latch = false; fresh = false }; command = replicate 6 0; count = 0; fed = 0 };
     }
 
--- calls one after the other
+-- Makes calls one after the other.
 abbrev pub run : Drive → List ℕ → List Call → Out
 run d u [] = record { step = record { drive = d; answer = answer.Wait }; bytes = u }
 run d u (c ∷ []) = stepOf c d u
 run d u (c ∷ x ∷ cs) = run (stepOf c d u .step .drive) (stepOf c d u .bytes) (x ∷ cs)
 
--- a read of block 0 with R and T, and the surface's answers to it
+-- Asks for a read of block 0 with R and T, and answers it.
 abbrev pub asks : ℕ → ℕ → List Call → List Call
 asks r t cs = raise ∷ lower 0x55 ∷ feed (0 ∷ 0 ∷ 0 ∷ 0 ∷ r ∷ t ∷ []) ∷ raise ∷ lower 0x55 ∷ cs
 
@@ -59,22 +60,14 @@ timeout = surface 2 []
 abbrev pub reading : ℕ → ℕ → List Call → Out
 reading r t cs = run ready (replicate 536 0) (asks r t cs)
 
--- how a command ended: finished, with these four status bytes
+-- Says that a command finished with these four status bytes.
 abbrev pub Ended : Out → List ℕ → Type 0
 Ended x status = (x .step .answer ≡ answer.Finished) × (take 4 (x .bytes) ≡ status)
 
--- a move begins: an attempt's write on the present sector is asked for, with so many errors met
-abbrev pub errorsIn : Phase → ℕ
-errorsIn phase.Idle = 0
-errorsIn (phase.Offered o) = 0
-errorsIn phase.Command = 0
-errorsIn phase.Data = 0
-errorsIn (phase.Starting k) = 0
-errorsIn phase.Storing = 0
-errorsIn (phase.Reading r) = 0
-errorsIn (phase.Writing s) = 0
-errorsIn (phase.Trying r) = r .seen .errors
-errorsIn (phase.Checking r) = 0
+-- Awaits the write of the first attempt on the present sector, with one error met: a move begins.
+abbrev pub moving : Phase
+moving =
+    phase.Awaiting (access.TrialWrite (record { block = record { 0 = 0 }; sector = record { 0 = 0 }; spare = false; attempts = 1; seen = record { errors = 1; crc = true; timeout = false } }))
 
 pub record Examples : Type 0 where
   pub block-0 : at-home 0 ≡ 0
@@ -85,7 +78,7 @@ pub record Examples : Type 0 where
   pub crc-then-good : Ended (reading 0 1 (crc ∷ good ∷ [])) (0x08 ∷ 0 ∷ 0 ∷ 0 ∷ [])
   pub crc-good-good : Ended (reading 2 1 (crc ∷ good ∷ good ∷ [])) (0x08 ∷ 0 ∷ 0 ∷ 0 ∷ [])
   pub crc-crc-good :
-      (reading 2 1 (crc ∷ crc ∷ good ∷ []) .step .answer ≡ answer.Write (record { 0 = 0 })) × (errorsIn (reading 2 1 (crc ∷ crc ∷ good ∷ []) .step .drive .line .phase) ≡ 1)
+      (reading 2 1 (crc ∷ crc ∷ good ∷ []) .step .answer ≡ answer.Write (record { 0 = 0 })) × (reading 2 1 (crc ∷ crc ∷ good ∷ []) .step .drive .state .phase ≡ moving)
   pub eleven-timeouts : Ended (reading 0 1 (replicate 11 timeout)) (0x05 ∷ 0 ∷ 0 ∷ 0 ∷ [])
   pub nine-and-nine : Ended (reading 0 1 (crc ∷ replicate 9 timeout ++ replicate 9 crc)) (0x0D ∷ 0 ∷ 0 ∷ 0 ∷ [])
   pub spares-32 : wellFormed (counted 32 0) ≡ true

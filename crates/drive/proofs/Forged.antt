@@ -1,127 +1,24 @@
--- The history forbids something: lists of entries that no run gives, each against one of its rules; and not too much. Blocks
--- are one byte and zeros here.
-use mathlib.Core.Path.{_≡_, refl, ap, sym}
+-- The history forbids something: lists of entries that no run gives, each against one of its rules; and not too much.
+use mathlib.Core.Path.{refl, ap}
 use mathlib.Core.Logic.{inl, inr}
-use mathlib.Core.Bool.{Bool, true, false, cond, not, _&&_, _||_}
+use mathlib.Core.Bool.{cond}
 use mathlib.Core.List.{List, [], _∷_, _++_}
-use Prim.Native.Nat.{ℕ}
-use borrow.Author.Tests.{eq-eqb, eqb-true}
 use lib.Dec.{eqb}
 use lib.ListN.{getD, replicate}
-use Rattle.logic.proofs.Bools.{clash, and-left, and-right}
-use Rattle.geometry.specs.Geometry.{isBlock}
+use Rattle.logic.proofs.Bools.{clash}
 use Rattle.geometry.specs.declared.Block.{Block}
 use Rattle.image.specs.Images.{imageOf}
-use Rattle.buffer.specs.Runs.{same}
-use Rattle.buffer.proofs.Compare.{same-equal}
 use Rattle.drive.specs.declared.Offer.{Offer}
 use Rattle.drive.specs.declared.Offer.the-variants as offer
-use Rattle.drive.specs.declared.Answer.{Answer}
 use Rattle.drive.specs.declared.Answer.the-variants as answer
 use Rattle.drive.specs.declared.Refusal.the-variants as refusal
-use Rattle.drive.specs.Words.{dataOf, numberOf, blockOf}
-use Rattle.drive.specs.Calls.{Call, raise, lower, feed, surface, reset}
-use Rattle.drive.specs.History.{Bytes, held, unreadable, Sectors, Where, nowhere, at, Entry, History, blank, isAt, readAsked, writeAsked, orElse, In, next, goodRead, firstAccess, Fits, Apart, Allows}
+use Rattle.drive.specs.Calls.{raise, lower, feed, surface, reset}
+use Rattle.drive.specs.History.{held, unreadable, Sectors, Entry, blank, In, Allows}
+use Rattle.drive.specs.Views.{Bytes}
 use Rattle.drive.proofs.Computing.{computed}
-use Rattle.drive.proofs.Transcripts.{sector, go, done, timesOut, command}
-
--- what the rules ask at the last entry of a list
-abbrev AtLast : Sectors → History → List Entry → Type 0
-AtLast start H [] = Unit {0}
-AtLast start H (o ∷ []) = Fits H o × Apart (next start H o .place)
-AtLast start H (o ∷ p ∷ os) = AtLast start (next start H o) (p ∷ os)
-
-at-last : (start : Sectors) (H : History) (os : List Entry) → Allows start H os → AtLast start H os
-at-last start H [] a = tt
-at-last start H (o ∷ []) a = (a .0, a .1)
-at-last start H (o ∷ p ∷ os) a = at-last start (next start H o) (p ∷ os) (a .2)
-
--- a block of one byte and zeros
-abbrev block : ℕ → Bytes
-block v = v ∷ replicate 531 0
-
--- what those rules cannot be met with
-abbrev byteOf : Bytes → ℕ
-byteOf x = getD x 0 0
-
-abbrev numberAt : Where → ℕ
-numberAt nowhere = 0
-numberAt (at s) = s .0
-
-differ : (m n : ℕ) → eqb m n ≡ false → m ≡ n → ⊥
-differ m n h e = clash (eq-eqb m n e) h
-
-not-the-one : (m n : ℕ) → eqb m n ≡ false → In (block m) (block n ∷ []) → ⊥
-not-the-one m n h (inl e) = differ m n h (ap byteOf e)
-not-the-one m n h (inr e) = e
-
-not-there : (m n : ℕ) → eqb m n ≡ false → sector m ≡ sector n → ⊥
-not-there m n h e = differ m n h (ap numberAt e)
-
-not-anywhere : (n : ℕ) → nowhere ≡ sector n → ⊥
-not-anywhere n e = clash refl (sym (ap isAt e))
-
--- THE PIECES OF A LIST
-
--- every sector holds a seven
-abbrev sevens : Sectors
-sevens = λ s. held (block 7)
-
--- an entry with zeros in its buffer, and a finish with status 1, status 2 and the first data byte
-abbrev says : Call → Answer → Entry
-says c a = record { call = c; answer = a; buffer = replicate 536 0 }
-
-abbrev ends : Call → ℕ → ℕ → ℕ → Entry
-ends c s t v = record { call = c; answer = answer.Finished; buffer = s ∷ t ∷ 0 ∷ 0 ∷ block v }
-
-abbrev offers : Offer → Entry
-offers o = says raise (answer.Offer o)
-
-abbrev reads : ℕ → Answer
-reads n = answer.Read (record { 0 = n })
-
-abbrev writes : ℕ → Answer
-writes n = answer.Write (record { 0 = n })
-
--- a read answered 0 and 1
-abbrev gives : ℕ → Call
-gives v = surface 0 (block v)
-
-abbrev garbles : ℕ → Call
-garbles v = surface 1 (block v)
-
--- the start finds a table with these spares; or none, with an image that came with answer 1 and bytes that are no image
-abbrev found : List ℕ → List Entry
-found spares = says (surface 0 (imageOf spares [])) answer.Wait ∷ []
-
-abbrev foundNone : List Entry
-foundNone = says (surface 1 (imageOf [] [])) (reads 4960) ∷ says (gives 9) answer.Wait ∷ []
-
--- a read of block n, up to the offer after which it is acted on
-abbrev asksRead : ℕ → List Entry
-asksRead n = offers offer.Command ∷ says go answer.Wait ∷ says (feed (command 0 n (2 ∷ 2 ∷ []))) answer.Wait ∷ offers offer.Read ∷ []
-
--- a write to block n, up to offer 03
-abbrev opensWrite : ℕ → List Entry
-opensWrite n = offers offer.Command ∷ says go answer.Wait ∷ says (feed (command 1 n [])) answer.Wait ∷ offers offer.Write ∷ []
-
--- a write of a byte to block n, and to block 17, up to the offer after which it is acted on
-abbrev asksWriteTo : ℕ → ℕ → List Entry
-asksWriteTo n v = opensWrite n ++ (says go answer.Wait ∷ says (feed (v ∷ [])) answer.Wait ∷ offers offer.Act ∷ [])
-
-abbrev asksWrite : ℕ → List Entry
-asksWrite v = asksWriteTo 17 v
-
--- whole commands for block 17, reported good
-abbrev readsGood : ℕ → List Entry
-readsGood v = asksRead 17 ++ (says go (reads 17) ∷ ends (gives v) 0x00 0x00 v ∷ [])
-
-abbrev writesGood : ℕ → List Entry
-writesGood v = asksWrite v ++ (says go (writes 17) ∷ ends done 0x00 0x00 v ∷ [])
-
--- a read of block 17 that fails with its last read at spare 0
-abbrev movesInVain : List Entry
-movesInVain = asksRead 17 ++ (says go (reads 17) ∷ says (garbles 9) (reads 4928) ∷ ends timesOut 0x0D 0x00 7 ∷ [])
+use Rattle.drive.proofs.Lasts.{differ}
+use Rattle.drive.proofs.Forging.{last-asks, block, byteOf, not-the-one, not-the-two, not-there, not-anywhere, sevens, says, ends, shows, offers, reads, writes, gives, garbles, found, foundNone, asksRead, opensWrite, asksWriteTo, asksWrite, readsGood, writesGood, movesInVain, AllFit, all-fit}
+use Rattle.drive.proofs.Transcripts.{go, done, timesOut, command}
 
 -- CANDIDATES
 
@@ -157,7 +54,7 @@ garbledKept = found [] ++ asksRead 17 ++ (says go (reads 17) ∷ says (garbles 9
 
 pub garbled-bytes-reported-good : Allows sevens blank garbledKept → ⊥
 unfolding computed
-garbled-bytes-reported-good a = not-the-one 9 7 refl (at-last sevens blank garbledKept a .0 .read-rule refl)
+garbled-bytes-reported-good a = not-the-one 9 7 refl (last-asks sevens blank garbledKept a .0 .read-rule refl)
 
 -- The two was written since.
 abbrev stale : List Entry
@@ -165,7 +62,7 @@ stale = found [] ++ writesGood 1 ++ writesGood 2 ++ readsGood 1
 
 pub old-bytes-after-a-good-write : Allows sevens blank stale → ⊥
 unfolding computed
-old-bytes-after-a-good-write a = not-the-one 1 2 refl (at-last sevens blank stale a .0 .read-rule refl)
+old-bytes-after-a-good-write a = not-the-one 1 2 refl (last-asks sevens blank stale a .0 .read-rule refl)
 
 -- After a failed write of the one either is a candidate, but not first the one and then the seven.
 abbrev changing : List Entry
@@ -175,7 +72,7 @@ changing =
 
 pub bytes-that-change-between-two-good-reads : Allows sevens blank changing → ⊥
 unfolding computed
-bytes-that-change-between-two-good-reads a = not-the-one 7 1 refl (at-last sevens blank changing a .0 .read-rule refl)
+bytes-that-change-between-two-good-reads a = not-the-one 7 1 refl (last-asks sevens blank changing a .0 .read-rule refl)
 
 -- A handshake byte other than 55 at offer 06: this finish reports nothing, though bit 0 is clear.
 abbrev brokenOff : List Entry
@@ -183,7 +80,7 @@ brokenOff = found [] ++ asksWrite 1 ++ (ends (lower 0x00) 0x80 0x00 1 ∷ []) ++
 
 pub bytes-of-a-write-broken-off : Allows sevens blank brokenOff → ⊥
 unfolding computed
-bytes-of-a-write-broken-off a = not-the-one 1 7 refl (at-last sevens blank brokenOff a .0 .read-rule refl)
+bytes-of-a-write-broken-off a = not-the-one 1 7 refl (last-asks sevens blank brokenOff a .0 .read-rule refl)
 
 -- The write of the two fails with no write s of its own, after a command that asked for one.
 abbrev notMade : List Entry
@@ -191,7 +88,7 @@ notMade = found [] ++ writesGood 1 ++ asksWrite 2 ++ (ends go 0x11 0x00 2 ∷ []
 
 pub bytes-of-a-write-not-made : Allows sevens blank notMade → ⊥
 unfolding computed
-bytes-of-a-write-not-made a = not-the-one 2 1 refl (at-last sevens blank notMade a .0 .read-rule refl)
+bytes-of-a-write-not-made a = not-the-one 2 1 refl (last-asks sevens blank notMade a .0 .read-rule refl)
 
 -- The same, where it asks for a read s.
 abbrev notMadeAfterARead : List Entry
@@ -199,7 +96,7 @@ notMadeAfterARead = found [] ++ writesGood 1 ++ asksWrite 2 ++ (says go (reads 1
 
 pub bytes-of-a-write-not-made-after-a-read : Allows sevens blank notMadeAfterARead → ⊥
 unfolding computed
-bytes-of-a-write-not-made-after-a-read a = not-the-one 2 1 refl (at-last sevens blank notMadeAfterARead a .0 .read-rule refl)
+bytes-of-a-write-not-made-after-a-read a = not-the-one 2 1 refl (last-asks sevens blank notMadeAfterARead a .0 .read-rule refl)
 
 -- A failed read adds no candidate, even after a write s of its own.
 abbrev failedRead : List Entry
@@ -207,7 +104,7 @@ failedRead = found [] ++ asksRead 17 ++ (says go (reads 17) ∷ says (garbles 9)
 
 pub bytes-of-a-failed-read : Allows sevens blank failedRead → ⊥
 unfolding computed
-bytes-of-a-failed-read a = not-the-one 9 7 refl (at-last sevens blank failedRead a .0 .read-rule refl)
+bytes-of-a-failed-read a = not-the-one 9 7 refl (last-asks sevens blank failedRead a .0 .read-rule refl)
 
 -- The first finish reports it failed with nothing written. A second one, with bit 0 clear, reports nothing.
 abbrev finishedTwice : List Entry
@@ -215,7 +112,7 @@ finishedTwice = found [] ++ asksWrite 1 ++ (ends go 0x11 0x00 1 ∷ ends timesOu
 
 pub bytes-of-a-write-that-finished-twice : Allows sevens blank finishedTwice → ⊥
 unfolding computed
-bytes-of-a-write-that-finished-twice a = not-the-one 1 7 refl (at-last sevens blank finishedTwice a .0 .read-rule refl)
+bytes-of-a-write-that-finished-twice a = not-the-one 1 7 refl (last-asks sevens blank finishedTwice a .0 .read-rule refl)
 
 -- The one was not taken, so zeros were written.
 abbrev fedInVain : List Entry
@@ -226,7 +123,7 @@ fedInVain =
 
 pub bytes-of-a-refused-feed : Allows sevens blank fedInVain → ⊥
 unfolding computed
-bytes-of-a-refused-feed a = not-the-one 1 0 refl (at-last sevens blank fedInVain a .0 .read-rule refl)
+bytes-of-a-refused-feed a = not-the-one 1 0 refl (last-asks sevens blank fedInVain a .0 .read-rule refl)
 
 -- A reset breaks the write off, so the finish after it reports nothing.
 abbrev resetInBetween : List Entry
@@ -234,20 +131,17 @@ resetInBetween = found [] ++ asksWrite 1 ++ (says go (writes 17) ∷ says reset 
 
 pub bytes-of-a-write-that-was-reset : Allows sevens blank resetInBetween → ⊥
 unfolding computed
-bytes-of-a-write-that-was-reset a = not-the-one 1 7 refl (at-last sevens blank resetInBetween a .0 .read-rule refl)
+bytes-of-a-write-that-was-reset a = not-the-one 1 7 refl (last-asks sevens blank resetInBetween a .0 .read-rule refl)
 
--- The one was fed, and a nine stands in the data part at the finish.
+-- The one was fed, and the data part begins with a nine at the finish.
 abbrev leftBehind : List Entry
 leftBehind = found [] ++ asksWrite 1 ++ (says go (writes 17) ∷ ends done 0x00 0x00 9 ∷ []) ++ readsGood 9
 
 pub bytes-that-a-good-write-left-in-the-buffer : Allows sevens blank leftBehind → ⊥
 unfolding computed
-bytes-that-a-good-write-left-in-the-buffer a = not-the-one 9 1 refl (at-last sevens blank leftBehind a .0 .read-rule refl)
+bytes-that-a-good-write-left-in-the-buffer a = not-the-one 9 1 refl (last-asks sevens blank leftBehind a .0 .read-rule refl)
 
 -- The data part holds another job's nines at offer 03. The one is fed alone, and the nines behind it are written and read.
-abbrev shows : Bytes → Call → Answer → Entry
-shows x c a = record { call = c; answer = a; buffer = 0 ∷ 0 ∷ 0 ∷ 0 ∷ x }
-
 abbrev nines : Bytes
 nines = replicate 532 9
 
@@ -267,7 +161,7 @@ not-behind (inr e) = e
 
 pub bytes-of-another-job-behind-short-data : Allows sevens blank notZeroed → ⊥
 unfolding computed
-bytes-of-another-job-behind-short-data a = not-behind (at-last sevens blank notZeroed a .0 .read-rule refl)
+bytes-of-another-job-behind-short-data a = not-behind (last-asks sevens blank notZeroed a .0 .read-rule refl)
 
 -- It is reported good and asked for no write s, so the seven is a candidate no more.
 abbrev goodNotMade : List Entry
@@ -275,7 +169,7 @@ goodNotMade = found [] ++ asksWrite 1 ++ (ends go 0x00 0x00 1 ∷ []) ++ readsGo
 
 pub old-bytes-after-a-write-reported-good-and-not-made : Allows sevens blank goodNotMade → ⊥
 unfolding computed
-old-bytes-after-a-write-reported-good-and-not-made a = not-the-one 7 1 refl (at-last sevens blank goodNotMade a .0 .read-rule refl)
+old-bytes-after-a-write-reported-good-and-not-made a = not-the-one 7 1 refl (last-asks sevens blank goodNotMade a .0 .read-rule refl)
 
 -- A good read meets the rule whether the block moved or not.
 abbrev movedWithNines : List Entry
@@ -283,7 +177,7 @@ movedWithNines = found [] ++ asksRead 17 ++ (says go (reads 17) ∷ says (garble
 
 pub bytes-never-written-with-the-sparing-bit : Allows sevens blank movedWithNines → ⊥
 unfolding computed
-bytes-never-written-with-the-sparing-bit a = not-the-one 9 7 refl (at-last sevens blank movedWithNines a .0 .read-rule refl)
+bytes-never-written-with-the-sparing-bit a = not-the-one 9 7 refl (last-asks sevens blank movedWithNines a .0 .read-rule refl)
 
 -- After the write s a handshake byte other than 55 is answered finished. So the write is not reported.
 abbrev byteInBetween : List Entry
@@ -291,26 +185,22 @@ byteInBetween = found [] ++ asksWrite 1 ++ (says go (writes 17) ∷ ends (lower 
 
 pub bytes-of-a-write-that-another-byte-broke-off : Allows sevens blank byteInBetween → ⊥
 unfolding computed
-bytes-of-a-write-that-another-byte-broke-off a = not-the-one 1 7 refl (at-last sevens blank byteInBetween a .0 .read-rule refl)
+bytes-of-a-write-that-another-byte-broke-off a = not-the-one 1 7 refl (last-asks sevens blank byteInBetween a .0 .read-rule refl)
 
--- The one was fed and the write failed. The nine that stands in the data part then is no candidate.
+-- The one was fed and the write failed. The nine in the data part is no candidate.
 abbrev failedLeft : List Entry
 failedLeft = found [] ++ asksWrite 1 ++ (says go (writes 17) ∷ ends timesOut 0x05 0x00 9 ∷ []) ++ readsGood 9
 
-not-the-two : (m n k : ℕ) → eqb m n ≡ false → eqb m k ≡ false → In (block m) (block n ∷ block k ∷ []) → ⊥
-not-the-two m n k h g (inl e) = differ m n h (ap byteOf e)
-not-the-two m n k h g (inr e) = not-the-one m k g e
-
 pub bytes-that-a-failed-write-left-in-the-buffer : Allows sevens blank failedLeft → ⊥
 unfolding computed
-bytes-that-a-failed-write-left-in-the-buffer a = not-the-two 9 1 7 refl refl (at-last sevens blank failedLeft a .0 .read-rule refl)
+bytes-that-a-failed-write-left-in-the-buffer a = not-the-two 9 1 7 refl refl (last-asks sevens blank failedLeft a .0 .read-rule refl)
 
 abbrev lastByteWrong : List Entry
 lastByteWrong = found [] ++ asksRead 17 ++ (says go (reads 17) ∷ shows sevenAndOne (surface 0 sevenAndOne) answer.Finished ∷ [])
 
 pub bytes-with-the-last-one-wrong : Allows sevens blank lastByteWrong → ⊥
 unfolding computed
-bytes-with-the-last-one-wrong a = no-candidate-by-its-last-byte (at-last sevens blank lastByteWrong a .0 .read-rule refl)
+bytes-with-the-last-one-wrong a = no-candidate-by-its-last-byte (last-asks sevens blank lastByteWrong a .0 .read-rule refl)
 
 -- Another block holds the image of a table. To read it is not to read the table.
 abbrev imageElsewhere : List Entry
@@ -320,15 +210,15 @@ imageElsewhere =
 
 pub old-bytes-after-an-image-read-elsewhere : Allows sevens blank imageElsewhere → ⊥
 unfolding computed
-old-bytes-after-an-image-read-elsewhere a = not-the-one 7 1 refl (at-last sevens blank imageElsewhere a .0 .read-rule refl)
+old-bytes-after-an-image-read-elsewhere a = not-the-one 7 1 refl (last-asks sevens blank imageElsewhere a .0 .read-rule refl)
 
 -- No sector holds anything as the list begins, and nothing is written.
-abbrev spoiledAtFirst : List Entry
-spoiledAtFirst = found [] ++ readsGood 7
+abbrev unreadableAtFirst : List Entry
+unreadableAtFirst = found [] ++ readsGood 7
 
-pub a-good-read-of-a-spoiled-sector : Allows (λ s. unreadable) blank spoiledAtFirst → ⊥
+pub a-good-read-of-an-unreadable-sector : Allows (λ s. unreadable) blank unreadableAtFirst → ⊥
 unfolding computed
-a-good-read-of-a-spoiled-sector a = at-last (λ s. unreadable) blank spoiledAtFirst a .0 .read-rule refl
+a-good-read-of-an-unreadable-sector a = last-asks (λ s. unreadable) blank unreadableAtFirst a .0 .read-rule refl
 
 -- Without an access, as from the buffer.
 abbrev beforeTheTable : List Entry
@@ -336,7 +226,7 @@ beforeTheTable = foundNone ++ asksRead 17 ++ (ends go 0x00 0x00 7 ∷ [])
 
 pub a-good-read-before-any-table : Allows sevens blank beforeTheTable → ⊥
 unfolding computed
-a-good-read-before-any-table a = at-last sevens blank beforeTheTable a .0 .read-rule refl
+a-good-read-before-any-table a = last-asks sevens blank beforeTheTable a .0 .read-rule refl
 
 -- A second 55 breaks nothing off, so the write is reported good.
 abbrev secondGo : List Entry
@@ -344,31 +234,15 @@ secondGo = found [] ++ asksWrite 1 ++ (says go (writes 17) ∷ says go answer.Wa
 
 pub old-bytes-after-a-second-55 : Allows sevens blank secondGo → ⊥
 unfolding computed
-old-bytes-after-a-second-55 a = not-the-one 7 1 refl (at-last sevens blank secondGo a .0 .read-rule refl)
+old-bytes-after-a-second-55 a = not-the-one 7 1 refl (last-asks sevens blank secondGo a .0 .read-rule refl)
 
--- A raise acts on no command, so its finish reports nothing.
-abbrev raisedInstead : List Entry
-raisedInstead = found [] ++ asksWrite 1 ++ (ends raise 0x00 0x00 1 ∷ []) ++ readsGood 1
-
-pub bytes-of-a-write-that-a-raise-finished : Allows sevens blank raisedInstead → ⊥
-unfolding computed
-bytes-of-a-write-that-a-raise-finished a = not-the-one 1 7 refl (at-last sevens blank raisedInstead a .0 .read-rule refl)
-
--- The lower with 55 after offer 03 acts on no command either.
+-- The lower with 55 after offer 03 acts on no command.
 abbrev tooEarly : List Entry
 tooEarly = found [] ++ opensWrite 17 ++ (ends go 0x00 0x00 0 ∷ []) ++ readsGood 0
 
 pub bytes-of-a-write-finished-before-its-data : Allows sevens blank tooEarly → ⊥
 unfolding computed
-bytes-of-a-write-finished-before-its-data a = not-the-one 0 7 refl (at-last sevens blank tooEarly a .0 .read-rule refl)
-
--- A store reports nothing, and the write failed with no write s.
-abbrev storedOnly : List Entry
-storedOnly = found [] ++ asksWrite 1 ++ (says go answer.Store ∷ ends timesOut 0x05 0x00 1 ∷ []) ++ readsGood 1
-
-pub bytes-of-a-write-that-only-stored : Allows sevens blank storedOnly → ⊥
-unfolding computed
-bytes-of-a-write-that-only-stored a = not-the-one 1 7 refl (at-last sevens blank storedOnly a .0 .read-rule refl)
+bytes-of-a-write-finished-before-its-data a = not-the-one 0 7 refl (last-asks sevens blank tooEarly a .0 .read-rule refl)
 
 -- An image comes while no read is awaited: it is no table.
 abbrev imageUnasked : List Entry
@@ -376,7 +250,7 @@ imageUnasked = found [] ++ writesGood 1 ++ (says (surface 0 (imageOf [] [])) ans
 
 pub old-bytes-after-an-image-not-asked-for : Allows sevens blank imageUnasked → ⊥
 unfolding computed
-old-bytes-after-an-image-not-asked-for a = not-the-one 7 1 refl (at-last sevens blank imageUnasked a .0 .read-rule refl)
+old-bytes-after-an-image-not-asked-for a = not-the-one 7 1 refl (last-asks sevens blank imageUnasked a .0 .read-rule refl)
 
 -- The one was written to block 18.
 abbrev writtenBeside : List Entry
@@ -384,7 +258,7 @@ writtenBeside = found [] ++ asksWriteTo 18 1 ++ (says go (writes 18) ∷ ends do
 
 pub bytes-of-a-write-to-another-block : Allows sevens blank writtenBeside → ⊥
 unfolding computed
-bytes-of-a-write-to-another-block a = not-the-one 1 7 refl (at-last sevens blank writtenBeside a .0 .read-rule refl)
+bytes-of-a-write-to-another-block a = not-the-one 1 7 refl (last-asks sevens blank writtenBeside a .0 .read-rule refl)
 
 -- The table has block 17 at spare 0, which holds an eight. Its home holds a seven.
 abbrev eightAtSpare : Sectors
@@ -395,7 +269,7 @@ homeOfAMovedBlock = found (17 ∷ []) ++ asksRead 17 ++ (says go (reads 4928) �
 
 pub bytes-of-the-home-of-a-moved-block : Allows eightAtSpare blank homeOfAMovedBlock → ⊥
 unfolding computed
-bytes-of-the-home-of-a-moved-block a = not-the-one 7 8 refl (at-last eightAtSpare blank homeOfAMovedBlock a .0 .read-rule refl)
+bytes-of-the-home-of-a-moved-block a = not-the-one 7 8 refl (last-asks eightAtSpare blank homeOfAMovedBlock a .0 .read-rule refl)
 
 -- FIRST ACCESSES
 
@@ -405,7 +279,7 @@ farFromHome = found [] ++ asksRead 4927 ++ (says go (reads 4991) ∷ [])
 
 pub a-first-read-elsewhere : Allows sevens blank farFromHome → ⊥
 unfolding computed
-a-first-read-elsewhere a = not-there 4927 4991 refl (at-last sevens blank farFromHome a .0 .first-rule refl .1)
+a-first-read-elsewhere a = not-there 4927 4991 refl (last-asks sevens blank farFromHome a .0 .first-rule refl .1)
 
 -- A write at the sector beside.
 abbrev nextDoor : List Entry
@@ -413,7 +287,7 @@ nextDoor = found [] ++ asksWrite 1 ++ (says go (writes 18) ∷ [])
 
 pub a-first-write-elsewhere : Allows sevens blank nextDoor → ⊥
 unfolding computed
-a-first-write-elsewhere a = not-there 17 18 refl (at-last sevens blank nextDoor a .0 .first-rule refl .1)
+a-first-write-elsewhere a = not-there 17 18 refl (last-asks sevens blank nextDoor a .0 .first-rule refl .1)
 
 -- The table has it at spare 0.
 abbrev spareForgotten : List Entry
@@ -421,7 +295,7 @@ spareForgotten = found (17 ∷ []) ++ asksRead 17 ++ (says go (reads 17) ∷ [])
 
 pub a-moved-block-read-at-its-home : Allows sevens blank spareForgotten → ⊥
 unfolding computed
-a-moved-block-read-at-its-home a = not-there 4928 17 refl (at-last sevens blank spareForgotten a .0 .first-rule refl .1)
+a-moved-block-read-at-its-home a = not-there 4928 17 refl (last-asks sevens blank spareForgotten a .0 .first-rule refl .1)
 
 -- The sparing bit told of the move to spare 0.
 abbrev moveForgotten : List Entry
@@ -431,7 +305,7 @@ moveForgotten =
 
 pub a-block-read-at-its-home-after-its-move : Allows sevens blank moveForgotten → ⊥
 unfolding computed
-a-block-read-at-its-home-after-its-move a = not-there 4928 17 refl (at-last sevens blank moveForgotten a .0 .first-rule refl .1)
+a-block-read-at-its-home-after-its-move a = not-there 4928 17 refl (last-asks sevens blank moveForgotten a .0 .first-rule refl .1)
 
 -- So does the sparing bit of a command that failed.
 abbrev failedAndMoved : List Entry
@@ -441,7 +315,7 @@ failedAndMoved =
 
 pub a-block-read-at-its-home-after-a-failed-command-moved-it : Allows sevens blank failedAndMoved → ⊥
 unfolding computed
-a-block-read-at-its-home-after-a-failed-command-moved-it a = not-there 4928 17 refl (at-last sevens blank failedAndMoved a .0 .first-rule refl .1)
+a-block-read-at-its-home-after-a-failed-command-moved-it a = not-there 4928 17 refl (last-asks sevens blank failedAndMoved a .0 .first-rule refl .1)
 
 -- The command failed, with no sparing bit: the block keeps its sector.
 abbrev spareTaken : List Entry
@@ -449,9 +323,9 @@ spareTaken = found [] ++ movesInVain ++ asksRead 17 ++ (says go (reads 4928) ∷
 
 pub a-block-read-at-a-spare-after-a-failed-move : Allows sevens blank spareTaken → ⊥
 unfolding computed
-a-block-read-at-a-spare-after-a-failed-move a = not-there 17 4928 refl (at-last sevens blank spareTaken a .0 .first-rule refl .1)
+a-block-read-at-a-spare-after-a-failed-move a = not-there 17 4928 refl (last-asks sevens blank spareTaken a .0 .first-rule refl .1)
 
--- The sparing bit stands in the finish of a command broken off, which moves nothing.
+-- The finish of a command broken off has the sparing bit, and moves nothing.
 abbrev movedAtABreak : List Entry
 movedAtABreak =
     found [] ++ movesInVain ++ asksRead 17 ++ (ends (lower 0x00) 0x80 0x04 7 ∷ [])
@@ -459,7 +333,7 @@ movedAtABreak =
 
 pub a-block-read-at-a-spare-after-a-break : Allows sevens blank movedAtABreak → ⊥
 unfolding computed
-a-block-read-at-a-spare-after-a-break a = not-there 17 4928 refl (at-last sevens blank movedAtABreak a .0 .first-rule refl .1)
+a-block-read-at-a-spare-after-a-break a = not-there 17 4928 refl (last-asks sevens blank movedAtABreak a .0 .first-rule refl .1)
 
 -- A write tells of a move and has no read s of its own.
 abbrev movedByAnother : List Entry
@@ -469,7 +343,7 @@ movedByAnother =
 
 pub a-block-read-where-the-command-before-had-read : Allows sevens blank movedByAnother → ⊥
 unfolding computed
-a-block-read-where-the-command-before-had-read a = not-anywhere 4928 (at-last sevens blank movedByAnother a .0 .first-rule refl .1)
+a-block-read-where-the-command-before-had-read a = not-anywhere 4928 (last-asks sevens blank movedByAnother a .0 .first-rule refl .1)
 
 -- The first access comes after the lower, and the command before had one.
 abbrev late : List Entry
@@ -477,7 +351,7 @@ late = found [] ++ writesGood 1 ++ asksRead 17 ++ (says go answer.Wait ∷ says 
 
 pub a-late-first-access-elsewhere : Allows sevens blank late → ⊥
 unfolding computed
-a-late-first-access-elsewhere a = not-there 17 18 refl (at-last sevens blank late a .0 .first-rule refl .1)
+a-late-first-access-elsewhere a = not-there 17 18 refl (last-asks sevens blank late a .0 .first-rule refl .1)
 
 -- No block has a sector yet.
 abbrev accessFirst : List Entry
@@ -485,7 +359,7 @@ accessFirst = foundNone ++ asksRead 17 ++ (says go (reads 17) ∷ [])
 
 pub an-access-before-any-table : Allows sevens blank accessFirst → ⊥
 unfolding computed
-an-access-before-any-table a = not-anywhere 17 (at-last sevens blank accessFirst a .0 .first-rule refl .1)
+an-access-before-any-table a = not-anywhere 17 (last-asks sevens blank accessFirst a .0 .first-rule refl .1)
 
 -- 9728 is no block.
 abbrev noBlock : List Entry
@@ -493,7 +367,7 @@ noBlock = found [] ++ asksRead 9728 ++ (says go (reads 9728) ∷ [])
 
 pub an-access-for-a-number-of-no-block : Allows sevens blank noBlock → ⊥
 unfolding computed
-an-access-for-a-number-of-no-block a = clash (at-last sevens blank noBlock a .0 .first-rule refl .0) refl
+an-access-for-a-number-of-no-block a = clash (last-asks sevens blank noBlock a .0 .first-rule refl .0) refl
 
 -- SECTORS
 
@@ -506,69 +380,6 @@ unfolding computed
 two-blocks-at-one-sector a = differ 17 18 refl (ap (λ (b : Block). b .0) (a .2 .2 .2 .2 .2 .2 .2 .1 (record { 0 = 17 }) (record { 0 = 18 }) (record { 0 = 18 }) refl refl refl refl))
 
 -- WHAT IT DOES NOT FORBID
-
--- a test of the two rules at an entry
-abbrev isIn : Bytes → List Bytes → Bool
-isIn y [] = false
-isIn y (x ∷ xs) = same y x || isIn y xs
-
-abbrev isThere : Where → Where → Bool
-isThere nowhere w = false
-isThere (at s) nowhere = false
-isThere (at s) (at k) = eqb (s .0) (k .0)
-
-abbrev passes : History → Entry → Bool
-passes H o =
-    (not (goodRead H o) || isIn (dataOf (o .buffer)) (H .candidates (blockOf (H .command))))
-    && (not (firstAccess H o) || (isBlock (numberOf (H .command)) && isThere (H .place (blockOf (H .command))) (orElse (readAsked (o .answer)) (writeAsked (o .answer)))))
-
-abbrev allPass : Sectors → History → List Entry → Bool
-allPass start H [] = true
-allPass start H (o ∷ os) = passes H o && allPass start (next start H o) os
-
-is-in : (y : Bytes) (xs : List Bytes) → isIn y xs ≡ true → In y xs
-is-in y [] h = clash h refl
-is-in y (x ∷ xs) h = either (same y x) refl h (is-in y xs)
-  where
-    either : (b : Bool) → same y x ≡ b → (b || isIn y xs) ≡ true → (isIn y xs ≡ true → In y xs) → In y (x ∷ xs)
-    either true e g further = inl (same-equal y x e)
-    either false e g further = inr (further g)
-
-is-there : (w v : Where) → isThere w v ≡ true → w ≡ v
-is-there nowhere w h = clash h refl
-is-there (at s) nowhere h = clash h refl
-is-there (at s) (at k) h = ap (λ (n : ℕ). sector n) (eqb-true (s .0) (k .0) h)
-
-if-so : (a b : Bool) → (not a || b) ≡ true → a ≡ true → b ≡ true
-if-so true b h e = h
-if-so false b h e = clash e refl
-
-fits-by-test : (H : History) (o : Entry) → passes H o ≡ true → Fits H o
-fits-by-test H o h =
-    let found = isIn (dataOf (o .buffer)) (H .candidates (blockOf (H .command))) in
-    let there = isThere (H .place (blockOf (H .command))) (orElse (readAsked (o .answer)) (writeAsked (o .answer))) in
-    let block = isBlock (numberOf (H .command)) in
-    let reading = and-left (not (goodRead H o) || found) (not (firstAccess H o) || (block && there)) h in
-    let accessing = and-right (not (goodRead H o) || found) (not (firstAccess H o) || (block && there)) h in
-    record {
-      read-rule = λ g. is-in (dataOf (o .buffer)) (H .candidates (blockOf (H .command))) (if-so (goodRead H o) found reading g);
-      first-rule = λ g.
-          let both = if-so (firstAccess H o) (block && there) accessing g in (
-            and-left block there both,
-            is-there (H .place (blockOf (H .command))) (orElse (readAsked (o .answer)) (writeAsked (o .answer))) (and-right block there both),
-          );
-    }
-
-abbrev AllFit : Sectors → History → List Entry → Type 0
-AllFit start H [] = Unit {0}
-AllFit start H (o ∷ os) = Fits H o × AllFit start (next start H o) os
-
-all-fit : (start : Sectors) (H : History) (os : List Entry) → allPass start H os ≡ true → AllFit start H os
-all-fit start H [] h = tt
-all-fit start H (o ∷ os) h = (
-  fits-by-test H o (and-left (passes H o) (allPass start (next start H o) os) h),
-  all-fit start (next start H o) os (and-right (passes H o) (allPass start (next start H o) os) h),
-)
 
 -- The start reads 4960 once more, which is no access of a command. A failed read leaves bytes that nobody wrote, after an access
 -- away from its block's sector. So does a read of a number of no block, which is reported of none. A good write's bytes were no

@@ -7,9 +7,10 @@ use Rattle.lists.specs.Lists.{dead}
 use Rattle.image.specs.Images.{imageOf}
 use Rattle.drive.specs.declared.Drive.{Drive}
 use Rattle.drive.specs.Calls.{raise, lower, feed, surface, reset}
-use Rattle.drive.specs.History.{held, nowhere}
+use Rattle.drive.specs.History.{held}
+use Rattle.drive.specs.Views.{nowhere}
 use Rattle.drive.proofs.Computing.{computed}
-use Rattle.drive.proofs.Transcripts.{Turn, _⇒_, Run, Happens, happens, bytes, disk, sector, go, gives, done, garbles, timesOut, found, opens, command, asksRead, asksWrite, asksTable, elevenTimeouts, wait, offer, read, write, store, finished, refused, ended, from, calls, unsettled}
+use Rattle.drive.proofs.Transcripts.{Exchange, _⇒_, Run, Happens, happens, bytes, disk, sector, go, gives, done, garbles, timesOut, found, opens, command, asksRead, asksWrite, asksTable, elevenTimeouts, wait, offer, read, write, store, finished, refused, ended, from, calls, unsettled}
 
 -- Ten reads of the start fail: bytes that are no image, an image with answer 1, timeouts. With no table FFFFFE is good, and too
 -- many data bytes are told before all else; 600 count as 533.
@@ -17,7 +18,7 @@ abbrev noTable : Run
 noTable =
     record {
       sectors = λ s. held (bytes 7);
-      turns =
+      exchanges =
           (gives 7 ⇒ read 4960 ∷ surface 1 (imageOf [] []) ⇒ read 4960 ∷ []) ++ replicate 7 (timesOut ⇒ read 4960) ++ (timesOut ⇒ wait ∷ [])
           ++ opens ++ asksRead 17 2 2 ++ (go ⇒ finished 0x01 0x08 0x80 0 ∷ [])
           ++ opens ++ asksWrite 1 17 (bytes 1) ++ (go ⇒ finished 0x41 0x08 0x00 0 ∷ [])
@@ -34,13 +35,17 @@ pub with-no-table-reads-and-writes-fail : (old : Drive) → Happens old noTable
 unfolding computed
 with-no-table-reads-and-writes-fail old = happens old noTable refl
 
+pub no-table-latches-nothing : (old : Drive) → ended (from old noTable) (calls noTable) .drive .state .marks .latch ≡ false
+unfolding computed
+no-table-latches-nothing old = refl
+
 -- FFFFFF puts the image in the data part, and FFFFFE leaves it there. 9728, 00FFFE and a write to FFFFFF fail, and so do too many
 -- data bytes to FFFFFE.
 abbrev notBlocks : Run
 notBlocks =
     record {
       sectors = disk (dead ∷ []) [];
-      turns =
+      exchanges =
           found (dead ∷ []) []
           ++ opens ++ asksWrite 1 0xFFFFFF (bytes 1) ++ (go ⇒ finished 0x01 0x00 0xC0 0 ∷ [])
           ++ opens ++ asksWrite 1 0xFFFFFE (replicate 533 3) ++ (go ⇒ finished 0x41 0x00 0x00 0 ∷ [])
@@ -62,7 +67,7 @@ abbrev brokenOffAtOffer06 : Run
 brokenOffAtOffer06 =
     record {
       sectors = disk [] [];
-      turns =
+      exchanges =
           found [] []
           ++ opens ++ asksWrite 1 17 (bytes 1) ++ (lower 0xAA ⇒ finished 0x80 0x00 0x00 0 ∷ [])
           ++ opens ++ asksWrite 2 17 (bytes 2) ++ (reset ⇒ wait ∷ [])
@@ -77,11 +82,11 @@ unfolding computed
 bytes-of-a-write-broken-off-do-not-count old = happens old brokenOffAtOffer06 refl
 
 -- A wrong handshake byte neither shows nor clears status 3 bit 7.
-abbrev strayFirst : Run
-strayFirst =
+abbrev wrongByteFirst : Run
+wrongByteFirst =
     record {
       sectors = disk [] [];
-      turns =
+      exchanges =
           found [] [] ++ opens ++ (lower 0xAA ⇒ finished 0x80 0x00 0x00 0 ∷ [])
           ++ opens ++ asksRead 17 0 1 ++ (go ⇒ read 17 ∷ gives 7 ⇒ finished 0x00 0x00 0x80 0 ∷ []);
       part = bytes 7;
@@ -89,9 +94,9 @@ strayFirst =
       candidates = bytes 7 ∷ [];
     }
 
-pub a-wrong-byte-leaves-the-first-finish-due : (old : Drive) → Happens old strayFirst
+pub a-wrong-byte-leaves-the-first-finish-due : (old : Drive) → Happens old wrongByteFirst
 unfolding computed
-a-wrong-byte-leaves-the-first-finish-due old = happens old strayFirst refl
+a-wrong-byte-leaves-the-first-finish-due old = happens old wrongByteFirst refl
 
 -- Short commands and an unknown opcode are dropped, with no store in between. Seven bytes come in
 -- three pieces, and the seventh is ignored.
@@ -99,7 +104,7 @@ abbrev dropped : Run
 dropped =
     record {
       sectors = disk [] [];
-      turns =
+      exchanges =
           found [] [] ++ elevenTimeouts ++ (raise ⇒ store ∷ timesOut ⇒ offer 0x01 ∷ [])
           ++ (go ⇒ wait ∷ feed (0 ∷ 0 ∷ 0 ∷ 17 ∷ 0 ∷ []) ⇒ wait ∷ raise ⇒ offer 0x01 ∷ go ⇒ wait ∷ feed (1 ∷ 0 ∷ 0 ∷ []) ⇒ wait ∷ raise ⇒ offer 0x01 ∷ [])
           ++ (go ⇒ wait ∷ feed (2 ∷ 0 ∷ 0 ∷ []) ⇒ wait ∷ raise ⇒ offer 0x01 ∷ go ⇒ wait ∷ feed (3 ∷ 0 ∷ 0 ∷ 17 ∷ 0 ∷ 0 ∷ []) ⇒ wait ∷ raise ⇒ offer 0x01 ∷ [])
@@ -114,12 +119,32 @@ pub short-and-unknown-commands-are-dropped : (old : Drive) → Happens old dropp
 unfolding computed
 short-and-unknown-commands-are-dropped old = happens old dropped refl
 
+-- No opcode but 00, 01 and 02 is a command, with four bytes or with six.
+abbrev unknownOpcodes : Run
+unknownOpcodes =
+    record {
+      sectors = disk [] [];
+      exchanges =
+          found [] [] ++ opens
+          ++ (go ⇒ wait ∷ feed (command 3 17 []) ⇒ wait ∷ raise ⇒ offer 0x01 ∷ go ⇒ wait ∷ feed (command 3 17 (0 ∷ 0 ∷ [])) ⇒ wait ∷ raise ⇒ offer 0x01 ∷ [])
+          ++ (go ⇒ wait ∷ feed (command 4 17 (0 ∷ 0 ∷ [])) ⇒ wait ∷ raise ⇒ offer 0x01 ∷ go ⇒ wait ∷ feed (command 0x10 17 (0 ∷ 0 ∷ [])) ⇒ wait ∷ raise ⇒ offer 0x01 ∷ [])
+          ++ (go ⇒ wait ∷ feed (command 0x80 17 (0 ∷ 0 ∷ [])) ⇒ wait ∷ raise ⇒ offer 0x01 ∷ go ⇒ wait ∷ feed (command 0xFF 17 (0 ∷ 0 ∷ [])) ⇒ wait ∷ raise ⇒ offer 0x01 ∷ [])
+          ++ asksRead 0xFFFFFE 0 0 ++ (go ⇒ finished 0x00 0x00 0x80 0 ∷ []);
+      part = bytes 0;
+      place = sector 17;
+      candidates = bytes 7 ∷ [];
+    }
+
+pub an-unknown-opcode-is-offered-01 : (old : Drive) → Happens old unknownOpcodes
+unfolding computed
+an-unknown-opcode-is-offered-01 old = happens old unknownOpcodes refl
+
 -- Resets among command bytes, among data, at an offer and in idle; the mark, the table and the buffer stay.
 abbrev resets : Run
 resets =
     record {
       sectors = disk [] [];
-      turns =
+      exchanges =
           found [] [] ++ elevenTimeouts ++ (raise ⇒ store ∷ timesOut ⇒ offer 0x01 ∷ go ⇒ wait ∷ feed (1 ∷ []) ⇒ wait ∷ reset ⇒ wait ∷ [])
           ++ (raise ⇒ store ∷ timesOut ⇒ offer 0x01 ∷ [])
           ++ (go ⇒ wait ∷ feed (command 1 17 []) ⇒ wait ∷ raise ⇒ offer 0x03 ∷ go ⇒ wait ∷ feed (bytes 3) ⇒ wait ∷ reset ⇒ wait ∷ reset ⇒ wait ∷ [])
@@ -138,7 +163,7 @@ abbrev refusedAmong : Run
 refusedAmong =
     record {
       sectors = disk [] [];
-      turns =
+      exchanges =
           (raise ⇒ refused 3 ∷ surface 4 [] ⇒ refused 4 ∷ surface 0 [] ⇒ refused 5 ∷ surface 0 (replicate 533 9) ⇒ refused 5 ∷ [])
           ++ (surface 1 (9 ∷ []) ⇒ refused 5 ∷ surface 2 (9 ∷ []) ⇒ refused 5 ∷ []) ++ found [] []
           ++ (surface 9 [] ⇒ refused 3 ∷ lower 0x55 ⇒ refused 3 ∷ []) ++ opens ++ (feed (bytes 9) ⇒ refused 3 ∷ [])
@@ -155,14 +180,14 @@ unfolding computed
 refused-calls-change-nothing old = happens old refusedAmong refl
 
 -- Calls out of place while an access of each kind is awaited: each time raise, lower, feed and reset are refused.
-abbrev allRefused : List Turn
+abbrev allRefused : List Exchange
 allRefused = raise ⇒ refused 3 ∷ go ⇒ refused 3 ∷ feed (bytes 9) ⇒ refused 3 ∷ reset ⇒ refused 3 ∷ []
 
 abbrev busy : Run
 busy =
     record {
       sectors = disk [] [];
-      turns =
+      exchanges =
           allRefused ++ found [] [] ++ opens ++ asksRead 17 0 0
           ++ (go ⇒ read 17 ∷ []) ++ allRefused ++ (garbles 9 ⇒ read 17 ∷ gives 7 ⇒ write 17 ∷ []) ++ allRefused
           ++ (timesOut ⇒ write 17 ∷ done ⇒ read 17 ∷ []) ++ allRefused ++ (surface 4 [] ⇒ refused 4 ∷ done ⇒ refused 5 ∷ garbles 9 ⇒ write 4928 ∷ done ⇒ read 4928 ∷ gives 7 ⇒ finished 0x0C 0x04 0x80 0 ∷ [])
@@ -182,7 +207,7 @@ abbrev outOfPlace : Run
 outOfPlace =
     record {
       sectors = disk [] [];
-      turns =
+      exchanges =
           found [] [] ++ (go ⇒ refused 3 ∷ feed (1 ∷ []) ⇒ refused 3 ∷ done ⇒ refused 3 ∷ [])
           ++ opens ++ (raise ⇒ refused 3 ∷ feed (1 ∷ []) ⇒ refused 3 ∷ done ⇒ refused 3 ∷ [])
           ++ (go ⇒ wait ∷ go ⇒ refused 3 ∷ done ⇒ refused 3 ∷ feed (command 1 17 []) ⇒ wait ∷ raise ⇒ offer 0x03 ∷ [])
@@ -202,7 +227,7 @@ abbrev refusedAnswers : Run
 refusedAnswers =
     record {
       sectors = disk [] [];
-      turns =
+      exchanges =
           found [] []
           ++ opens ++ asksWrite 1 17 (bytes 1) ++ (go ⇒ write 17 ∷ gives 9 ⇒ refused 5 ∷ timesOut ⇒ finished 0x05 0x00 0x80 0 ∷ [])
           ++ opens ++ asksRead 17 0 1 ++ (go ⇒ read 17 ∷ gives 7 ⇒ finished 0x00 0x00 0x00 0 ∷ [])
@@ -222,7 +247,7 @@ abbrev startUnsettled : Run
 startUnsettled =
     record {
       sectors = disk [] [];
-      turns = (timesOut ⇒ read 4960 ∷ unsettled ⇒ wait ∷ []) ++ opens ++ asksRead 17 0 1 ++ (go ⇒ finished 0x01 0x08 0x80 0 ∷ []);
+      exchanges = (timesOut ⇒ read 4960 ∷ unsettled ⇒ wait ∷ []) ++ opens ++ asksRead 17 0 1 ++ (go ⇒ finished 0x01 0x08 0x80 0 ∷ []);
       part = bytes 0;
       place = nowhere;
       candidates = [];
@@ -232,7 +257,7 @@ pub answer-3-ends-a-start : (old : Drive) → Happens old startUnsettled
 unfolding computed
 answer-3-ends-a-start old = happens old startUnsettled refl
 
-pub answer-3-to-a-start-latches-nothing : (old : Drive) → ended (from old startUnsettled) (calls startUnsettled) .drive .line .marks .latch ≡ false
+pub answer-3-to-a-start-latches-nothing : (old : Drive) → ended (from old startUnsettled) (calls startUnsettled) .drive .state .marks .latch ≡ false
 unfolding computed
 answer-3-to-a-start-latches-nothing old = refl
 
@@ -241,7 +266,7 @@ abbrev inPieces : Run
 inPieces =
     record {
       sectors = disk [] [];
-      turns =
+      exchanges =
           found [] []
           ++ opens ++ (go ⇒ wait ∷ feed (command 2 17 (9 ∷ [])) ⇒ wait ∷ raise ⇒ offer 0x04 ∷ lower 0xAA ⇒ finished 0x80 0x00 0x00 0 ∷ [])
           ++ opens ++ (go ⇒ wait ∷ feed (command 1 17 (9 ∷ 9 ∷ [])) ⇒ wait ∷ raise ⇒ offer 0x03 ∷ go ⇒ wait ∷ [])
@@ -254,3 +279,20 @@ inPieces =
 pub data-come-in-pieces : (old : Drive) → Happens old inPieces
 unfolding computed
 data-come-in-pieces old = happens old inPieces refl
+
+-- Of 300, 300 and 5 bytes the first 532 are kept.
+abbrev pastTheEnd : Run
+pastTheEnd =
+    record {
+      sectors = disk [] [];
+      exchanges =
+          found [] [] ++ opens ++ (go ⇒ wait ∷ feed (command 1 17 []) ⇒ wait ∷ raise ⇒ offer 0x03 ∷ go ⇒ wait ∷ [])
+          ++ (feed (replicate 300 1) ⇒ wait ∷ feed (replicate 300 2) ⇒ wait ∷ feed (replicate 5 3) ⇒ wait ∷ raise ⇒ offer 0x06 ∷ go ⇒ finished 0x41 0x00 0x80 0 ∷ []);
+      part = replicate 300 1 ++ replicate 232 2;
+      place = sector 17;
+      candidates = bytes 7 ∷ [];
+    }
+
+pub pieces-past-the-end-are-dropped : (old : Drive) → Happens old pastTheEnd
+unfolding computed
+pieces-past-the-end-are-dropped old = happens old pastTheEnd refl

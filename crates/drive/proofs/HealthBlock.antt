@@ -5,7 +5,8 @@ use lib.ListN.{replicate}
 use Rattle.lists.specs.Lists.{dead}
 use Rattle.drive.specs.declared.Drive.{Drive}
 use Rattle.drive.specs.Calls.{raise}
-use Rattle.drive.specs.History.{held, nowhere}
+use Rattle.drive.specs.History.{held}
+use Rattle.drive.specs.Views.{nowhere}
 use Rattle.drive.proofs.Computing.{computed}
 use Rattle.drive.proofs.Transcripts.{_⇒_, Run, Happens, happens, bytes, disk, sector, go, gives, timesOut, unsettled, found, opens, stores, asksRead, asksWrite, asksHealth, healthBlock, elevenTimeouts, wait, offer, read, write, store, finished}
 
@@ -14,7 +15,7 @@ abbrev healthOfLists : Run
 healthOfLists =
     record {
       sectors = disk (dead ∷ 20 ∷ []) (5 ∷ 6 ∷ 7 ∷ []);
-      turns =
+      exchanges =
           found (dead ∷ 20 ∷ []) (5 ∷ 6 ∷ 7 ∷ [])
           ++ opens ++ asksRead 17 2 2 ++ (go ⇒ read 17 ∷ gives 7 ⇒ finished 0x00 0x00 0x80 0 ∷ [])
           ++ opens ++ asksHealth 0x00;
@@ -32,7 +33,7 @@ abbrev healthFirst : Run
 healthFirst =
     record {
       sectors = disk [] [];
-      turns = found [] [] ++ opens ++ asksHealth 0x80 ++ opens ++ asksHealth 0x00;
+      exchanges = found [] [] ++ opens ++ asksHealth 0x80 ++ opens ++ asksHealth 0x00;
       part = healthBlock 32 0 0 0;
       place = sector 17;
       candidates = bytes 7 ∷ [];
@@ -47,7 +48,7 @@ abbrev healthUnstored : Run
 healthUnstored =
     record {
       sectors = disk [] [];
-      turns = found [] [] ++ elevenTimeouts ++ (raise ⇒ store ∷ timesOut ⇒ offer 0x01 ∷ []) ++ asksHealth 0x00;
+      exchanges = found [] [] ++ elevenTimeouts ++ (raise ⇒ store ∷ timesOut ⇒ offer 0x01 ∷ []) ++ asksHealth 0x00;
       part = healthBlock 32 1 0 1;
       place = sector 17;
       candidates = bytes 7 ∷ [];
@@ -62,7 +63,7 @@ abbrev healthStored : Run
 healthStored =
     record {
       sectors = disk [] [];
-      turns = found [] [] ++ elevenTimeouts ++ stores ++ asksHealth 0x00;
+      exchanges = found [] [] ++ elevenTimeouts ++ stores ++ asksHealth 0x00;
       part = healthBlock 32 1 0 0;
       place = sector 17;
       candidates = bytes 7 ∷ [];
@@ -77,7 +78,7 @@ abbrev healthUnsettled : Run
 healthUnsettled =
     record {
       sectors = disk [] [];
-      turns = found [] [] ++ opens ++ asksRead 17 2 2 ++ (go ⇒ read 17 ∷ unsettled ⇒ finished 0x11 0x00 0x80 0 ∷ []) ++ opens ++ asksHealth 0x00;
+      exchanges = found [] [] ++ opens ++ asksRead 17 2 2 ++ (go ⇒ read 17 ∷ unsettled ⇒ finished 0x11 0x00 0x80 0 ∷ []) ++ opens ++ asksHealth 0x00;
       part = healthBlock 32 0 1 0;
       place = sector 17;
       candidates = bytes 7 ∷ [];
@@ -92,7 +93,7 @@ abbrev healthLatched : Run
 healthLatched =
     record {
       sectors = disk [] [];
-      turns =
+      exchanges =
           found [] [] ++ opens ++ asksWrite 2 17 (bytes 1)
           ++ (go ⇒ write 17 ∷ timesOut ⇒ write 17 ∷ timesOut ⇒ write 4928 ∷ unsettled ⇒ finished 0x15 0x00 0x80 0 ∷ [])
           ++ opens ++ asksHealth 0x00;
@@ -110,7 +111,7 @@ abbrev healthUnknown : Run
 healthUnknown =
     record {
       sectors = λ s. held (bytes 7);
-      turns =
+      exchanges =
           (unsettled ⇒ wait ∷ [])
           ++ opens ++ asksWrite 1 0xFFFFFD (bytes 1) ++ (go ⇒ finished 0x01 0x00 0xC0 0 ∷ [])
           ++ opens ++ asksRead 0xFFFFFD 2 2 ++ (go ⇒ finished 0x01 0x08 0x00 0 ∷ []);
@@ -128,7 +129,7 @@ abbrev healthWritten : Run
 healthWritten =
     record {
       sectors = disk [] [];
-      turns =
+      exchanges =
           found [] []
           ++ opens ++ asksWrite 1 0xFFFFFD (bytes 1) ++ (go ⇒ finished 0x01 0x00 0xC0 0 ∷ [])
           ++ opens ++ asksWrite 2 0xFFFFFD (replicate 533 2) ++ (go ⇒ finished 0x41 0x00 0x00 0 ∷ [])

@@ -7,14 +7,14 @@ use Rattle.image.specs.Images.{imageOf}
 use Rattle.drive.specs.declared.Drive.{Drive}
 use Rattle.drive.specs.Calls.{reset}
 use Rattle.drive.proofs.Computing.{computed}
-use Rattle.drive.proofs.Transcripts.{_⇒_, Run, Happens, happens, bytes, disk, sector, go, gives, done, garbles, timesOut, unsettled, found, opens, asksRead, asksWrite, asksTable, wait, read, write, finished, _⇏_}
+use Rattle.drive.proofs.Transcripts.{_⇒_, Run, Happens, happens, bytes, disk, sector, go, gives, done, garbles, timesOut, unsettled, found, opens, stores, asksRead, asksWrite, asksTable, wait, read, write, finished, _⇏_}
 
 -- Answer 3 kills the spare under trial. Then a write, a rewrite at the threshold and the store are not made.
 abbrev pub latched : Run
 latched =
     record {
       sectors = disk [] [];
-      turns =
+      exchanges =
           found [] [] ++ opens ++ asksWrite 2 17 (bytes 1)
           ++ (go ⇒ write 17 ∷ timesOut ⇒ write 17 ∷ timesOut ⇒ write 4928 ∷ unsettled ⇒ finished 0x15 0x00 0x80 0 ∷ [])
           ++ opens ++ asksWrite 1 17 (bytes 2) ++ (go ⇒ finished 0x11 0x00 0x00 0 ∷ [])
@@ -35,7 +35,7 @@ abbrev writeUnsettled : Run
 writeUnsettled =
     record {
       sectors = disk [] [];
-      turns =
+      exchanges =
           found [] [] ++ opens ++ asksWrite 1 17 (bytes 1) ++ (go ⇒ write 17 ∷ unsettled ⇒ finished 0x11 0x00 0x80 0 ∷ reset ⇒ wait ∷ [])
           ++ opens ++ asksWrite 1 17 (bytes 2) ++ (go ⇒ finished 0x11 0x00 0x80 0 ∷ [])
           ++ opens ++ asksWrite 2 17 (bytes 3) ++ (go ⇒ finished 0x11 0x00 0x00 0 ∷ [])
@@ -56,7 +56,7 @@ abbrev attemptUnsettled : Run
 attemptUnsettled =
     record {
       sectors = disk (17 ∷ []) [];
-      turns =
+      exchanges =
           found (17 ∷ []) [] ++ opens ++ asksWrite 2 17 (bytes 1)
           ++ (go ⇒ write 4928 ∷ timesOut ⇒ write 4928 ∷ done ⇒ read 4928 ∷ unsettled ⇒ finished 0x15 0x00 0x80 0 ∷ [])
           ++ opens ++ asksWrite 1 17 (bytes 2) ++ (go ⇒ finished 0x11 0x00 0x00 0 ∷ []) ++ opens ++ asksTable 0x00;
@@ -74,7 +74,7 @@ abbrev verifyUnsettled : Run
 verifyUnsettled =
     record {
       sectors = disk [] [];
-      turns =
+      exchanges =
           found [] [] ++ opens ++ asksWrite 2 17 (bytes 1)
           ++ (go ⇒ write 17 ∷ timesOut ⇒ write 17 ∷ timesOut ⇒ write 4928 ∷ done ⇒ read 4928 ∷ unsettled ⇒ finished 0x15 0x00 0x80 0 ∷ [])
           ++ opens ++ asksWrite 1 17 (bytes 2) ++ (go ⇒ finished 0x11 0x00 0x00 0 ∷ []) ++ opens ++ asksTable 0x00;
@@ -92,7 +92,7 @@ abbrev rereadUnsettled : Run
 rereadUnsettled =
     record {
       sectors = disk [] [];
-      turns =
+      exchanges =
           found [] [] ++ opens ++ asksRead 17 2 2
           ++ (go ⇒ read 17 ∷ garbles 9 ⇒ read 17 ∷ garbles 9 ⇒ read 17 ∷ unsettled ⇒ finished 0x19 0x00 0x80 1 ∷ []) ++ opens ++ asksTable 0x00;
       part = imageOf [] [];
@@ -109,7 +109,7 @@ abbrev firstUnsettled : Run
 firstUnsettled =
     record {
       sectors = disk [] [];
-      turns = found [] [] ++ opens ++ asksWrite 2 17 (bytes 1) ++ (go ⇒ write 17 ∷ unsettled ⇒ finished 0x11 0x00 0x80 0 ∷ []);
+      exchanges = found [] [] ++ opens ++ asksWrite 2 17 (bytes 1) ++ (go ⇒ write 17 ∷ unsettled ⇒ finished 0x11 0x00 0x80 0 ∷ []);
       part = bytes 1;
       place = sector 17;
       candidates = bytes 1 ∷ bytes 7 ∷ [];
@@ -123,7 +123,7 @@ abbrev spareUnsettled : Run
 spareUnsettled =
     record {
       sectors = disk [] [];
-      turns =
+      exchanges =
           found [] [] ++ opens ++ asksWrite 2 17 (bytes 1)
           ++ (go ⇒ write 17 ∷ done ⇏ read 17 ∷ garbles 9 ⇒ write 17 ∷ done ⇏ read 17 ∷ garbles 9 ⇒ write 4928 ∷ unsettled ⇒ finished 0x19 0x00 0x80 0 ∷ []);
       part = bytes 1;
@@ -134,3 +134,42 @@ spareUnsettled =
 pub answer-3-at-a-spare-is-no-timeout : (old : Drive) → Happens old spareUnsettled
 unfolding computed
 answer-3-at-a-spare-is-no-timeout old = happens old spareUnsettled refl
+
+-- Too many data bytes, a number of no block and a read that failed latch nothing: the write after them is made, and one with no
+-- spare unused after that.
+abbrev notLatched : Run
+notLatched =
+    record {
+      sectors = disk (replicate 32 dead) [];
+      exchanges =
+          found (replicate 32 dead) [] ++ opens ++ asksWrite 1 17 (replicate 533 4) ++ (go ⇒ finished 0x41 0x00 0x80 0 ∷ [])
+          ++ opens ++ asksRead 9728 0 0 ++ (go ⇒ finished 0x01 0x00 0x40 0 ∷ [])
+          ++ opens ++ asksRead 18 0 1 ++ (go ⇒ read 18 ∷ []) ++ replicate 10 (timesOut ⇒ read 18) ++ (timesOut ⇒ finished 0x05 0x00 0x00 0 ∷ [])
+          ++ stores ++ asksWrite 2 17 (bytes 1) ++ (go ⇒ write 17 ∷ timesOut ⇒ write 17 ∷ timesOut ⇒ finished 0x05 0x40 0x00 0 ∷ [])
+          ++ opens ++ asksWrite 1 17 (bytes 2) ++ (go ⇒ write 17 ∷ done ⇒ finished 0x00 0x00 0x00 0 ∷ []);
+      part = bytes 2;
+      place = sector 17;
+      candidates = bytes 2 ∷ [];
+    }
+
+pub nothing-but-answer-3-latches : (old : Drive) → Happens old notLatched
+unfolding computed
+nothing-but-answer-3-latches old = happens old notLatched refl
+
+-- A good read does not drop the latch: the write after it is not made.
+abbrev latchStays : Run
+latchStays =
+    record {
+      sectors = disk [] [];
+      exchanges =
+          found [] [] ++ opens ++ asksWrite 1 17 (bytes 1) ++ (go ⇒ write 17 ∷ unsettled ⇒ finished 0x11 0x00 0x80 0 ∷ [])
+          ++ opens ++ asksRead 18 0 1 ++ (go ⇒ read 18 ∷ gives 7 ⇒ finished 0x00 0x00 0x00 0 ∷ [])
+          ++ opens ++ asksWrite 1 17 (bytes 2) ++ (go ⇒ finished 0x11 0x00 0x00 0 ∷ []);
+      part = bytes 2;
+      place = sector 17;
+      candidates = bytes 1 ∷ bytes 7 ∷ [];
+    }
+
+pub a-good-read-keeps-the-latch : (old : Drive) → Happens old latchStays
+unfolding computed
+a-good-read-keeps-the-latch old = happens old latchStays refl

@@ -2,6 +2,7 @@ pub mod Computing
 pub mod Transcripts
 pub mod Examples
 pub mod Reached
+pub mod Overs
 pub mod Codes
 pub mod Verifies
 pub mod Rereads
@@ -11,9 +12,14 @@ pub mod Latch
 pub mod Handshakes
 pub mod ShortData
 pub mod HealthBlock
+pub mod Buffers
 pub mod Week
+pub mod Lasts
 pub mod SurfaceRules
+pub mod Forging
 pub mod Forged
+pub mod ViewsForged
+pub mod MadeForged
 pub mod Reports
 pub mod ToldForged
 pub mod Statements

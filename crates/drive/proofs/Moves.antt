@@ -1,5 +1,6 @@
 -- Moves, computed.
 use mathlib.Core.Path.{_≡_, refl}
+use mathlib.Core.Bool.{true}
 use mathlib.Core.List.{[], _∷_, _++_}
 use lib.ListN.{replicate}
 use Rattle.lists.specs.Lists.{dead}
@@ -9,12 +10,12 @@ use Rattle.drive.specs.History.{unreadable}
 use Rattle.drive.proofs.Computing.{computed}
 use Rattle.drive.proofs.Transcripts.{_⇒_, _⇏_, ended, Run, from, calls, Happens, happens, bytes, disk, sector, go, gives, done, garbles, timesOut, found, opens, stores, asksRead, asksWrite, asksTable, read, write, finished}
 
--- E reaches T. No attempt at the present sector verifies: a write times out, then one spoils the sector.
+-- E reaches T. No attempt at the present sector verifies: a write times out, then one leaves the sector unreadable.
 abbrev movedToSpare0 : Run
 movedToSpare0 =
     record {
       sectors = disk [] [];
-      turns =
+      exchanges =
           found [] []
           ++ opens ++ asksRead 17 1 1
           ++ (go ⇒ read 17 ∷ garbles 9 ⇒ read 17 ∷ garbles 9 ⇒ read 17 ∷ gives 7 ⇒ write 17 ∷ timesOut ⇒ write 17 ∷ done ⇏ read 17 ∷ [])
@@ -33,7 +34,7 @@ abbrev movedToSpare1 : Run
 movedToSpare1 =
     record {
       sectors = disk (17 ∷ []) [];
-      turns =
+      exchanges =
           found (17 ∷ []) []
           ++ opens ++ asksWrite 2 17 (bytes 1)
           ++ (go ⇒ write 4928 ∷ timesOut ⇒ write 4928 ∷ timesOut ⇒ write 4929 ∷ done ⇒ read 4929 ∷ gives 1 ⇒ finished 0x04 0x04 0x80 0 ∷ [])
@@ -52,7 +53,7 @@ abbrev pub noSpareUnused : Run
 noSpareUnused =
     record {
       sectors = disk (replicate 31 dead) [];
-      turns =
+      exchanges =
           found (replicate 31 dead) []
           ++ opens ++ asksWrite 2 17 (bytes 1)
           ++ (go ⇒ write 17 ∷ timesOut ⇒ write 17 ∷ timesOut ⇒ write 4959 ∷ done ⇏ read 4959 ∷ garbles 9 ⇒ write 4959 ∷ timesOut ⇒ finished 0x0D 0x40 0x80 0 ∷ [])
@@ -67,16 +68,16 @@ unfolding computed
 with-no-spare-unused-it-keeps-its-sector old = happens old noSpareUnused refl
 
 -- A write done can leave a spare unreadable too.
-pub a-spare-can-be-spoiled : (old : Drive) → ended (from old noSpareUnused) (calls noSpareUnused) .sectors (record { 0 = 4959 }) ≡ unreadable
+pub a-spare-can-become-unreadable : (old : Drive) → ended (from old noSpareUnused) (calls noSpareUnused) .sectors (record { 0 = 4959 }) ≡ unreadable
 unfolding computed
-a-spare-can-be-spoiled old = refl
+a-spare-can-become-unreadable old = refl
 
 -- A read at its threshold is rewritten, and no sector verifies: it fails, and its bytes are no new candidate.
 abbrev pub failedReads : Run
 failedReads =
     record {
       sectors = disk (replicate 32 dead) [];
-      turns =
+      exchanges =
           found (replicate 32 dead) [] ++ opens ++ asksRead 17 0 0
           ++ (go ⇒ read 17 ∷ garbles 9 ⇒ read 17 ∷ gives 7 ⇒ write 17 ∷ timesOut ⇒ write 17 ∷ timesOut ⇒ finished 0x0D 0x40 0x80 0 ∷ []);
       part = bytes 7;
@@ -93,7 +94,7 @@ abbrev badBlockMoves : Run
 badBlockMoves =
     record {
       sectors = disk [] (5 ∷ 17 ∷ 6 ∷ []);
-      turns =
+      exchanges =
           found [] (5 ∷ 17 ∷ 6 ∷ [])
           ++ opens ++ asksWrite 1 17 (bytes 1)
           ++ (go ⇒ write 17 ∷ timesOut ⇒ write 17 ∷ timesOut ⇒ write 4928 ∷ done ⇒ read 4928 ∷ gives 1 ⇒ finished 0x04 0x04 0x80 0 ∷ [])
@@ -112,7 +113,7 @@ abbrev atItsSpare : Run
 atItsSpare =
     record {
       sectors = disk (17 ∷ []) [];
-      turns =
+      exchanges =
           found (17 ∷ []) []
           ++ opens ++ asksWrite 1 17 (bytes 1) ++ (go ⇒ write 4928 ∷ done ⇒ finished 0x00 0x00 0x80 0 ∷ [])
           ++ opens ++ asksRead 17 1 1 ++ (go ⇒ read 4928 ∷ garbles 9 ⇒ read 4928 ∷ gives 1 ⇒ finished 0x08 0x00 0x00 0 ∷ []);
@@ -125,12 +126,12 @@ pub a-moved-block-is-written-and-read-at-its-spare : (old : Drive) → Happens o
 unfolding computed
 a-moved-block-is-written-and-read-at-its-spare old = happens old atItsSpare refl
 
--- A spoiled sector that is written again can be read.
-abbrev pub spoiledOnce : Run
-spoiledOnce =
+-- An unreadable sector that is written again can be read.
+abbrev pub unreadableOnce : Run
+unreadableOnce =
     record {
       sectors = disk [] [];
-      turns =
+      exchanges =
           found [] [] ++ opens ++ asksWrite 2 17 (bytes 1)
           ++ (go ⇒ write 17 ∷ done ⇏ read 17 ∷ garbles 9 ⇒ write 17 ∷ done ⇒ read 17 ∷ gives 1 ⇒ finished 0x08 0x00 0x80 0 ∷ [])
           ++ opens ++ asksTable 0x00;
@@ -139,16 +140,16 @@ spoiledOnce =
       candidates = bytes 1 ∷ [];
     }
 
-pub a-spoiled-sector-can-be-written-again : (old : Drive) → Happens old spoiledOnce
+pub an-unreadable-sector-can-be-written-again : (old : Drive) → Happens old unreadableOnce
 unfolding computed
-a-spoiled-sector-can-be-written-again old = happens old spoiledOnce refl
+an-unreadable-sector-can-be-written-again old = happens old unreadableOnce refl
 
 -- The first spare fails twice and becomes dead; the block moves to the second.
 abbrev spareDies : Run
 spareDies =
     record {
       sectors = disk [] [];
-      turns =
+      exchanges =
           found [] [] ++ opens ++ asksWrite 2 17 (bytes 1)
           ++ (go ⇒ write 17 ∷ timesOut ⇒ write 17 ∷ timesOut ⇒ write 4928 ∷ done ⇏ read 4928 ∷ garbles 9 ⇒ write 4928 ∷ timesOut ⇒ write 4929 ∷ [])
           ++ (done ⇒ read 4929 ∷ gives 1 ⇒ finished 0x0C 0x04 0x80 0 ∷ []) ++ stores ++ asksTable 0x00;
@@ -166,7 +167,7 @@ abbrev verifyTimesOut : Run
 verifyTimesOut =
     record {
       sectors = disk [] [];
-      turns =
+      exchanges =
           found [] [] ++ opens ++ asksWrite 2 17 (bytes 1)
           ++ (go ⇒ write 17 ∷ done ⇒ read 17 ∷ timesOut ⇒ write 17 ∷ done ⇒ read 17 ∷ gives 1 ⇒ finished 0x04 0x00 0x80 0 ∷ []);
       part = bytes 1;
@@ -177,3 +178,37 @@ verifyTimesOut =
 pub a-verify-that-times-out-is-a-timeout : (old : Drive) → Happens old verifyTimesOut
 unfolding computed
 a-verify-that-times-out-is-a-timeout old = happens old verifyTimesOut refl
+
+-- The first spare dies, and a write at the second is awaited: the table is marked changed by now.
+abbrev spareDead : Run
+spareDead =
+    record {
+      sectors = disk [] [];
+      exchanges =
+          found [] [] ++ opens ++ asksWrite 2 17 (bytes 1)
+          ++ (go ⇒ write 17 ∷ timesOut ⇒ write 17 ∷ timesOut ⇒ write 4928 ∷ timesOut ⇒ write 4928 ∷ timesOut ⇒ write 4929 ∷ []);
+      part = bytes 1;
+      place = sector 17;
+      candidates = bytes 7 ∷ [];
+    }
+
+pub a-spare-that-dies-marks-the-table-at-once : (old : Drive) → ended (from old spareDead) (calls spareDead) .drive .state .marks .changed ≡ true
+unfolding computed
+a-spare-that-dies-marks-the-table-at-once old = refl
+
+-- The block is at spare 0, and E reaches T: it is rewritten there, and verifies.
+abbrev rewrittenAtItsSpare : Run
+rewrittenAtItsSpare =
+    record {
+      sectors = disk (17 ∷ []) [];
+      exchanges =
+          found (17 ∷ []) [] ++ opens ++ asksRead 17 0 0
+          ++ (go ⇒ read 4928 ∷ garbles 9 ⇒ read 4928 ∷ gives 7 ⇒ write 4928 ∷ done ⇒ read 4928 ∷ gives 7 ⇒ finished 0x08 0x00 0x80 0 ∷ []);
+      part = bytes 7;
+      place = sector 4928;
+      candidates = bytes 7 ∷ [];
+    }
+
+pub a-moved-block-at-its-threshold-is-rewritten-at-its-spare : (old : Drive) → Happens old rewrittenAtItsSpare
+unfolding computed
+a-moved-block-at-its-threshold-is-rewritten-at-its-spare old = happens old rewrittenAtItsSpare refl

@@ -9,16 +9,16 @@ use Rattle.drive.specs.Bound.{accesses, Demand1Bound}
 use Rattle.drive.proofs.Computing.{computed}
 use Rattle.drive.proofs.Examples.{ready, run, asks, crc, good, timeout, reading, Ended}
 
--- an attempt whose write is done and whose read fails, n times
+-- Makes an attempt whose write is done and whose read fails, n times.
 abbrev pub attempts : ℕ → List Call
 attempts zero = []
 attempts (suc n) = surface 0 [] ∷ crc ∷ attempts n
 
--- the longest read: 345 CRC errors, one good read, 66 attempts
+-- Makes the longest read: 345 CRC errors, one good read, 66 attempts.
 abbrev pub longest : List Call
 longest = replicate 345 crc ++ (good ∷ attempts 66)
 
--- the command as it begins, R 255 and T 1
+-- Begins the command, with R 255 and T 1.
 abbrev pub begun : Out
 begun = reading 255 1 []
 
@@ -26,7 +26,7 @@ pub reached : accesses (begun .step .drive) (begun .bytes) longest ≡ 478
 unfolding computed accesses
 reached = refl
 
--- and there it ends: failed, no spare unused, E 255
+-- There it ends: failed, no spare unused, E 255.
 pub reached-end : Ended (run (begun .step .drive) (begun .bytes) longest) (0x09 ∷ 0x40 ∷ 0x00 ∷ 0xFF ∷ [])
 unfolding computed
 reached-end = (refl, refl)
@@ -38,12 +38,12 @@ within-the-bound bound = bound (begun .step .drive) (begun .bytes) longest refl
 
 -- WHAT IS COUNTED
 
--- a plain write of block 0, its write asked for
+-- Asks for the write of a plain write of block 0.
 abbrev pub writing : Out
 writing =
     run ready (replicate 536 0) (raise ∷ lower 0x55 ∷ feed (1 ∷ 0 ∷ 0 ∷ 0 ∷ []) ∷ raise ∷ lower 0x55 ∷ feed (7 ∷ []) ∷ raise ∷ lower 0x55 ∷ [])
 
--- a store, asked for after a read that failed by eleven timeouts
+-- Asks for a store, after a read that failed by eleven timeouts.
 abbrev pub storing : Out
 storing = run ready (replicate 536 0) (asks 0 1 (replicate 11 timeout ++ (raise ∷ [])))
 
@@ -65,3 +65,18 @@ a-store-belongs-to-no-command = refl
 pub the-reads-of-a-start-belong-to-no-command : accesses started (replicate 536 0) (surface 2 [] ∷ surface 2 [] ∷ []) ≡ 0
 unfolding computed accesses
 the-reads-of-a-start-belong-to-no-command = refl
+
+-- Counts nothing where no access is awaited: in idle, at an offer, among command bytes and among data.
+abbrev calm : List Call → Out
+calm cs = run ready (replicate 536 0) cs
+
+abbrev counts : Out → Call → ℕ
+counts x c = accesses (x .step .drive) (x .bytes) (c ∷ [])
+
+pub with-nothing-awaited-nothing-is-counted :
+    (counts (calm []) raise ≡ 0)
+    × (counts (calm (raise ∷ [])) (lower 0x55) ≡ 0)
+    × (counts (calm (raise ∷ lower 0x55 ∷ [])) (feed []) ≡ 0)
+    × (counts (calm (raise ∷ lower 0x55 ∷ feed (1 ∷ 0 ∷ 0 ∷ 0 ∷ []) ∷ raise ∷ lower 0x55 ∷ [])) (feed []) ≡ 0)
+unfolding computed accesses
+with-nothing-awaited-nothing-is-counted = (refl, refl, refl, refl)

@@ -11,12 +11,12 @@ use Rattle.drive.specs.History.{blank}
 use Rattle.drive.specs.Told.{Report, found, written, attempted, given, nothing, reportOf, reportsOf}
 use Rattle.drive.proofs.Computing.{computed}
 use Rattle.drive.proofs.Transcripts.{Run, entered, bytes, disk}
-use Rattle.drive.proofs.Rereads.{threeBlocks, spoiledAtFirst}
+use Rattle.drive.proofs.Rereads.{threeBlocks, unreadableAtFirst}
 use Rattle.drive.proofs.Moves.{noSpareUnused, failedReads}
 use Rattle.drive.proofs.Latch.{latched}
 use Rattle.drive.proofs.Week.{week}
 
--- leaves out the calls that report nothing of the block
+-- Leaves out the calls that report nothing of the block.
 abbrev spoken : List Report → List Report
 spoken [] = []
 spoken (found xs ∷ rs) = found xs ∷ spoken rs
@@ -25,7 +25,7 @@ spoken (attempted x ∷ rs) = attempted x ∷ spoken rs
 spoken (given x ∷ rs) = given x ∷ spoken rs
 spoken (nothing ∷ rs) = spoken rs
 
--- what a run reports of block n
+-- Returns what a run reports of block n.
 abbrev toldOf : ℕ → Drive → Run → List Report
 toldOf n old r = spoken (reportsOf (record { 0 = n }) (r .sectors) blank (entered old r))
 
@@ -58,7 +58,7 @@ pub a-failed-read-is-not-told : (old : Drive) → toldOf 17 old failedReads ≡ 
 unfolding computed reportOf
 a-failed-read-is-not-told old = refl
 
-pub an-unreadable-sector-is-not-found : (old : Drive) → toldOf 17 old spoiledAtFirst ≡ found [] ∷ written (bytes 1) ∷ []
+pub an-unreadable-sector-is-not-found : (old : Drive) → toldOf 17 old unreadableAtFirst ≡ found [] ∷ written (bytes 1) ∷ []
 unfolding computed reportOf
 an-unreadable-sector-is-not-found old = refl
 

@@ -15,7 +15,7 @@ abbrev writtenThenRead : Run
 writtenThenRead =
     record {
       sectors = disk [] [];
-      turns =
+      exchanges =
           found [] []
           ++ opens ++ asksWrite 1 17 (bytes 1) ++ (go ⇒ write 17 ∷ done ⇒ finished 0x00 0x00 0x80 0 ∷ [])
           ++ opens ++ asksRead 17 2 2 ++ (go ⇒ read 17 ∷ gives 1 ⇒ finished 0x00 0x00 0x00 0 ∷ []);
@@ -33,7 +33,7 @@ abbrev rereadsComeGood : Run
 rereadsComeGood =
     record {
       sectors = disk [] [];
-      turns =
+      exchanges =
           found [] []
           ++ opens ++ asksRead 17 3 3
           ++ (go ⇒ read 17 ∷ garbles 9 ⇒ read 17 ∷ timesOut ⇒ read 17 ∷ gives 7 ⇒ read 17 ∷ garbles 9 ⇒ finished 0x0C 0x00 0x80 2 ∷ []);
@@ -51,7 +51,7 @@ abbrev verifiedInPlace : Run
 verifiedInPlace =
     record {
       sectors = disk [] [];
-      turns =
+      exchanges =
           found [] []
           ++ opens ++ asksRead 17 1 1
           ++ (go ⇒ read 17 ∷ garbles 9 ⇒ read 17 ∷ garbles 9 ⇒ read 17 ∷ gives 7 ⇒ write 17 ∷ done ⇒ read 17 ∷ gives 7 ⇒ finished 0x08 0x00 0x80 1 ∷ []);
@@ -65,26 +65,26 @@ unfolding computed
 at-the-threshold-it-verifies-in-place old = happens old verifiedInPlace refl
 
 -- No sector but the table's can be read as the list begins.
-abbrev pub spoiledAtFirst : Run
-spoiledAtFirst =
+abbrev pub unreadableAtFirst : Run
+unreadableAtFirst =
     record {
       sectors = λ s. cond (eqb (s .0) 4960) (held (imageOf [] [])) unreadable;
-      turns = found [] [] ++ opens ++ asksWrite 1 17 (bytes 1) ++ (go ⇒ write 17 ∷ done ⇒ finished 0x00 0x00 0x80 0 ∷ []);
+      exchanges = found [] [] ++ opens ++ asksWrite 1 17 (bytes 1) ++ (go ⇒ write 17 ∷ done ⇒ finished 0x00 0x00 0x80 0 ∷ []);
       part = bytes 1;
       place = sector 17;
       candidates = bytes 1 ∷ [];
     }
 
-pub a-sector-that-could-not-be-read-is-written : (old : Drive) → Happens old spoiledAtFirst
+pub a-sector-that-could-not-be-read-is-written : (old : Drive) → Happens old unreadableAtFirst
 unfolding computed
-a-sector-that-could-not-be-read-is-written old = happens old spoiledAtFirst refl
+a-sector-that-could-not-be-read-is-written old = happens old unreadableAtFirst refl
 
 -- Two blocks are written, and 273 besides, whose low byte is 17.
 abbrev pub threeBlocks : Run
 threeBlocks =
     record {
       sectors = disk [] [];
-      turns =
+      exchanges =
           found [] []
           ++ opens ++ asksWrite 1 17 (bytes 1) ++ (go ⇒ write 17 ∷ done ⇒ finished 0x00 0x00 0x80 0 ∷ [])
           ++ opens ++ asksWrite 1 18 (bytes 2) ++ (go ⇒ write 18 ∷ done ⇒ finished 0x00 0x00 0x00 0 ∷ [])
@@ -104,7 +104,7 @@ abbrev goodAtOnce : Run
 goodAtOnce =
     record {
       sectors = disk [] [];
-      turns = found [] [] ++ opens ++ asksRead 17 5 0 ++ (go ⇒ read 17 ∷ gives 7 ⇒ finished 0x00 0x00 0x80 0 ∷ []);
+      exchanges = found [] [] ++ opens ++ asksRead 17 5 0 ++ (go ⇒ read 17 ∷ gives 7 ⇒ finished 0x00 0x00 0x80 0 ∷ []);
       part = bytes 7;
       place = sector 17;
       candidates = bytes 7 ∷ [];
@@ -114,12 +114,12 @@ pub a-first-good-read-is-done-whatever-T-is : (old : Drive) → Happens old good
 unfolding computed
 a-first-good-read-is-done-whatever-T-is old = happens old goodAtOnce refl
 
--- No read is good. The bytes of answer 1 stand in the data part, and are no candidate.
+-- No read is good. The data part holds the bytes of answer 1, which are no candidate.
 abbrev onlyGarbled : Run
 onlyGarbled =
     record {
       sectors = disk [] [];
-      turns =
+      exchanges =
           found [] [] ++ opens ++ asksRead 17 0 1
           ++ (go ⇒ read 17 ∷ garbles 9 ⇒ read 17 ∷ []) ++ replicate 9 (timesOut ⇒ read 17) ++ (timesOut ⇒ finished 0x0D 0x00 0x80 0 ∷ []);
       part = bytes 9;

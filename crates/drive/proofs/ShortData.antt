@@ -5,18 +5,18 @@ use lib.ListN.{replicate}
 use Rattle.drive.specs.declared.Drive.{Drive}
 use Rattle.drive.specs.Calls.{raise, lower, feed, surface, reset}
 use Rattle.drive.proofs.Computing.{computed}
-use Rattle.drive.proofs.Transcripts.{Turn, _⇒_, Run, Happens, happens, bytes, disk, sector, go, gives, done, found, opens, command, asksRead, asksWrite, wait, offer, read, write, finished}
+use Rattle.drive.proofs.Transcripts.{Exchange, _⇒_, Run, Happens, happens, bytes, disk, sector, go, gives, done, found, opens, command, asksRead, asksWrite, wait, offer, read, write, finished}
 
 -- SHORT DATA, each time after a read that left sevens in the data part.
-abbrev sevensRead : List Turn
+abbrev sevensRead : List Exchange
 sevensRead = found [] [] ++ opens ++ asksRead 17 2 2 ++ (go ⇒ read 17 ∷ gives 7 ⇒ finished 0x00 0x00 0x80 0 ∷ [])
 
--- Zeros stand behind two bytes. 533 bytes fail the next write.
+-- Two bytes are followed by zeros. 533 bytes fail the next write.
 abbrev shortAndLong : Run
 shortAndLong =
     record {
       sectors = disk [] [];
-      turns =
+      exchanges =
           sevensRead
           ++ opens ++ asksWrite 1 17 (1 ∷ 2 ∷ []) ++ (go ⇒ write 17 ∷ done ⇒ finished 0x00 0x00 0x00 0 ∷ [])
           ++ opens ++ asksWrite 1 17 (replicate 533 3) ++ (go ⇒ finished 0x41 0x00 0x00 0 ∷ []);
@@ -34,7 +34,7 @@ abbrev shortVerified : Run
 shortVerified =
     record {
       sectors = disk [] [];
-      turns =
+      exchanges =
           sevensRead
           ++ opens ++ asksWrite 2 17 (1 ∷ [])
           ++ (go ⇒ write 17 ∷ done ⇒ read 17 ∷ surface 0 (1 ∷ replicate 531 0) ⇒ finished 0x00 0x00 0x00 0 ∷ []);
@@ -52,7 +52,7 @@ abbrev shortToTheBuffer : Run
 shortToTheBuffer =
     record {
       sectors = disk [] [];
-      turns = sevensRead ++ opens ++ asksWrite 1 0xFFFFFE (1 ∷ []) ++ (go ⇒ finished 0x00 0x00 0x00 0 ∷ []);
+      exchanges = sevensRead ++ opens ++ asksWrite 1 0xFFFFFE (1 ∷ []) ++ (go ⇒ finished 0x00 0x00 0x00 0 ∷ []);
       part = 1 ∷ replicate 531 0;
       place = sector 17;
       candidates = bytes 7 ∷ [];
@@ -67,7 +67,7 @@ abbrev noneFed : Run
 noneFed =
     record {
       sectors = disk [] [];
-      turns = sevensRead ++ opens ++ asksWrite 2 9728 [] ++ (go ⇒ finished 0x01 0x00 0x40 0 ∷ []);
+      exchanges = sevensRead ++ opens ++ asksWrite 2 9728 [] ++ (go ⇒ finished 0x01 0x00 0x40 0 ∷ []);
       part = bytes 0;
       place = sector 17;
       candidates = bytes 7 ∷ [];
@@ -82,7 +82,7 @@ abbrev shortBrokenOff : Run
 shortBrokenOff =
     record {
       sectors = disk [] [];
-      turns = sevensRead ++ opens ++ asksWrite 1 17 (1 ∷ []) ++ (lower 0xAA ⇒ finished 0x80 0x00 0x00 0 ∷ []);
+      exchanges = sevensRead ++ opens ++ asksWrite 1 17 (1 ∷ []) ++ (lower 0xAA ⇒ finished 0x80 0x00 0x00 0 ∷ []);
       part = 1 ∷ replicate 531 0;
       place = sector 17;
       candidates = bytes 7 ∷ [];
@@ -96,7 +96,7 @@ abbrev brokenOffBeforeTheRaise : Run
 brokenOffBeforeTheRaise =
     record {
       sectors = disk [] [];
-      turns =
+      exchanges =
           sevensRead
           ++ opens ++ (go ⇒ wait ∷ feed (command 1 17 []) ⇒ wait ∷ raise ⇒ offer 0x03 ∷ go ⇒ wait ∷ feed (1 ∷ []) ⇒ wait ∷ reset ⇒ wait ∷ []);
       part = 1 ∷ replicate 531 7;

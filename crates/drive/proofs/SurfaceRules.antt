@@ -3,27 +3,25 @@ use mathlib.Core.Path.{_≡_, refl, ap, sym}
 use mathlib.Core.Bool.{Bool, true, false}
 use mathlib.Core.List.{List, [], _∷_, _++_}
 use Prim.Native.Nat.{ℕ}
-use borrow.Author.Tests.{eq-eqb}
-use lib.Dec.{eqb}
 use lib.ListN.{getD, replicate}
 use Rattle.logic.proofs.Bools.{clash}
 use Rattle.drive.specs.declared.Drive.{Drive}
-use Rattle.drive.specs.Calls.{Call, raise, surface, startOf}
+use Rattle.drive.specs.Calls.{raise, surface, startOf}
 use Rattle.drive.specs.History.{Content, held, unreadable, Sectors}
 use Rattle.drive.specs.Run.{Event, World, after, Permits, made, Lawful, begins}
 use Rattle.drive.proofs.Computing.{computed}
-use Rattle.drive.proofs.Transcripts.{Turn, _⇒_, _⇏_, offer, read, write, finished, refused, events, bytes, disk, go, done, gives, garbles, timesOut, found, opens, asksRead, asksWrite}
+use Rattle.drive.proofs.Lasts.{AtLast, at-last, differ}
+use Rattle.drive.proofs.Transcripts.{Exchange, _⇒_, _⇏_, read, write, finished, refused, events, bytes, disk, go, done, gives, garbles, timesOut, found, opens, asksRead, asksWrite}
 
--- what the rules ask at the last call of a list
-abbrev AtLast : World → List Event → Type 0
-AtLast w [] = Unit {0}
-AtLast w (e ∷ []) = Permits w e (made w e)
-AtLast w (e ∷ f ∷ es) = AtLast (after w e (made w e)) (f ∷ es)
+-- Says what the rules ask at a call, and at the last one of a list.
+abbrev goesTo : World → Event → World
+goesTo w e = after w e (made w e)
 
-at-last : (w : World) (es : List Event) → Lawful w es → AtLast w es
-at-last w [] a = tt
-at-last w (e ∷ []) a = a .0
-at-last w (e ∷ f ∷ es) a = at-last (after w e (made w e)) (f ∷ es) (a .1)
+abbrev Asks : World → Event → Type 0
+Asks w e = Permits w e (made w e)
+
+last-asks : (w : World) (es : List Event) → Lawful w es → AtLast goesTo Asks w es
+last-asks w es a = at-last goesTo Asks Lawful (λ w e es a. a .0) (λ w e es a. a .1) w es a
 
 abbrev firstByte : Content → ℕ
 firstByte (held x) = getD x 0 0
@@ -33,30 +31,27 @@ abbrev isHeld : Content → Bool
 isHeld (held x) = true
 isHeld unreadable = false
 
-differ : (m n : ℕ) → eqb m n ≡ false → m ≡ n → ⊥
-differ m n h e = clash (eq-eqb m n e) h
-
 not-held : (x : List ℕ) → unreadable ≡ held x → ⊥
 not-held x e = clash refl (sym (ap isHeld e))
 
 abbrev from : Drive → Sectors → World
 from old sectors = begins (startOf old (replicate 536 1)) sectors
 
-abbrev LawfulRun : Drive → Sectors → List Turn → Type 0
+abbrev LawfulRun : Drive → Sectors → List Exchange → Type 0
 LawfulRun old sectors ts = Lawful (from old sectors) (events ts)
 
--- the sectors hold sevens, and the table is empty
+-- Holds sevens in every sector but the table's, which has empty lists.
 abbrev sevens : Sectors
 sevens = disk [] []
 
--- a read of block 17, asked for
-abbrev readOf17 : List Turn
+-- Asks for a read of block 17.
+abbrev readOf17 : List Exchange
 readOf17 = opens ++ asksRead 17 2 2 ++ (go ⇒ read 17 ∷ [])
 
 -- NOT LAWFUL
 
 -- Nobody wrote the nines.
-abbrev lies : List Turn
+abbrev lies : List Exchange
 lies = found [] [] ++ readOf17 ++ (gives 9 ⇒ finished 0x00 0x00 0x80 0 ∷ [])
 
 pub answer-0-with-other-bytes : (old : Drive) → LawfulRun old sevens lies → ⊥
@@ -72,34 +67,34 @@ unfolding computed
 answer-0-with-other-bytes-at-the-start old l = differ 7 9 refl (ap firstByte (l .0))
 
 -- The write done left its bytes, so the old ones cannot come.
-abbrev staleAnswer : List Turn
+abbrev staleAnswer : List Exchange
 staleAnswer =
     found [] [] ++ opens ++ asksWrite 1 17 (bytes 1) ++ (go ⇒ write 17 ∷ done ⇒ finished 0x00 0x00 0x80 0 ∷ [])
     ++ readOf17 ++ (gives 7 ⇒ finished 0x00 0x00 0x00 0 ∷ [])
 
 pub answer-0-with-old-bytes : (old : Drive) → LawfulRun old sevens staleAnswer → ⊥
 unfolding computed
-answer-0-with-old-bytes old l = differ 1 7 refl (ap firstByte (at-last (from old sevens) (events staleAnswer) l))
+answer-0-with-old-bytes old l = differ 1 7 refl (ap firstByte (last-asks (from old sevens) (events staleAnswer) l))
 
 -- A write that timed out left the sector.
-abbrev lateAnswer : List Turn
+abbrev lateAnswer : List Exchange
 lateAnswer =
     found [] [] ++ opens ++ asksWrite 1 17 (bytes 1) ++ (go ⇒ write 17 ∷ timesOut ⇒ finished 0x05 0x00 0x80 0 ∷ [])
     ++ readOf17 ++ (gives 1 ⇒ finished 0x00 0x00 0x00 0 ∷ [])
 
 pub answer-0-with-the-bytes-of-a-timeout : (old : Drive) → LawfulRun old sevens lateAnswer → ⊥
 unfolding computed
-answer-0-with-the-bytes-of-a-timeout old l = differ 7 1 refl (ap firstByte (at-last (from old sevens) (events lateAnswer) l))
+answer-0-with-the-bytes-of-a-timeout old l = differ 7 1 refl (ap firstByte (last-asks (from old sevens) (events lateAnswer) l))
 
--- The write done left a spoiled sector.
-abbrev spoiledAnswer : List Turn
-spoiledAnswer =
+-- The write done left an unreadable sector.
+abbrev unreadableAnswer : List Exchange
+unreadableAnswer =
     found [] [] ++ opens ++ asksWrite 1 17 (bytes 1) ++ (go ⇒ write 17 ∷ done ⇏ finished 0x00 0x00 0x80 0 ∷ [])
     ++ readOf17 ++ (gives 1 ⇒ finished 0x00 0x00 0x00 0 ∷ [])
 
-pub answer-0-from-a-spoiled-sector : (old : Drive) → LawfulRun old sevens spoiledAnswer → ⊥
+pub answer-0-from-an-unreadable-sector : (old : Drive) → LawfulRun old sevens unreadableAnswer → ⊥
 unfolding computed
-answer-0-from-a-spoiled-sector old l = not-held (bytes 1) (at-last (from old sevens) (events spoiledAnswer) l)
+answer-0-from-an-unreadable-sector old l = not-held (bytes 1) (last-asks (from old sevens) (events unreadableAnswer) l)
 
 -- LAWFUL, whatever the sectors hold: answer 1 with any bytes, an answer 0 that is refused, and calls that are no answer
 

@@ -4,12 +4,12 @@ use mathlib.Core.Logic.{inl, inr}
 use mathlib.Core.Bool.{false}
 use mathlib.Core.List.{List, [], _∷_}
 use Prim.Native.Nat.{ℕ}
-use borrow.Author.Tests.{eq-eqb}
 use lib.Dec.{eqb}
 use lib.ListN.{getD}
-use Rattle.logic.proofs.Bools.{clash}
-use Rattle.drive.specs.History.{Bytes, In}
+use Rattle.drive.specs.History.{In}
 use Rattle.drive.specs.Told.{Report, found, written, attempted, given, nothing, none, Right}
+use Rattle.drive.specs.Views.{Bytes}
+use Rattle.drive.proofs.Lasts.{differ}
 
 abbrev one : Bytes
 one = 1 ∷ []
@@ -20,15 +20,15 @@ two = 2 ∷ []
 abbrev three : Bytes
 three = 3 ∷ []
 
--- reports from the start on
+-- Says that reports from the start on are right.
 abbrev Told : List Report → Type 0
 Told rs = Right [] none rs
 
-differ : (m n : ℕ) → eqb m n ≡ false → m ∷ [] ≡ n ∷ [] → ⊥
-differ m n h e = clash (eq-eqb m n (ap (λ (x : Bytes). getD x 0 0) e)) h
+abbrev byteOf : Bytes → ℕ
+byteOf x = getD x 0 0
 
 not-only : (m n : ℕ) → eqb m n ≡ false → In (m ∷ []) ((n ∷ []) ∷ []) → ⊥
-not-only m n h (inl e) = differ m n h e
+not-only m n h (inl e) = differ m n h (ap byteOf e)
 not-only m n h (inr e) = e
 
 -- WRONG
@@ -43,10 +43,10 @@ pub old-after-a-good-write : Told (found (one ∷ []) ∷ written two ∷ given 
 old-after-a-good-write r = not-only 1 2 refl (r .0)
 
 pub changing-between-two-good-reads : Told (found (one ∷ []) ∷ attempted two ∷ given two ∷ given one ∷ []) → ⊥
-changing-between-two-good-reads r = differ 1 2 refl (r .2 .1)
+changing-between-two-good-reads r = differ 1 2 refl (ap byteOf (r .2 .1))
 
 pub changing-with-something-between : Told (found (one ∷ []) ∷ attempted two ∷ given two ∷ nothing ∷ given one ∷ []) → ⊥
-changing-with-something-between r = differ 1 2 refl (r .2 .1)
+changing-with-something-between r = differ 1 2 refl (ap byteOf (r .2 .1))
 
 pub wrong-after-something-else : Told (found (one ∷ []) ∷ nothing ∷ given two ∷ []) → ⊥
 wrong-after-something-else r = not-only 2 1 refl (r .0)

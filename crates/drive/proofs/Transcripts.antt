@@ -17,9 +17,10 @@ use Rattle.drive.specs.declared.Answer.the-variants as answer
 use Rattle.drive.specs.Words.{response, codeOf, dataOf}
 use Rattle.drive.specs.Results.{Out}
 use Rattle.drive.specs.Calls.{Call, raise, lower, feed, surface, reset, startOf}
-use Rattle.drive.specs.History.{Bytes, Content, held, unreadable, Sectors, Where, nowhere, at, Entry, History, blank, isRefused, readAsked, next}
+use Rattle.drive.specs.History.{Content, held, unreadable, Sectors, Entry, History, blank, next}
 use Rattle.drive.specs.Surface.{brings}
 use Rattle.drive.specs.Run.{Event, World, after, rule, unless, made, Lawful, entries, entryOf, begins}
+use Rattle.drive.specs.Views.{Bytes, Where, nowhere, at, ofAnswer}
 
 -- THE SURFACE'S RULES, AS A TEST
 
@@ -36,11 +37,11 @@ abbrev pub keeps : World → Call → Bool
 keeps w raise = true
 keeps w (lower b) = true
 keeps w (feed bs) = true
-keeps w (surface a bs) = bringsIt (readAsked (w .asked)) (eqb a 0) bs (w .sectors)
+keeps w (surface a bs) = bringsIt (ofAnswer (w .asked) .read) (eqb a 0) bs (w .sectors)
 keeps w reset = true
 
 abbrev pub permitted : World → Event → Out → Bool
-permitted w e x = cond (isRefused (x .step .answer)) true (keeps w (e .call))
+permitted w e x = cond (ofAnswer (x .step .answer) .refused) true (keeps w (e .call))
 
 abbrev pub isLawful : World → List Event → Bool
 isLawful w [] = true
@@ -59,7 +60,7 @@ keeps-rule : (w : World) (c : Call) → keeps w c ≡ true → rule w c
 keeps-rule w raise h = tt
 keeps-rule w (lower b) h = tt
 keeps-rule w (feed bs) h = tt
-keeps-rule w (surface a bs) h = brings-it (readAsked (w .asked)) (eqb a 0) bs (w .sectors) h
+keeps-rule w (surface a bs) h = brings-it (ofAnswer (w .asked) .read) (eqb a 0) bs (w .sectors) h
 keeps-rule w reset h = tt
 
 is-permitted : (w : World) (c : Call) (refused : Bool) → cond refused true (keeps w c) ≡ true → unless refused (rule w c)
@@ -71,13 +72,13 @@ lawful-by-test w [] h = tt
 lawful-by-test w (e ∷ es) h =
     let p = permitted w e (made w e) in
     let w' = after w e (made w e) in (
-      is-permitted w (e .call) (isRefused (made w e .step .answer)) (and-left p (isLawful w' es) h),
+      is-permitted w (e .call) (ofAnswer (made w e .step .answer) .refused) (and-left p (isLawful w' es) h),
       lawful-by-test w' es (and-right p (isLawful w' es) h),
     )
 
 -- TRANSCRIPTS
 
--- an answer in document 01's numbers; a finish with the four status bytes that it leaves
+-- Names an answer in document 01's numbers; a finish with the four status bytes that it leaves.
 pub data Said : Type 0 where
   wait : Said
   offer : ℕ → Said
@@ -100,29 +101,29 @@ abbrev pub told : List Entry → List Said
 told [] = []
 told (o ∷ os) = saidBy (o .answer) (o .buffer) ∷ told os
 
--- a call beside its answer
-pub record Turn : Type 0 where
+-- Holds a call beside its answer.
+pub record Exchange : Type 0 where
   pub event : Event
   pub says : Said
 
 infix 80 _⇒_
 infix 80 _⇏_
-abbrev pub _⇒_ : Call → Said → Turn
+abbrev pub _⇒_ : Call → Said → Exchange
 c ⇒ a = record { event = record { call = c; spoils = false }; says = a }
 
--- the same where the write so answered leaves a spoiled sector
-abbrev pub _⇏_ : Call → Said → Turn
+-- Does the same where the write so answered leaves an unreadable sector.
+abbrev pub _⇏_ : Call → Said → Exchange
 c ⇏ a = record { event = record { call = c; spoils = true }; says = a }
 
-abbrev pub events : List Turn → List Event
+abbrev pub events : List Exchange → List Event
 events [] = []
 events (t ∷ ts) = t .event ∷ events ts
 
-abbrev pub answers : List Turn → List Said
+abbrev pub answers : List Exchange → List Said
 answers [] = []
 answers (t ∷ ts) = t .says ∷ answers ts
 
--- the history after these entries, and the world after these events
+-- Returns the history after these entries, and the world after these events.
 abbrev pub kept : Sectors → History → List Entry → History
 kept start H [] = H
 kept start H (o ∷ os) = kept start (next start H o) os
@@ -131,24 +132,24 @@ abbrev pub ended : World → List Event → World
 ended w [] = w
 ended w (e ∷ es) = ended (after w e (made w e)) es
 
--- the block that the runs are about
+-- Is the block that the runs are about.
 abbrev pub key : Block
 key = record { 0 = 17 }
 
--- A list of calls with its answers, and what it leaves: the data part, and the block's sector and candidates in the history.
+-- Holds a list of calls with its answers, and what it leaves: the data part, and the block's sector and candidates in the history.
 pub record Run : Type 0 where
   pub sectors : Sectors
-  pub turns : List Turn
+  pub exchanges : List Exchange
   pub part : Bytes
   pub place : Where
   pub candidates : List Bytes
 
--- starts any record, on these sectors
+-- Starts any record, on these sectors.
 abbrev pub from : Drive → Run → World
 from old r = begins (startOf old (replicate 536 1)) (r .sectors)
 
 abbrev pub calls : Run → List Event
-calls r = events (r .turns)
+calls r = events (r .exchanges)
 
 abbrev pub entered : Drive → Run → List Entry
 entered old r = entries (from old r) (calls r)
@@ -158,14 +159,14 @@ history old r = kept (r .sectors) blank (entered old r)
 
 pub record Happens (old : Drive) (r : Run) : Type 0 where
   pub lawful : Lawful (from old r) (calls r)
-  pub says : told (entered old r) ≡ answers (r .turns)
+  pub says : told (entered old r) ≡ answers (r .exchanges)
   pub part : dataOf (ended (from old r) (calls r) .buffer) ≡ r .part
   pub place : history old r .place key ≡ r .place
   pub candidates : history old r .candidates key ≡ r .candidates
 
 -- ONE FOLD TESTS THESE FIVE FACTS: it computes each call once, and stops at the first thing that is another
 
--- writes an answer as numbers, and reads it back
+-- Writes an answer as numbers, and reads it back.
 abbrev pub spelled : Said → List ℕ
 spelled wait = 0 ∷ []
 spelled (offer n) = 1 ∷ n ∷ []
@@ -205,7 +206,7 @@ sameWhere nowhere (at k) = false
 sameWhere (at s) nowhere = false
 sameWhere (at s) (at k) = eqb (s .0) (k .0)
 
-same-where : (v w : Where) → sameWhere v w ≡ true → v ≡ w
+pub same-where : (v w : Where) → sameWhere v w ≡ true → v ≡ w
 same-where nowhere nowhere h = refl
 same-where nowhere (at k) h = clash h refl
 same-where (at s) nowhere h = clash h refl
@@ -226,7 +227,7 @@ same-all (x ∷ xs) (y ∷ ys) h =
     let es = same-all xs ys (and-right (same x y) (sameAll xs ys) h) in
     cc
 
-abbrev pub agrees : Sectors → World → History → List Turn → Bytes → Where → List Bytes → Bool
+abbrev pub agrees : Sectors → World → History → List Exchange → Bytes → Where → List Bytes → Bool
 agrees start w H [] part place candidates =
     same (dataOf (w .buffer)) part && (sameWhere (H .place key) place && sameAll (H .candidates key) candidates)
 agrees start w H (t ∷ ts) part place candidates =
@@ -235,15 +236,15 @@ agrees start w H (t ∷ ts) part place candidates =
     permitted w e x
     && (sameSaid (saidBy (x .step .answer) (x .bytes)) (t .says) && agrees start (after w e x) (next start H (entryOf e x)) ts part place candidates)
 
--- what the test says: the five facts
-pub record Agree (start : Sectors) (w : World) (H : History) (ts : List Turn) (part : Bytes) (place : Where) (candidates : List Bytes) : Type 0 where
+-- Holds what the test says: the five facts.
+pub record Agree (start : Sectors) (w : World) (H : History) (ts : List Exchange) (part : Bytes) (place : Where) (candidates : List Bytes) : Type 0 where
   pub lawful : isLawful w (events ts) ≡ true
   pub says : told (entries w (events ts)) ≡ answers ts
   pub part-left : dataOf (ended w (events ts) .buffer) ≡ part
   pub place-left : kept start H (entries w (events ts)) .place key ≡ place
   pub candidates-left : kept start H (entries w (events ts)) .candidates key ≡ candidates
 
-agree : (start : Sectors) (w : World) (H : History) (ts : List Turn) (part : Bytes) (place : Where) (candidates : List Bytes)
+agree : (start : Sectors) (w : World) (H : History) (ts : List Exchange) (part : Bytes) (place : Where) (candidates : List Bytes)
     → agrees start w H ts part place candidates ≡ true
     → Agree start w H ts part place candidates
 agree start w H [] part place candidates h =
@@ -274,29 +275,29 @@ agree start w H (t ∷ ts) part place candidates h =
       candidates-left = after-it .candidates-left;
     }
 
--- plays a run, and tests what it says of itself
+-- Plays a run, and tests what it says of itself.
 abbrev pub played : Drive → Run → Bool
-played old r = agrees (r .sectors) (from old r) blank (r .turns) (r .part) (r .place) (r .candidates)
+played old r = agrees (r .sectors) (from old r) blank (r .exchanges) (r .part) (r .place) (r .candidates)
 
 pub happens : (old : Drive) (r : Run) → played old r ≡ true → Happens old r
 happens old r e =
-    let h = agree (r .sectors) (from old r) blank (r .turns) (r .part) (r .place) (r .candidates) e in
+    let h = agree (r .sectors) (from old r) blank (r .exchanges) (r .part) (r .place) (r .candidates) e in
     record { lawful = lawful-by-test (from old r) (calls r) (h .lawful); says = h .says; part = h .part-left; place = h .place-left; candidates = h .candidates-left }
 
 -- THE PIECES OF A RUN
 
--- a block of one byte all over
+-- Returns a block of one byte all over.
 abbrev pub bytes : ℕ → Bytes
 bytes v = replicate 532 v
 
--- sectors with a table of these lists, and sevens in all the others
+-- Returns sectors with a table of these lists, and sevens in all the others.
 abbrev pub disk : List ℕ → List ℕ → Sectors
 disk spares bads = λ s. held (cond (eqb (s .0) 4960) (imageOf spares bads) (bytes 7))
 
 abbrev pub sector : ℕ → Where
 sector n = at (record { 0 = n })
 
--- the lower with 55, and the answers of the surface
+-- Lowers with 55, and answers for the surface.
 abbrev pub go : Call
 go = lower 0x55
 
@@ -315,40 +316,40 @@ timesOut = surface 2 []
 abbrev pub unsettled : Call
 unsettled = surface 3 []
 
--- the start's read finds the table
-abbrev pub found : List ℕ → List ℕ → List Turn
+-- Finds the table at the start's read.
+abbrev pub found : List ℕ → List ℕ → List Exchange
 found spares bads = surface 0 (imageOf spares bads) ⇒ wait ∷ []
 
--- an idle raise: with no store, and with one
-abbrev pub opens : List Turn
+-- Raises in idle: with no store, and with one.
+abbrev pub opens : List Exchange
 opens = raise ⇒ offer 0x01 ∷ []
 
-abbrev pub stores : List Turn
+abbrev pub stores : List Exchange
 stores = raise ⇒ store ∷ done ⇒ offer 0x01 ∷ []
 
--- a command from there to the offer after which it is acted on
+-- Feeds a command from there to the offer after which it is acted on.
 abbrev pub command : ℕ → ℕ → Bytes → Bytes
 command op n more = op ∷ n / 65536 ∷ n / 256 % 256 ∷ n % 256 ∷ more
 
-abbrev pub asksRead : ℕ → ℕ → ℕ → List Turn
+abbrev pub asksRead : ℕ → ℕ → ℕ → List Exchange
 asksRead n R T = go ⇒ wait ∷ feed (command 0 n (R ∷ T ∷ [])) ⇒ wait ∷ raise ⇒ offer 0x02 ∷ []
 
-abbrev pub asksWrite : ℕ → ℕ → Bytes → List Turn
+abbrev pub asksWrite : ℕ → ℕ → Bytes → List Exchange
 asksWrite op n x =
     go ⇒ wait ∷ feed (command op n []) ⇒ wait ∷ raise ⇒ offer (op + 2) ∷ go ⇒ wait ∷ feed x ⇒ wait ∷ raise ⇒ offer 0x06 ∷ []
 
--- a read of the table's image, with status 3 of its finish
-abbrev pub asksTable : ℕ → List Turn
+-- Reads the table's image, with status 3 of its finish.
+abbrev pub asksTable : ℕ → List Exchange
 asksTable status3 = asksRead 0xFFFFFF 0 0 ++ (go ⇒ finished 0x00 0x00 status3 0 ∷ [])
 
--- a read of FFFFFD with R 255 and T 0, with status 3 of its finish
-abbrev pub asksHealth : ℕ → List Turn
+-- Reads FFFFFD with R 255 and T 0, with status 3 of its finish.
+abbrev pub asksHealth : ℕ → List Exchange
 asksHealth status3 = asksRead 0xFFFFFD 255 0 ++ (go ⇒ finished 0x00 0x00 status3 0 ∷ [])
 
--- the health block of these figures
+-- Returns the health block of these figures.
 abbrev pub healthBlock : ℕ → ℕ → ℕ → ℕ → Bytes
 healthBlock unused bads latch unstored = unused ∷ bads ∷ latch ∷ unstored ∷ replicate 528 0
 
--- a read that fails by eleven timeouts
-abbrev pub elevenTimeouts : List Turn
+-- Makes a read that fails by eleven timeouts.
+abbrev pub elevenTimeouts : List Exchange
 elevenTimeouts = opens ++ asksRead 17 0 1 ++ (go ⇒ read 17 ∷ []) ++ replicate 10 (timesOut ⇒ read 17) ++ (timesOut ⇒ finished 0x05 0x00 0x80 0 ∷ [])

@@ -10,7 +10,7 @@ use Rattle.drive.specs.Calls.{Call, raise, lower, feed, surface}
 use Rattle.drive.proofs.Computing.{computed}
 use Rattle.drive.proofs.Examples.{ready, run, crc, good, timeout, reading, Ended}
 
--- a write/verify of sevens to block 0, and the surface's answers to it
+-- Asks for a write/verify of sevens to block 0, and answers it.
 abbrev verifying : List Call → Out
 verifying cs =
     run ready (replicate 536 0) (raise ∷ lower 0x55 ∷ feed (2 ∷ 0 ∷ 0 ∷ 0 ∷ []) ∷ raise ∷ lower 0x55 ∷ feed (replicate 532 7) ∷ raise ∷ lower 0x55 ∷ cs)
@@ -18,7 +18,7 @@ verifying cs =
 abbrev done : Call
 done = surface 0 []
 
--- the verify brings sevens, all of them or all but one byte
+-- Brings sevens to the verify, all of them or all but one byte.
 abbrev equal : Call
 equal = surface 0 (replicate 532 7)
 
@@ -36,9 +36,9 @@ pub record Verifies : Type 0 where
   pub first-byte : Ended (verifying (done ∷ firstWrong ∷ done ∷ equal ∷ [])) (0x08 ∷ 0 ∷ 0 ∷ 0 ∷ [])
   pub middle-byte : Ended (verifying (done ∷ middleWrong ∷ done ∷ equal ∷ [])) (0x08 ∷ 0 ∷ 0 ∷ 0 ∷ [])
   pub last-byte : Ended (verifying (done ∷ lastWrong ∷ done ∷ equal ∷ [])) (0x08 ∷ 0 ∷ 0 ∷ 0 ∷ [])
-  -- answer 1 fails the attempt even with equal bytes, and two failed attempts lead to a spare
+  -- Answer 1 fails the attempt even with equal bytes, and two failed attempts lead to a spare.
   pub answer-1 : Ended (verifying (done ∷ surface 1 (replicate 532 7) ∷ done ∷ equal ∷ [])) (0x08 ∷ 0 ∷ 0 ∷ 0 ∷ [])
-  -- a read's first good bytes stay, whatever a later good answer brings
+  -- A read's first good bytes stay, whatever a later good answer brings.
   pub first-good-bytes : dataOf (reading 2 1 (crc ∷ good ∷ surface 0 (replicate 532 8) ∷ []) .bytes) ≡ replicate 532 7
   pub to-a-spare : verifying (done ∷ firstWrong ∷ timeout ∷ []) .step .answer ≡ answer.Write (record { 0 = 4928 })
 

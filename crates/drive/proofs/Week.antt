@@ -6,35 +6,35 @@ use Rattle.image.specs.Images.{imageOf}
 use Rattle.drive.specs.declared.Drive.{Drive}
 use Rattle.drive.specs.History.{held, unreadable, Sectors}
 use Rattle.drive.proofs.Computing.{computed}
-use Rattle.drive.proofs.Transcripts.{Turn, _⇒_, _⇏_, ended, Run, from, calls, Happens, happens, bytes, disk, sector, go, gives, done, garbles, timesOut, found, opens, stores, asksRead, asksWrite, read, write, finished}
+use Rattle.drive.proofs.Transcripts.{Exchange, _⇒_, _⇏_, ended, Run, from, calls, Happens, happens, bytes, disk, sector, go, gives, done, garbles, timesOut, found, opens, stores, asksRead, asksWrite, read, write, finished}
 
 -- THE WEEK OF ONE BLOCK. The host asks for two rereads and sets the threshold at 2.
 
-abbrev monday : List Turn
+abbrev monday : List Exchange
 monday =
     opens ++ asksWrite 1 17 (bytes 1) ++ (go ⇒ write 17 ∷ done ⇒ finished 0x00 0x00 0x80 0 ∷ [])
     ++ opens ++ asksRead 17 2 2 ++ (go ⇒ read 17 ∷ gives 1 ⇒ finished 0x00 0x00 0x00 0 ∷ [])
 
--- two rereads, and it comes good
-abbrev tuesday : List Turn
+-- Two rereads, and it comes good.
+abbrev tuesday : List Exchange
 tuesday =
     opens ++ asksRead 17 2 2 ++ (go ⇒ read 17 ∷ garbles 9 ⇒ read 17 ∷ garbles 9 ⇒ read 17 ∷ gives 1 ⇒ finished 0x08 0x00 0x00 1 ∷ [])
 
--- both rereads fail; it is rewritten, the verify fails twice, and it moves
-abbrev wednesday : List Turn
+-- Both rereads fail; it is rewritten, the verify fails twice, and it moves.
+abbrev wednesday : List Exchange
 wednesday =
     opens ++ asksRead 17 2 2
     ++ (go ⇒ read 17 ∷ garbles 9 ⇒ read 17 ∷ garbles 9 ⇒ read 17 ∷ timesOut ⇒ read 17 ∷ gives 1 ⇒ write 17 ∷ done ⇏ read 17 ∷ garbles 9 ⇒ write 17 ∷ [])
     ++ (done ⇏ read 17 ∷ garbles 9 ⇒ write 4928 ∷ done ⇒ read 4928 ∷ gives 1 ⇒ finished 0x0C 0x04 0x00 2 ∷ [])
 
--- the spare table goes to disk, and the offer stands
-abbrev thursday : List Turn
+-- The spare table goes to disk, and the drive offers 01.
+abbrev thursday : List Exchange
 thursday = stores
 
-abbrev friday : List Turn
+abbrev friday : List Exchange
 friday = asksWrite 2 17 (bytes 2) ++ (go ⇒ write 4928 ∷ done ⇒ read 4928 ∷ gives 2 ⇒ finished 0x00 0x00 0x00 0 ∷ [])
 
-abbrev saturday : List Turn
+abbrev saturday : List Exchange
 saturday = opens ++ asksRead 17 2 2 ++ (go ⇒ read 4928 ∷ gives 2 ⇒ finished 0x00 0x00 0x00 0 ∷ [])
 
 -- The sparing bit, and the same bytes.
@@ -42,7 +42,7 @@ abbrev toWednesday : Run
 toWednesday =
     record {
       sectors = disk [] [];
-      turns = found [] [] ++ monday ++ tuesday ++ wednesday;
+      exchanges = found [] [] ++ monday ++ tuesday ++ wednesday;
       part = bytes 1;
       place = sector 4928;
       candidates = bytes 1 ∷ [];
@@ -57,7 +57,7 @@ abbrev pub week : Run
 week =
     record {
       sectors = disk [] [];
-      turns = found [] [] ++ monday ++ tuesday ++ wednesday ++ thursday ++ friday ++ saturday;
+      exchanges = found [] [] ++ monday ++ tuesday ++ wednesday ++ thursday ++ friday ++ saturday;
       part = bytes 2;
       place = sector 4928;
       candidates = bytes 2 ∷ [];
@@ -67,7 +67,7 @@ pub on-saturday-the-new-bytes-are-read : (old : Drive) → Happens old week
 unfolding computed
 on-saturday-the-new-bytes-are-read old = happens old week refl
 
--- what the week leaves on the disk
+-- Returns what the week leaves on the disk.
 abbrev weekend : Drive → Sectors
 weekend old = ended (from old week) (calls week) .sectors
 
@@ -75,16 +75,16 @@ pub the-week-leaves-its-table-on-the-disk : (old : Drive) → weekend old tableS
 unfolding computed
 the-week-leaves-its-table-on-the-disk old = refl
 
-pub the-week-leaves-the-old-sector-spoiled : (old : Drive) → weekend old (record { 0 = 17 }) ≡ unreadable
+pub the-week-leaves-the-old-sector-unreadable : (old : Drive) → weekend old (record { 0 = 17 }) ≡ unreadable
 unfolding computed
-the-week-leaves-the-old-sector-spoiled old = refl
+the-week-leaves-the-old-sector-unreadable old = refl
 
--- the next start, and a read
+-- Starts again, and reads.
 abbrev weekAfter : Drive → Run
 weekAfter old =
     record {
       sectors = weekend old;
-      turns = found (17 ∷ []) [] ++ opens ++ asksRead 17 2 2 ++ (go ⇒ read 4928 ∷ gives 2 ⇒ finished 0x00 0x00 0x80 0 ∷ []);
+      exchanges = found (17 ∷ []) [] ++ opens ++ asksRead 17 2 2 ++ (go ⇒ read 4928 ∷ gives 2 ⇒ finished 0x00 0x00 0x80 0 ∷ []);
       part = bytes 2;
       place = sector 4928;
       candidates = bytes 2 ∷ [];

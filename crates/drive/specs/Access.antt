@@ -9,95 +9,141 @@ use Rattle.lists.specs.Lists.{memberOf}
 use Rattle.table.specs.declared.Table.{Table}
 use Rattle.table.specs.Tables.{badList}
 use Rattle.image.specs.Images.{wellFormed}
-use Rattle.drive.specs.declared.Line.{Line}
+use Rattle.drive.specs.declared.State.{State}
 use Rattle.drive.specs.declared.Marks.{Marks}
 use Rattle.drive.specs.declared.Retry.{Retry}
 use Rattle.drive.specs.declared.Offer.the-variants as offer
 use Rattle.drive.specs.declared.Outcome.{Outcome}
 use Rattle.drive.specs.declared.Outcome.the-variants as outcome
+use Rattle.drive.specs.declared.Access.{Access}
+use Rattle.drive.specs.declared.Access.the-variants as access
 use Rattle.drive.specs.declared.Phase.{Phase}
 use Rattle.drive.specs.declared.Phase.the-variants as phase
 use Rattle.drive.specs.declared.Answer.the-variants as answer
 use Rattle.drive.specs.declared.Refusal.the-variants as refusal
 use Rattle.drive.specs.declared.Ending.the-variants as ending
 use Rattle.drive.specs.declared.Change.the-variants as change
-use Rattle.drive.specs.Words.{withData}
-use Rattle.drive.specs.Results.{Result, toPhase, toMarked, refuse, say, finish, altered, latched, clean}
+use Rattle.drive.specs.declared.Part.{Part}
+use Rattle.drive.specs.declared.Part.the-variants as part
+use Rattle.drive.specs.declared.Status.the-variants as status
+use Rattle.drive.specs.declared.Turn.{Turn}
+use Rattle.drive.specs.Records.{awaits, ofAccess}
+use Rattle.drive.specs.Results.{inPhase, withMarks, refuse, say, finish, untouched, clean, onPresent}
 use Rattle.drive.specs.Handshake.{opened}
 use Rattle.drive.specs.Retries.{met, afterRead}
 use Rattle.drive.specs.Sparing.{attempt, tried, checked}
 
--- "4: surface answer above 3, or 1 to a write"; "5: bytes not 532 with a read's 0 or 1, not 0 otherwise"
-unfoldable pub toRead : Line → List ℕ → ℕ → List ℕ → Result → Result
-toRead l u a bs x = cond (leb a 3) (cond (eqb (length bs) (cond (leb a 1) 532 0)) x (refuse refusal.Bytes l u)) (refuse refusal.Answer l u)
+-- Says whether an access reads.
+abbrev pub asksRead : Access → Bool
+asksRead x = ofAccess x .reads
 
-unfoldable pub toWrite : Line → List ℕ → ℕ → List ℕ → Result → Result
-toWrite l u a bs x = cond (leb a 3 && not (eqb a 1)) (cond (eqb (length bs) 0) x (refuse refusal.Bytes l u)) (refuse refusal.Answer l u)
+-- Says whether code 4 does not apply. "surface answer above 3, or 1 to a write"
+abbrev pub answerFits : Bool → ℕ → Bool
+answerFits read a = leb a 3 && (read || not (eqb a 1))
+
+-- Says whether code 5 does not apply to n bytes. "bytes not 532 with a read's 0 or 1, not 0 otherwise"
+abbrev pub bytesFit : Bool → ℕ → ℕ → Bool
+bytesFit read a n = eqb n (cond (read && leb a 1) 532 0)
+
+-- Refuses with code 4 or 5, in this order, or turns as the rule says.
+unfoldable pub fitting : Bool → State → ℕ → ℕ → Turn → Turn
+fitting read l a n x = cond (answerFits read a) (cond (bytesFit read a n) x (refuse refusal.Bytes l)) (refuse refusal.Answer l)
 
 -- THE START: "It reads until a well-formed image comes with answer 0, at most 10 times; answer 3 ends it, without a latch.
 -- Then it waits, idle, with the table or with none." "table bytes never enter the buffer"
-abbrev pub withTable : Line → List ℕ → Result
-withTable l u =
-    record { line = toMarked l (record { known = true; changed = l .marks .changed; latch = l .marks .latch; fresh = l .marks .fresh }) phase.Idle; answer = answer.Wait; change = change.Load; bytes = u }
 
-unfoldable pub startAnswered : ℕ → Line → List ℕ → ℕ → List ℕ → Result
-startAnswered k l u a bs =
-    cond (eqb a 0 && wellFormed bs) (withTable l u)
-    (cond (eqb a 3) (say (toPhase l phase.Idle) answer.Wait u)
-    (cond (ltb k 10) (say (toPhase l (phase.Starting (k + 1))) (answer.Read tableSector) u) (say (toPhase l phase.Idle) answer.Wait u)))
+-- Ends the start with the table that was read.
+abbrev pub withTable : State → Turn
+withTable l =
+    record { state = withMarks l (record { known = true; changed = l .marks .changed; latch = l .marks .latch; fresh = l .marks .fresh }) phase.Idle; answer = answer.Wait; change = change.Load; leaves = untouched }
+
+-- Says whether a well-formed image came.
+abbrev pub isTaken : ℕ → List ℕ → Bool
+isTaken a bs = eqb a 0 && wellFormed bs
+
+-- Returns what the answer to read k of the start leads to.
+unfoldable pub startAnswered : ℕ → State → ℕ → List ℕ → Turn
+startAnswered k l a bs =
+    cond (isTaken a bs) (withTable l)
+    (cond (eqb a 3) (say (inPhase l phase.Idle) answer.Wait)
+    (cond (ltb k 10) (say (inPhase l (phase.Awaiting (access.Start (k + 1)))) (answer.Read tableSector)) (say (inPhase l phase.Idle) answer.Wait)))
 
 -- THE STORE: "if done, stored; 2 and 3 change nothing"; "then offer 01"
+
+-- Returns the marks after the store's answer.
 abbrev pub storeMarks : Marks → ℕ → Marks
 storeMarks m a = record { known = m .known; changed = m .changed && not (eqb a 0); latch = m .latch; fresh = m .fresh }
 
-unfoldable pub storeAnswered : Line → List ℕ → ℕ → Result
-storeAnswered l u a = say (opened (toMarked l (storeMarks (l .marks) a) phase.Storing) offer.Command 0) (answer.Offer offer.Command) u
+-- Returns what the answer to the store leads to.
+unfoldable pub storeAnswered : State → ℕ → Turn
+storeAnswered l a = say (opened (withMarks l (storeMarks (l .marks) a) phase.Idle) offer.Command 0) (answer.Offer offer.Command)
 
 -- READ
 
--- "The first good bytes stay in the data part; until then bytes of answer 1 replace it."
-unfoldable pub keptData : Retry → List ℕ → ℕ → List ℕ → List ℕ
-keptData r u a bs = cond (leb a 1 && not (r .good)) (withData u bs) u
+-- Returns what becomes of the data part. "The first good bytes stay in the data part; until then bytes of answer 1 replace it."
+unfoldable pub keptPart : Retry → ℕ → Part
+keptPart r a = cond (leb a 1 && not (r .good)) (part.Filled 0) part.Kept
 
--- "None good at all: enter the block at the end of the bad list unless listed (100 held: status 2 bit 4), bit 0."
-unfoldable pub lost : Line → Table → Retry → List ℕ → Result
-lost l t r u =
-    cond (memberOf (r .block .0) (badList t)) (finish l (l .marks) change.Keep ending.Failed (r .seen) u)
-    (cond (ltb (t .nbads) 100) (finish l (altered (l .marks)) (change.Enter (r .block)) ending.Failed (r .seen) u)
-    (finish l (l .marks) change.Keep ending.BadFull (r .seen) u))
+-- Says whether the bad list has room.
+abbrev pub hasRoom : Table → Bool
+hasRoom t = ltb (t .nbads) 100
 
--- "Good with E < T: done. Else the move routine"; "Latch: fail, bit 4."
-unfoldable pub settled : Line → Retry → List ℕ → Result
-settled l r u =
-    cond (ltb (r .seen .errors) (r .threshold)) (finish l (l .marks) change.Keep ending.Good (r .seen) u)
-    (cond (l .marks .latch) (finish l (l .marks) change.Keep ending.Latched (r .seen) u)
-    (attempt l (l .marks) change.Keep (record { block = r .block; sector = r .sector; spare = false; attempts = 1; seen = r .seen }) u))
+-- Ends a read that never was good. "None good at all: enter the block at the end of the bad list unless listed (100 held:
+-- status 2 bit 4), bit 0."
+unfoldable pub lost : State → Table → Retry → Part → Turn
+lost l t r p =
+    cond (memberOf (r .block .0) (badList t)) (finish l change.Keep ending.Failed (r .seen) p)
+    (cond (hasRoom t) (finish l (change.Enter (r .block)) ending.Failed (r .seen) p) (finish l change.Keep ending.BadFull (r .seen) p))
 
-unfoldable pub reads : Outcome → Line → Table → List ℕ → Result
-reads (outcome.Done r) l t u = finish l (l .marks) change.Keep ending.Good (r .seen) u
-reads (outcome.Again r) l t u = say (toPhase l (phase.Reading r)) (answer.Read (r .sector)) u
-reads (outcome.Settle r) l t u = settled l r u
-reads (outcome.Lost r) l t u = lost l t r u
-reads (outcome.Stop r) l t u = finish l (latched (l .marks)) change.Keep ending.Latched (r .seen) u
+-- Says whether E is below T.
+abbrev pub isBelow : Retry → Bool
+isBelow r = ltb (r .seen .errors) (r .threshold)
 
-unfoldable pub readAnswered : Retry → Line → Table → List ℕ → ℕ → List ℕ → Result
-readAnswered r l t u a bs = reads (afterRead r a) l t (keptData r u a bs)
+-- Ends a read that was good after errors, or begins to move its block. "Good with E < T: done. Else the move routine";
+-- "Latch: fail, bit 4."
+unfoldable pub settled : State → Retry → Part → Turn
+settled l r p =
+    cond (isBelow r) (finish l change.Keep ending.Good (r .seen) p)
+    (cond (l .marks .latch) (finish l change.Keep ending.Latched (r .seen) p)
+    (attempt l change.Keep (onPresent (r .block) (r .sector) (r .seen)) p))
 
--- WRITE: "one write, 2 or 3 fail (bit 0)"
-unfoldable pub writeAnswered : Line → List ℕ → ℕ → Result
-writeAnswered l u a =
-    cond (eqb a 0) (finish l (l .marks) change.Keep ending.Good clean u)
-    (cond (eqb a 3) (finish l (latched (l .marks)) change.Keep ending.Latched clean u) (finish l (l .marks) change.Keep ending.Failed (met a clean) u))
+-- Returns what each outcome of a read leads to.
+unfoldable pub reads : Outcome → State → Table → Part → Turn
+reads (outcome.Done r) l t p = finish l change.Keep ending.Good (r .seen) p
+reads (outcome.Again r) l t p =
+    record { state = inPhase l (phase.Awaiting (access.Read r)); answer = answer.Read (r .sector); change = change.Keep; leaves = record { status = status.Kept; part = p } }
+reads (outcome.Settle r) l t p = settled l r p
+reads (outcome.Lost r) l t p = lost l t r p
+reads (outcome.Stop r) l t p = finish l change.Keep ending.Latched (r .seen) p
 
--- SURFACE: "no answer awaited" is out of place
-unfoldable pub answered : Phase → Line → Table → List ℕ → ℕ → List ℕ → Result
-answered phase.Idle l t u a bs = refuse refusal.Place l u
-answered (phase.Offered o) l t u a bs = refuse refusal.Place l u
-answered phase.Command l t u a bs = refuse refusal.Place l u
-answered phase.Data l t u a bs = refuse refusal.Place l u
-answered (phase.Starting k) l t u a bs = toRead l u a bs (startAnswered k l u a bs)
-answered phase.Storing l t u a bs = toWrite l u a bs (storeAnswered l u a)
-answered (phase.Reading r) l t u a bs = toRead l u a bs (readAnswered r l t u a bs)
-answered (phase.Writing s) l t u a bs = toWrite l u a bs (writeAnswered l u a)
-answered (phase.Trying r) l t u a bs = toWrite l u a bs (tried l t r u a)
-answered (phase.Checking r) l t u a bs = toRead l u a bs (checked l t r u a bs)
+-- Returns what the answer to a plain write leads to: "one write, 2 or 3 fail (bit 0)"
+unfoldable pub writeAnswered : State → ℕ → Turn
+writeAnswered l a =
+    cond (eqb a 0) (finish l change.Keep ending.Good clean part.Kept)
+    (cond (eqb a 3) (finish l change.Keep ending.Latched clean part.Kept) (finish l change.Keep ending.Failed (met a clean) part.Kept))
+
+-- Returns what the answer to each access leads to. equal: a verify was
+-- answered 0 with the bytes of the data part.
+unfoldable pub follows : Access → State → Table → ℕ → List ℕ → Bool → Turn
+follows (access.Start k) l t a bs equal = startAnswered k l a bs
+follows access.Store l t a bs equal = storeAnswered l a
+follows (access.Read r) l t a bs equal = reads (afterRead r a) l t (keptPart r a)
+follows (access.Write s) l t a bs equal = writeAnswered l a
+follows (access.TrialWrite r) l t a bs equal = tried l t r a
+follows (access.TrialRead r) l t a bs equal = checked l t r a equal
+
+-- Returns what the surface's answer does in each phase. Out of place: "no bytes or answer awaited".
+unfoldable pub answered : Phase → State → Table → ℕ → List ℕ → Bool → Turn
+answered phase.Idle l t a bs equal = refuse refusal.Place l
+answered (phase.Offered o) l t a bs equal = refuse refusal.Place l
+answered phase.Command l t a bs equal = refuse refusal.Place l
+answered phase.Data l t a bs equal = refuse refusal.Place l
+answered (phase.Awaiting x) l t a bs equal = fitting (asksRead x) l a (length bs) (follows x l t a bs equal)
+
+-- Says whether an access is a trial's read.
+abbrev pub isTrialRead : Access → Bool
+isTrialRead x = ofAccess x .verifies
+
+-- Says whether the bytes are compared: a trial's read, answered 0.
+abbrev pub verifies : Phase → ℕ → Bool
+verifies p a = awaits isTrialRead p && eqb a 0

@@ -1,11 +1,12 @@
 -- THE SEVEN CALLS: each a function of the record, the lent buffer and the arguments, giving record, answer and buffer.
-use mathlib.Core.Bool.{Bool, true, false, cond}
+use mathlib.Core.Bool.{Bool, true, false, cond, _&&_}
 use mathlib.Core.List.{List, [], _∷_}
 use Prim.Native.Nat.{ℕ}
 use lib.Dec.{eqb}
 use lib.ListN.{length, replicate}
 use Rattle.geometry.specs.Geometry.{tableSector}
 use Rattle.table.specs.Tables.{emptyTable}
+use Rattle.buffer.specs.Runs.{same}
 use Rattle.image.specs.Images.{tableImage}
 use Rattle.drive.specs.declared.Drive.{Drive}
 use Rattle.drive.specs.declared.Step.{Step}
@@ -15,57 +16,64 @@ use Rattle.drive.specs.declared.Refusal.{Refusal}
 use Rattle.drive.specs.declared.Refusal.the-variants as refusal
 use Rattle.drive.specs.declared.Phase.the-variants as phase
 use Rattle.drive.specs.Records.{recordOk}
-use Rattle.drive.specs.Results.{Out, Result, outOf, guarded}
+use Rattle.drive.specs.declared.Access.the-variants as access
+use Rattle.drive.specs.declared.Turn.{Turn}
+use Rattle.drive.specs.Words.{dataOf}
+use Rattle.drive.specs.Results.{Out, outOf, guarded}
 use Rattle.drive.specs.Handshake.{raised, lowered, fedTo, rested}
-use Rattle.drive.specs.Access.{answered}
+use Rattle.drive.specs.Access.{answered, verifies}
 
--- codes 1 and 2 first; then what the call's own rule says
-abbrev pub called : Drive → List ℕ → List ℕ → Result → Out
-called d u bs x = outOf (d .table) bs (guarded (recordOk d) 536 (d .line) u x)
+-- Returns what a call gives: codes 1 and 2 first, then what its own rule says. bs are the bytes lent with the call.
+abbrev pub called : Drive → List ℕ → List ℕ → Turn → Out
+called d u bs x = outOf (d .table) bs u (guarded (recordOk d) (length u) (d .state) x)
 
+-- Returns what each call gives.
 unfoldable pub raiseOf : Drive → List ℕ → Out
-raiseOf d u = called d u [] (raised (d .line .phase) (d .line) u)
+raiseOf d u = called d u [] (raised (d .state .phase) (d .state))
 
 unfoldable pub lowerOf : Drive → List ℕ → ℕ → Out
-lowerOf d u b = called d u [] (lowered (d .line .phase) (d .line) (d .table) u b)
+lowerOf d u b = called d u [] (lowered (d .state .phase) (d .state) (d .table) b)
 
 unfoldable pub feedOf : Drive → List ℕ → List ℕ → Out
-feedOf d u bs = called d u [] (fedTo (d .line .phase) (d .line) u bs)
+feedOf d u bs = called d u bs (fedTo (d .state .phase) (d .state) bs)
 
 unfoldable pub surfaceOf : Drive → List ℕ → ℕ → List ℕ → Out
-surfaceOf d u a bs = called d u bs (answered (d .line .phase) (d .line) (d .table) u a bs)
+surfaceOf d u a bs = called d u bs (answered (d .state .phase) (d .state) (d .table) a bs (verifies (d .state .phase) a && same bs (dataOf u)))
 
 unfoldable pub resetOf : Drive → List ℕ → Out
-resetOf d u = called d u [] (rested (d .line .phase) (d .line) u)
+resetOf d u = called d u [] (rested (d .state .phase) (d .state))
 
--- "Start makes the record anew from any record (of the codes only 2 applies), zeroes the buffer and asks for sector 4960"
+-- Holds the record after a start.
 abbrev pub started : Drive
 started =
     record {
       table = emptyTable;
-      line = record { phase = phase.Starting 1; marks = record { known = false; changed = false; latch = false; fresh = true }; command = replicate 6 0; count = 0; fed = 0 };
+      state = record { phase = phase.Awaiting (access.Start 1); marks = record { known = false; changed = false; latch = false; fresh = true }; command = replicate 6 0; count = 0; fed = 0 };
     }
 
+-- Returns what start gives. "Start makes the record anew from any record (of the codes only 2 applies), zeroes the buffer and
+-- asks for sector 4960"
 unfoldable pub startOf : Drive → List ℕ → Out
 startOf d u =
     cond (eqb (length u) 536)
     (record { step = record { drive = started; answer = answer.Read tableSector }; bytes = replicate 536 0 })
     (record { step = record { drive = d; answer = answer.Refused refusal.Buffer }; bytes = u })
 
--- "Image writes the table into 532 lent bytes in any phase, a busy one included"; "it changes no record"; with no table it
--- is out of place
+-- Gives an answer, and the record as it is.
 abbrev pub imageSays : Drive → Answer → List ℕ → Out
 imageSays d a u = record { step = record { drive = d; answer = a }; bytes = u }
 
+-- Returns what image gives. "Image writes the table into 532 lent bytes in any phase, a busy one included"; "it changes no
+-- record"; with no table it is out of place.
 unfoldable pub imageOutOf : Drive → List ℕ → Out
 imageOutOf d u =
     cond (recordOk d)
     (cond (eqb (length u) 532)
-    (cond (d .line .marks .known) (imageSays d answer.Wait (tableImage (d .table))) (imageSays d (answer.Refused refusal.Place) u))
+    (cond (d .state .marks .known) (imageSays d answer.Wait (tableImage (d .table))) (imageSays d (answer.Refused refusal.Place) u))
     (imageSays d (answer.Refused refusal.Buffer) u))
     (imageSays d (answer.Refused refusal.Record) u)
 
--- the calls of demand 3's list
+-- Names the calls of demand 3's list.
 pub data Call : Type 0 where
   raise : Call
   lower : ℕ → Call
@@ -73,7 +81,7 @@ pub data Call : Type 0 where
   surface : ℕ → List ℕ → Call
   reset : Call
 
--- ONE STEP: what the code of each call is proved equal to, and what the history of calls is run on
+-- Returns what a call of the list gives: what the code of each call is proved equal to, and what the history of calls is run on.
 unfoldable pub stepOf : Call → Drive → List ℕ → Out
 stepOf raise d u = raiseOf d u
 stepOf (lower b) d u = lowerOf d u b

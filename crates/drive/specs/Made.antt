@@ -6,28 +6,29 @@ use mathlib.Core.List.{List, [], _∷_}
 use lib.ListN.{length}
 use Rattle.geometry.specs.declared.Sector.{Sector}
 use Rattle.drive.specs.declared.Drive.{Drive}
-use Rattle.drive.specs.Words.{blockOf}
+use Rattle.drive.specs.Words.{blockOf, isRead}
 use Rattle.drive.specs.Calls.{startOf}
-use Rattle.drive.specs.History.{Bytes, Sectors, Where, nowhere, at, Entry, History, blank, isRefused, writeAsked, orElse, isGood, acts, reports, good, isRead, next}
+use Rattle.drive.specs.History.{Sectors, Entry, History, blank, orElse, acts, reports, good, next, order}
 use Rattle.drive.specs.Run.{Event, Lawful, entries, begins}
+use Rattle.drive.specs.Views.{Bytes, Where, nowhere, at, ofCall, ofAnswer}
 
--- Returns where the last write s of the command under way that was answered 0 went. The lower that acts begins anew; answer 0 to a
--- write s sets it; a refused call changes nothing.
+-- Returns where the last write s of the command under way that was answered 0 went. The lower that acts begins anew; answer 0
+-- to a write s sets it; a refused call changes nothing.
 unfoldable pub wentNext : History → Where → Entry → Where
 wentNext H went o =
-    cond (isRefused (o .answer)) went
-    (cond (acts H o) nowhere (orElse (cond (isGood (o .call)) (writeAsked (H .last)) nowhere) went))
+    cond (ofAnswer (o .answer) .refused) went
+    (cond (acts H o) nowhere (orElse (cond (ofCall (o .call) .good) (ofAnswer (H .last) .write) nowhere) went))
 
 -- Says whether the entry reports a write or write/verify of a block good.
 unfoldable pub goodWrite : History → Entry → Bool
-goodWrite H o = not (isRefused (o .answer)) && reports H o && good o && not (isRead H)
+goodWrite H o = not (ofAnswer (o .answer) .refused) && reports H o && good o && not (isRead (order H .kind))
 
 -- Says that the write which the entry reports went to a sector, and that this is its block's sector after the entry: its spare,
 -- if it moved.
 pub record IsMade (start : Sectors) (H : History) (went : Where) (o : Entry) : Type 0 where
   pub sector : Sector
   pub written : wentNext H went o ≡ at sector
-  pub place : next start H o .place (blockOf (H .command)) ≡ at sector
+  pub place : next start H o .place (blockOf (order H)) ≡ at sector
 
 -- Says that each write reported good in the list was made.
 abbrev pub Made : Sectors → History → Where → List Entry → Type 0
@@ -35,8 +36,8 @@ Made start H went [] = Unit {0}
 Made start H went (o ∷ os) =
     (goodWrite H o ≡ true → IsMade start H went o) × Made start (next start H o) (wentNext H went o) os
 
--- "Reporting writes good that were never made": no list of calls does, after any start, with any sectors and any outcome that the
--- surface's rules permit.
+-- Says that no list of calls reports "writes good that were never made": after any start, with any sectors and any outcome
+-- that the surface's rules permit.
 abbrev pub WritesMade : Type 0
 WritesMade =
     (old : Drive) (lent : Bytes) → length lent ≡ 536

@@ -1,14 +1,17 @@
--- What a call gives: the next record and the answer, and the buffer's bytes.
-use mathlib.Core.Bool.{Bool, true, false, cond}
+-- What a rule decides (a turn), and what a call gives: the next record, the answer, and the buffer's bytes.
+use mathlib.Core.Bool.{Bool, true, false, cond, _||_}
 use mathlib.Core.List.{List, [], _∷_, _++_}
-use Prim.Native.Nat.{ℕ}
+use Prim.Native.Nat.{ℕ, _+_, _-_}
 use lib.Dec.{eqb}
-use lib.ListN.{length}
+use lib.ListN.{take, replicate}
+use Rattle.geometry.specs.declared.Block.{Block}
+use Rattle.geometry.specs.declared.Sector.{Sector}
 use Rattle.table.specs.declared.Table.{Table}
 use Rattle.table.specs.Tables.{listed, killedNext, withBad, withoutBad}
-use Rattle.image.specs.Images.{tableOf}
+use Rattle.image.specs.Images.{tableOf, tableImage}
+use Rattle.buffer.specs.Runs.{over}
 use Rattle.drive.specs.declared.Drive.{Drive}
-use Rattle.drive.specs.declared.Line.{Line}
+use Rattle.drive.specs.declared.State.{State}
 use Rattle.drive.specs.declared.Marks.{Marks}
 use Rattle.drive.specs.declared.Phase.{Phase}
 use Rattle.drive.specs.declared.Phase.the-variants as phase
@@ -17,74 +20,127 @@ use Rattle.drive.specs.declared.Answer.the-variants as answer
 use Rattle.drive.specs.declared.Refusal.{Refusal}
 use Rattle.drive.specs.declared.Refusal.the-variants as refusal
 use Rattle.drive.specs.declared.Ending.{Ending}
+use Rattle.drive.specs.declared.Ending.the-variants as ending
 use Rattle.drive.specs.declared.Seen.{Seen}
+use Rattle.drive.specs.declared.Trial.{Trial}
 use Rattle.drive.specs.declared.Step.{Step}
 use Rattle.drive.specs.declared.Change.{Change}
 use Rattle.drive.specs.declared.Change.the-variants as change
-use Rattle.drive.specs.Words.{dataOf, statusOf}
+use Rattle.drive.specs.declared.Four.{Four}
+use Rattle.drive.specs.declared.Status.{Status}
+use Rattle.drive.specs.declared.Status.the-variants as status
+use Rattle.drive.specs.declared.Part.{Part}
+use Rattle.drive.specs.declared.Part.the-variants as part
+use Rattle.drive.specs.declared.Leaves.{Leaves}
+use Rattle.drive.specs.declared.Turn.{Turn}
+use Rattle.drive.specs.Words.{dataOf, withData, statusOf}
 
--- a call's whole result: what it hands back, and what it leaves in the buffer
+-- Holds a call's whole result: what it hands back, and what it leaves in the buffer.
 pub record Out : Type 0 where
   pub step : Step
   pub bytes : List ℕ
 
--- the result as the line has it: the table's change beside it
-pub record Result : Type 0 where
-  pub line : Line
-  pub answer : Answer
-  pub change : Change
-  pub bytes : List ℕ
-
--- what each change makes of the table, given the bytes that the surface brought
+-- Returns what a change makes of the table, given the bytes that the surface brought.
 abbrev pub changed : Change → Table → List ℕ → Table
 changed change.Keep t bs = t
 changed change.Load t bs = tableOf bs
 changed (change.Enter b) t bs = withBad t b
-changed (change.Leave b) t bs = withoutBad t b
+changed (change.Remove b) t bs = withoutBad t b
 changed (change.Move b) t bs = withoutBad (listed t b) b
 changed change.Kill t bs = killedNext t
 
-abbrev pub outOf : Table → List ℕ → Result → Out
-outOf t bs x =
-    record { step = record { drive = record { table = changed (x .change) t bs; line = x .line }; answer = x .answer }; bytes = x .bytes }
+-- THE BUFFER: what a turn leaves in it, given the table and the bytes lent with the call. Of these calls nothing else writes it;
+-- start zeroes all of it.
 
--- the line in another phase
-abbrev pub toPhase : Line → Phase → Line
-toPhase l p = record { phase = p; marks = l .marks; command = l .command; count = l .count; fed = l .fed }
+-- Returns four bytes as a list.
+abbrev pub four : Four → List ℕ
+four x = x .0 ∷ x .1 ∷ x .2 ∷ x .3 ∷ []
 
--- the line with other marks in another phase
-abbrev pub toMarked : Line → Marks → Phase → Line
-toMarked l m p = record { phase = p; marks = m; command = l .command; count = l .count; fed = l .fed }
+-- Returns the buffer with what becomes of its data part. Filled: "Data fills the data part from its start", "bytes after the
+-- 532nd are dropped"; so does what a read brings. Zeroed, document 02, request 1: "the rest of the data part is now zeroed".
+unfoldable pub partLeft : Part → Table → List ℕ → List ℕ → List ℕ
+partLeft part.Kept t bs u = u
+partLeft (part.Filled f) t bs u = over (4 + f) (take (532 - f) bs) u
+partLeft (part.Zeroed f) t bs u = take (4 + f) u ++ replicate (532 - f) 0x00
+partLeft part.Image t bs u = withData u (tableImage t)
+partLeft (part.Figures x) t bs u = withData u (four x ++ replicate 528 0x00)
 
--- "leaves: all unchanged"
-abbrev pub refuse : Refusal → Line → List ℕ → Result
-refuse r l u = record { line = l; answer = answer.Refused r; change = change.Keep; bytes = u }
+-- Returns the buffer with what becomes of its status.
+unfoldable pub statusLeft : Status → List ℕ → List ℕ
+statusLeft status.Kept u = u
+statusLeft (status.Written x) u = four x ++ dataOf u
 
--- the table and the buffer stay
-abbrev pub say : Line → Answer → List ℕ → Result
-say l a u = record { line = l; answer = a; change = change.Keep; bytes = u }
+-- Returns the buffer that a turn leaves.
+abbrev pub leave : Leaves → Table → List ℕ → List ℕ → List ℕ
+leave x t bs u = statusLeft (x .status) (partLeft (x .part) t bs u)
 
--- marks after a finish: it was the first no more
-abbrev pub told : Marks → Marks
-told m = record { known = m .known; changed = m .changed; latch = m .latch; fresh = false }
+-- Leaves all of the buffer as it is.
+abbrev pub untouched : Leaves
+untouched = record { status = status.Kept; part = part.Kept }
 
--- "Every entry added, killed or removed marks the table changed"
-abbrev pub altered : Marks → Marks
-altered m = record { known = m .known; changed = true; latch = m .latch; fresh = m .fresh }
+-- Returns the whole result of a turn.
+abbrev pub outOf : Table → List ℕ → List ℕ → Turn → Out
+outOf t bs u x =
+    record { step = record { drive = record { table = changed (x .change) t bs; state = x .state }; answer = x .answer }; bytes = leave (x .leaves) t bs u }
 
--- "latch until the next start"
-abbrev pub latched : Marks → Marks
-latched m = record { known = m .known; changed = m .changed; latch = true; fresh = m .fresh }
+-- Returns the state in another phase.
+abbrev pub inPhase : State → Phase → State
+inPhase l p = record { phase = p; marks = l .marks; command = l .command; count = l .count; fed = l .fed }
 
--- "The four status bytes are written at the finish and not before."
-abbrev pub finish : Line → Marks → Change → Ending → Seen → List ℕ → Result
-finish l m c e s u =
-    record { line = toMarked l (told m) phase.Idle; answer = answer.Finished; change = c; bytes = statusOf e s (m .fresh) ++ dataOf u }
+-- Returns the state with other marks in another phase.
+abbrev pub withMarks : State → Marks → Phase → State
+withMarks l m p = record { phase = p; marks = m; command = l .command; count = l .count; fed = l .fed }
 
--- nothing met yet
+-- Answers, and leaves table and buffer alone.
+abbrev pub say : State → Answer → Turn
+say l a = record { state = l; answer = a; change = change.Keep; leaves = untouched }
+
+-- Refuses. It leaves "all unchanged".
+abbrev pub refuse : Refusal → State → Turn
+refuse r l = say l (answer.Refused r)
+
+-- Says whether a change marks the table: "Every entry added, killed or removed marks the table changed".
+abbrev pub alters : Change → Bool
+alters change.Keep = false
+alters change.Load = false
+alters (change.Enter b) = true
+alters (change.Remove b) = true
+alters (change.Move b) = true
+alters change.Kill = true
+
+-- Says whether an ending sets the latch: "latch until the next start". Under the latch it is set already.
+abbrev pub latches : Ending → Bool
+latches ending.Good = false
+latches ending.Moved = false
+latches ending.Failed = false
+latches ending.Overrun = false
+latches ending.NoNumber = false
+latches (ending.NoTable w) = false
+latches ending.Latched = true
+latches ending.BadFull = false
+latches ending.NoSpare = false
+
+-- Returns the marks after a change of the table.
+abbrev pub altered : Marks → Change → Marks
+altered m c = record { known = m .known; changed = alters c || m .changed; latch = m .latch; fresh = m .fresh }
+
+-- Returns the marks after a finish: the next one is not the first.
+abbrev pub finished : Marks → Change → Ending → Marks
+finished m c e = record { known = m .known; changed = alters c || m .changed; latch = latches e || m .latch; fresh = false }
+
+-- Finishes the command. "The four status bytes are written at the finish and not before."
+abbrev pub finish : State → Change → Ending → Seen → Part → Turn
+finish l c e s p =
+    record { state = withMarks l (finished (l .marks) c e) phase.Idle; answer = answer.Finished; change = c; leaves = record { status = status.Written (statusOf e s (l .marks .fresh)); part = p } }
+
+-- Holds nothing met yet.
 abbrev pub clean : Seen
 clean = record { errors = 0; crc = false; timeout = false }
 
--- codes 1 and 2, in this order; the buffer must be of n bytes
-abbrev pub guarded : Bool → ℕ → Line → List ℕ → Result → Result
-guarded ok n l u x = cond ok (cond (eqb (length u) n) x (refuse refusal.Buffer l u)) (refuse refusal.Record l u)
+-- Returns the first attempt on a block's present sector.
+abbrev pub onPresent : Block → Sector → Seen → Trial
+onPresent b s seen = record { block = b; sector = s; spare = false; attempts = 1; seen = seen }
+
+-- Refuses with code 1 or 2, in this order, or turns as the rule says. The buffer has n bytes.
+abbrev pub guarded : Bool → ℕ → State → Turn → Turn
+guarded ok n l x = cond ok (cond (eqb n 536) x (refuse refusal.Buffer l)) (refuse refusal.Record l)

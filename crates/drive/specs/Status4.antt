@@ -1,4 +1,4 @@
--- STATUS 4 IS E, however the read ends: good, lost, broken off, or through the move routine.
+-- STATUS 4 IS E, however the read ends: good, lost, stopped by answer 3, or through the move routine.
 use mathlib.Core.Path.{_≡_}
 use mathlib.Core.Bool.{true, cond, _||_}
 use mathlib.Core.List.{List, [], _∷_}
@@ -7,6 +7,7 @@ use lib.Dec.{eqb}
 use lib.ListN.{take, getD}
 use Rattle.drive.specs.declared.Drive.{Drive}
 use Rattle.drive.specs.declared.Retry.{Retry}
+use Rattle.drive.specs.declared.Access.the-variants as access
 use Rattle.drive.specs.declared.Phase.the-variants as phase
 use Rattle.drive.specs.Over.{Reply, replied, command, Completes}
 
@@ -27,12 +28,13 @@ leftBy d u (x ∷ xs) = leftBy (replied d u x .step .drive) (replied d u x .byte
 
 -- Says that the first read of a read command is awaited. Acting on the command has put R into left.
 pub record AwaitsFirst (d : Drive) (r : Retry) : Type 0 where
-  pub phase : d .line .phase ≡ phase.Reading r
+  pub phase : d .state .phase ≡ phase.Awaiting (access.Read r)
   pub first : r .first ≡ true
   pub clean : r .seen .errors ≡ 0
 
--- "exactly R rereads; E counts their failures"; "Status 4: E." For any record, buffer and answers that complete the command: x is
--- the first read's answer, and of the others the first R are the rereads', or fewer if the command ends before.
+-- Says that status 4 is E. "exactly R rereads; E counts their failures"; "Status 4: E." For any record, buffer and answers
+-- that complete the command: x is the first read's answer, and of the others the first R are the rereads', or fewer if the
+-- command ends before.
 abbrev pub Status4 : Type 0
 Status4 =
     (d : Drive) (u : List ℕ) (r : Retry) (x : Reply) (xs : List Reply) → AwaitsFirst d r → Completes command d u (x ∷ xs)

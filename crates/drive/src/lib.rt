@@ -1,19 +1,19 @@
-// The controller's record, and what a call answers. Types alone: specs/ says what the calls do with
-// them, and the code of the calls stands in the crates above.
+// The controller's record, what a rule decides and what a call answers. Types alone: specs/ says what
+// the calls do with them, and the crates above hold the code.
 use geometry::Block;
 use geometry::Sector;
 use table::Table;
 
-// What a command has met so far. errors is document 01's E: how many of the R rereads failed.
+// Holds what a command has met so far. errors is document 01's E: how many of the R rereads failed.
 pub struct Seen {
     pub errors: u8,
     pub crc: bool,
     pub timeout: bool,
 }
 
-// A read command under way. Where first is true its first read is awaited, and left is R. Else, where
-// left is not 0, a reread is awaited and counted in left; where left is 0, a further read, and spent is
-// what further reads have cost. threshold is T. good says that good bytes stand in the data part.
+// Holds a read command under way. first: its first read is awaited, and left is R. Otherwise left counts
+// the rereads left, the awaited one included; where it is 0, a further read is awaited, and spent is
+// what further reads have cost. threshold is T. good: the data part holds good bytes.
 pub struct Retry {
     pub block: Block,
     pub sector: Sector,
@@ -25,8 +25,8 @@ pub struct Retry {
     pub seen: Seen,
 }
 
-// An attempt of the move routine: on the block's present sector, or on the next unused spare.
-// attempts are those begun on this sector, this one included.
+// Holds the trial of a sector in the move routine: the block's present one, or the next unused spare.
+// attempts counts those begun on it, the present one included.
 pub struct Trial {
     pub block: Block,
     pub sector: Sector,
@@ -35,7 +35,23 @@ pub struct Trial {
     pub seen: Seen,
 }
 
-// What the drive offers at a raise: to take a command, to read, to take data for a write or for a
+// Names the commands by their opcode: 00 read, 01 write, 02 write/verify, and every other one.
+pub enum Kind {
+    Read,
+    Write,
+    Verify,
+    Other,
+}
+
+// Holds a decoded command: what it asks for, the number in its block field, R and T.
+pub struct Order {
+    pub kind: Kind,
+    pub number: u32,
+    pub retries: u8,
+    pub threshold: u8,
+}
+
+// Names what the drive offers at a raise: to take a command, to read, to take data for a write or for a
 // write/verify, to act on a write.
 pub enum Offer {
     Command,
@@ -45,24 +61,29 @@ pub enum Offer {
     Act,
 }
 
-// Where the drive stands. From Starting on an answer of the surface is awaited: the start's read (with
-// how many were asked for), the store, a read command's read, a plain write, and an attempt's write
-// and read.
+// Names what the surface was asked for: a read of the start (with how many were asked for), the store,
+// a read command's read, a plain write, and the write and the read of a trial.
+pub enum Access {
+    Start(u8),
+    Store,
+    Read(Retry),
+    Write(Sector),
+    TrialWrite(Trial),
+    TrialRead(Trial),
+}
+
+// Names where the drive is. Awaiting: the surface owes an answer.
 pub enum Phase {
     Idle,
     Offered(Offer),
     Command,
     Data,
-    Starting(u8),
-    Storing,
-    Reading(Retry),
-    Writing(Sector),
-    Trying(Trial),
-    Checking(Trial),
+    Awaiting(Access),
 }
 
-// known: there is a table. changed: it has changes that are not stored. latch: no settle since the
-// last start. fresh: no command finished since the last start or reset.
+// Holds four marks. known: there is a table. changed: it has changes that are not stored. latch: an
+// answer 3 has ended a command since the last start. fresh: no command finished since the last start or
+// reset.
 pub struct Marks {
     pub known: bool,
     pub changed: bool,
@@ -70,8 +91,9 @@ pub struct Marks {
     pub fresh: bool,
 }
 
-// All of the record but the table: what a handshake changes.
-pub struct Line {
+// Holds all of the record but the table. command: its first count bytes were fed; fed: how many data
+// bytes were, counted up to 533.
+pub struct State {
     pub phase: Phase,
     pub marks: Marks,
     pub command: [u8; 6],
@@ -79,13 +101,13 @@ pub struct Line {
     pub fed: usize,
 }
 
-// The record. The table stands first, so that a call can hand it on in one copy.
+// Holds the record. The table is first, so that a call can hand it on in one copy.
 pub struct Drive {
     pub table: Table,
-    pub line: Line,
+    pub state: State,
 }
 
-// Why a call is refused, in the order of document 01's codes.
+// Names why a call is refused, in the order of document 01's codes.
 pub enum Refusal {
     Record,
     Buffer,
@@ -94,7 +116,7 @@ pub enum Refusal {
     Bytes,
 }
 
-// What a call answers.
+// Names what a call answers.
 pub enum Answer {
     Wait,
     Offer(Offer),
@@ -105,37 +127,76 @@ pub enum Answer {
     Refused(Refusal),
 }
 
-// What a call hands back.
+// Holds what a call hands back.
 pub struct Step {
     pub drive: Drive,
     pub answer: Answer,
 }
 
-// How a command ends.
+// Names how a command ends: good; good and moved; failed; too many data bytes; no such number; no table
+// (true: on a write); answer 3 or the latch; failed with the bad list full; no spare unused.
 pub enum Ending {
     Good,
     Moved,
     Failed,
     Overrun,
-    NoBlock,
+    NoNumber,
     NoTable(bool),
     Latched,
     BadFull,
     NoSpare,
 }
 
-// What an access does to the table: nothing, the image that came is its new content, a block enters
-// or leaves the bad list, a block moves to the next unused spare, the next unused spare dies.
+// Names what a call does to the table: nothing, the image that came is its new content, a block enters
+// or leaves the bad list, a block moves to the next unused spare (its old entry dies, and it leaves the
+// bad list), the next unused spare dies.
 pub enum Change {
     Keep,
     Load,
     Enter(Block),
-    Leave(Block),
+    Remove(Block),
     Move(Block),
     Kill,
 }
 
-// What an answer to a read command's read leads to.
+// Holds four bytes: a status, or the figures of the health block.
+pub struct Four(pub u8, pub u8, pub u8, pub u8);
+
+// Names what becomes of the buffer's status bytes.
+pub enum Status {
+    Kept,
+    Written(Four),
+}
+
+// Names what becomes of the buffer's data part: it stays, the bytes lent with the call fill it from a
+// byte on, it is zeroed from a byte on, it is the table's image, it is four figures and zeros.
+pub enum Part {
+    Kept,
+    Filled(usize),
+    Zeroed(usize),
+    Image,
+    Figures(Four),
+}
+
+// Holds what a call leaves in the buffer.
+pub struct Leaves {
+    pub status: Status,
+    pub part: Part,
+}
+
+// Holds what a rule decides: the next state, the answer, what becomes of the table and of the buffer.
+pub struct Turn {
+    pub state: State,
+    pub answer: Answer,
+    pub change: Change,
+    pub leaves: Leaves,
+}
+
+// Holds status bytes 1, 2 and 3 of an ending, before what was met.
+pub struct Row(pub u8, pub u8, pub u8);
+
+// Names what an answer to a read command's read leads to: done at the first read; one more read; good
+// after errors, so that E and T decide; never good; ended by answer 3.
 pub enum Outcome {
     Done(Retry),
     Again(Retry),

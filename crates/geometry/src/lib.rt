@@ -9,19 +9,21 @@ pub struct Block(pub u16);
 // A sector's number. Sectors are 0..9791.
 pub struct Sector(pub u32);
 
+// Says whether a block exists.
 pub fn is_block(b: Block) -> bool
     ensures { λ r. ⌜ r ≡ isBlock (b .0) ⌝ }
 {
     b.0 < 9728
 }
 
+// Says whether a sector exists.
 pub fn is_sector(s: Sector) -> bool
     ensures { λ r. ⌜ r ≡ isSector (s .0) ⌝ }
 {
     s.0 < 9792
 }
 
-// Where a block is that was never moved.
+// Returns the sector of a block that was never moved.
 pub fn home(b: Block) -> Sector
     ensures { λ r. ⌜ r ≡ homeOf b ⌝ }
 {
@@ -29,6 +31,7 @@ pub fn home(b: Block) -> Sector
     if n < 4928 { Sector(n) } else { Sector(n + 64) }
 }
 
+// Returns the sector of spare k.
 pub fn spare(k: usize) -> Sector
     requires { ⌜ k < 32 ⌝ }
     ensures { λ r. ⌜ r ≡ spareOf k ⌝ }
@@ -36,6 +39,7 @@ pub fn spare(k: usize) -> Sector
     Sector(4928 + k as u32)
 }
 
+// Returns the sector of the table.
 pub fn table_sector() -> Sector
     ensures { λ r. ⌜ r ≡ tableSector ⌝ }
 {

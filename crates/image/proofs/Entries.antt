@@ -1,18 +1,18 @@
 -- Entries as three bytes each: a list written and read.
 use mathlib.Core.Path.{_≡_, refl, ap, sym, _∙_}
-use mathlib.Core.Bool.{Bool, true, false, not, cond, _&&_}
-use mathlib.Core.List.{List, [], _∷_, _++_, append-assoc}
-use Prim.Native.Nat.{ℕ, zero, suc, _+_, _-_, _*_, _/_, _%_, _≤_, _<_}
+use mathlib.Core.Bool.{Bool, true, false, cond}
+use mathlib.Core.List.{List, [], _∷_, _++_}
+use Prim.Native.Nat.{ℕ, zero, suc, _+_, _*_, _/_, _%_, _≤_, _<_}
 use native.Mathlib.Omega.{arith}
-use borrow.Author.Tests.{eq-eqb, ne-eqb, eqb-true, eqb-false, ltb-true, lt-ltb, ltb-false, le-ltb}
-use lib.Dec.{eqb, ltb}
-use lib.ListN.{length, take, drop, getD, set, length-append}
+use borrow.Author.Tests.{eq-eqb, ne-eqb, eqb-true, ltb-true}
+use lib.Dec.{eqb}
+use lib.ListN.{length, take, drop, getD, set}
 use lib.Seq.{getD-drop, drop-cons, set-at, append-snoc, take-suc, length-take-le}
 use Rattle.geometry.specs.Geometry.{isBlock}
-use Rattle.logic.proofs.Bools.{clash, branch, and-left, and-right, and-true}
-use Rattle.lists.specs.Lists.{dead, memberOf, entryOk, entriesOk}
-use Rattle.lists.proofs.Laws.{block-live}
-use Rattle.lists.proofs.Meaning.{Stands, stands}
+use Rattle.logic.proofs.Bools.{clash}
+use Rattle.lists.specs.Lists.{dead, entryOk, entriesOk}
+use Rattle.lists.proofs.Laws.{block-live, first-ok, rest-ok}
+use Rattle.lists.proofs.Meaning.{Beside, beside}
 use Rattle.buffer.specs.Runs.{over}
 use Rattle.buffer.proofs.Over.{over-over}
 use Rattle.image.specs.Images.{wide, triple, triples, narrow, entryAt, entriesFrom}
@@ -32,30 +32,30 @@ unfolding entriesFrom
 entries-length zero s = refl
 entries-length (suc n) s = ap suc (entries-length n (drop 3 s))
 
--- an entry past the first three bytes
-entry-drop : (s : List ℕ) (k : ℕ) → entryAt (drop 3 s) k ≡ entryAt s (3 + k)
+-- an entry past the first bytes
+pub entry-drop : (n : ℕ) (s : List ℕ) (k : ℕ) → entryAt (drop n s) k ≡ entryAt s (n + k)
 unfolding entryAt
-entry-drop s k =
-    let p : 3 + (k + 1) ≡ 3 + k + 1 = omega arith in
-    let q : 3 + (k + 2) ≡ 3 + k + 2 = omega arith in
-    rw (getD-drop 3 s k 0, getD-drop 3 s (k + 1) 0, getD-drop 3 s (k + 2) 0, p, q)
+entry-drop n s k =
+    let p : n + (k + 1) ≡ n + k + 1 = omega arith in
+    let q : n + (k + 2) ≡ n + k + 2 = omega arith in
+    rw (getD-drop n s k 0, getD-drop n s (k + 1) 0, getD-drop n s (k + 2) 0, p, q)
 
 pub entries-snoc : (n : ℕ) (s : List ℕ) → entriesFrom (suc n) s ≡ entriesFrom n s ++ (entryAt s (3 * n) ∷ [])
 unfolding entriesFrom
 entries-snoc zero s = refl
 entries-snoc (suc n) s =
     let e : 3 + 3 * n ≡ 3 * suc n = omega arith in
-    let d = entry-drop s (3 * n) ∙ ap (entryAt s) e in
+    let d = entry-drop 3 s (3 * n) ∙ ap (entryAt s) e in
     ap {B = List ℕ} (λ (l : List ℕ). entryAt s 0 ∷ l) (entries-snoc n (drop 3 s) ∙ ap {B = List ℕ} (λ (x : ℕ). entriesFrom n (drop 3 s) ++ (x ∷ [])) d)
 
--- an entry stored after those that stand at the start of an array
+-- an entry stored after those at the start of an array
 pub store-step : (xs o : List ℕ) (k x : ℕ) → length xs ≡ k → k < length o → set (xs ++ drop k o) k x ≡ xs ++ (x ∷ []) ++ drop (suc k) o
 store-step xs o k x e h = rw (drop-cons o k 0 h, set-at xs (getD o k 0) (drop (suc k) o) x k e) (sym (append-snoc xs x (drop (suc k) o)))
 
--- an entry laid after those before it
-pub laid-step : (at : ℕ) (l o : List ℕ) (k : ℕ) → k < length l → at + 3 * k ≤ length o
+-- an entry written after those before it
+pub written-step : (at : ℕ) (l o : List ℕ) (k : ℕ) → k < length l → at + 3 * k ≤ length o
     → over (at + 3 * k) (triple (getD l k 0)) (over at (triples (take k l)) o) ≡ over at (triples (take (suc k) l)) o
-laid-step at l o k h m =
+written-step at l o k h m =
     let n = triples-length (take k l) in
     let t = length-take-le k l (omega arith) in
     rw (take-suc l k 0 h, triples-snoc (take k l) (getD l k 0)) (over-over at (triples (take k l)) (triple (getD l k 0)) o (at + 3 * k) (omega (arith, n, t)) m)
@@ -68,19 +68,19 @@ pub bytes-drop : (n : ℕ) (s : List ℕ) → Bytes s → Bytes (drop n s)
 bytes-drop n s h k = rw (getD-drop n s k 0) (h (n + k))
 
 -- An entry widened is below 2^24, and narrowed again it is the entry.
-wide-small : (marks : Bool) (x : ℕ) (l : List ℕ) → Stands marks x l → wide x < 16777216
+wide-small : (marks : Bool) (x : ℕ) (l : List ℕ) → Beside marks x l → wide x < 16777216
 unfolding wide
-wide-small marks x l (Stands.block b n) = rw (block-live x b) (let p = ltb-true x 9728 b in omega arith)
-wide-small marks x l (Stands.mark m e) = rw (eq-eqb x dead e) (omega arith)
+wide-small marks x l (Beside.block b n) = rw (block-live x b) (let p = ltb-true x 9728 b in omega arith)
+wide-small marks x l (Beside.mark m e) = rw (eq-eqb x dead e) (omega arith)
 
 narrow-block : (v : ℕ) → isBlock v ≡ true → narrow v ≡ v
 unfolding narrow
 narrow-block v b = let p = ltb-true v 9728 b in rw (ne-eqb v 16777214 (λ q. omega arith), b)
 
-narrow-wide : (marks : Bool) (x : ℕ) (l : List ℕ) → Stands marks x l → narrow (wide x) ≡ x
+narrow-wide : (marks : Bool) (x : ℕ) (l : List ℕ) → Beside marks x l → narrow (wide x) ≡ x
 unfolding wide narrow
-narrow-wide marks x l (Stands.block b n) = rw (block-live x b) (narrow-block x b)
-narrow-wide marks x l (Stands.mark m e) = rw (eq-eqb x dead e) (sym e)
+narrow-wide marks x l (Beside.block b n) = rw (block-live x b) (narrow-block x b)
+narrow-wide marks x l (Beside.mark m e) = rw (eq-eqb x dead e) (sym e)
 
 three : (v : ℕ) → v < 16777216 → v / 65536 % 256 * 65536 + v / 256 % 256 * 256 + v % 256 ≡ v
 three v h = omega arith
@@ -90,9 +90,9 @@ pub entries-triples : (marks : Bool) (l r : List ℕ) → entriesOk marks l ≡ 
 unfolding entriesFrom triples triple entryAt entriesOk
 entries-triples marks [] r h = refl
 entries-triples marks (x ∷ xs) r h =
-    let s = stands marks x xs (and-left (entryOk marks x xs) (entriesOk marks xs) h) in
+    let s = beside marks x xs (first-ok marks x xs h) in
     let e : narrow (wide x / 65536 % 256 * 65536 + wide x / 256 % 256 * 256 + wide x % 256) ≡ x = rw (three (wide x) (wide-small marks x xs s)) (narrow-wide marks x xs s) in
-    rw e (ap {B = List ℕ} (λ (l : List ℕ). x ∷ l) (entries-triples marks xs r (and-right (entryOk marks x xs) (entriesOk marks xs) h)))
+    rw e (ap {B = List ℕ} (λ (l : List ℕ). x ∷ l) (entries-triples marks xs r (rest-ok marks x xs h)))
 
 -- A number that narrows to an entry widens again to itself.
 no-entry : (marks : Bool) (l : List ℕ) → entryOk marks 65535 l ≡ true → ⊥
@@ -127,7 +127,7 @@ triples-entries marks (suc n) (x ∷ y ∷ []) b m h = absurd (omega arith)
 triples-entries marks (suc n) (x ∷ y ∷ w ∷ s) b m h =
     let v = x * 65536 + y * 256 + w in
     let rest = entriesFrom n s in
-    let e = wide-narrow marks v rest (and-left (entryOk marks (narrow v) rest) (entriesOk marks rest) h) in
+    let e = wide-narrow marks v rest (first-ok marks (narrow v) rest h) in
     let k : 3 * suc n ≡ suc (suc (suc (3 * n))) = omega arith in
-    let t = triples-entries marks n s (λ j. b (suc (suc (suc j)))) (omega arith) (and-right (entryOk marks (narrow v) rest) (entriesOk marks rest) h) in
+    let t = triples-entries marks n s (λ j. b (suc (suc (suc j)))) (omega arith) (rest-ok marks (narrow v) rest h) in
     rw (e, k, high x y w (b 0) (b 1) (b 2), middle x y w (b 0) (b 1) (b 2), low x y w (b 0) (b 1) (b 2), t)

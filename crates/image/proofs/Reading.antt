@@ -1,18 +1,15 @@
 -- The reader's answer, test by test.
-use mathlib.Core.Path.{_≡_, refl, ap, sym, _∙_}
-use mathlib.Core.Bool.{Bool, true, false, cond, _&&_}
-use mathlib.Core.List.{List, [], _∷_, _++_}
+use mathlib.Core.Path.{_≡_}
+use mathlib.Core.Bool.{true, false, cond, _&&_}
+use mathlib.Core.List.{List, _++_}
 use Prim.Native.Nat.{ℕ, _+_, _*_, _≤_}
-use native.Mathlib.Omega.{arith}
 use borrow.Author.Tests.{leb-true, le-leb, eq-eqb}
-use lib.Dec.{leb, eqb}
+use lib.Dec.{leb}
 use lib.ListN.{length, take, drop, replicate}
 use lib.Seq.{take-at}
 use Rattle.logic.proofs.Bools.{and-left, and-right}
 use Rattle.buffer.specs.Runs.{same, allAre}
-use Rattle.lists.specs.Lists.{entriesOk}
 use Rattle.table.specs.Tables.{listsOk}
-use Rattle.image.specs.declared.Image.{Image}
 use Rattle.image.specs.declared.Found.the-variants as found
 use Rattle.image.specs.Images.{header, entriesFrom, spareCount, badCount, framed, wellFormed, tableOf, nothing, readOf, loaded}
 use Rattle.image.proofs.Entries.{entries-length}
@@ -41,11 +38,6 @@ frame i n m h =
     let h2 = and-left (a && b) c h3 in
     record { spares = leb-true n 32 (and-left a b h2); bads = leb-true m 100 (and-right a b h2); head = and-right (a && b) c h3; first = and-right (a && b && c) d h4; second = and-right (a && b && c && d) e h5; zeros = and-right (a && b && c && d && e) f h }
 
--- two lists at the start of their arrays: the table's test is that of the lists
-pub arrays-test : (n m : ℕ) (sp bd zs ys : List ℕ) → n ≤ 32 → m ≤ 100 → length sp ≡ n → length bd ≡ m → listsOk (sp ++ zs) n (bd ++ ys) m ≡ (entriesOk true sp && entriesOk false bd)
-unfolding listsOk
-arrays-test n m sp bd zs ys hn hm es eb = rw (le-leb n 32 hn, le-leb m 100 hm, take-at sp zs n es, take-at bd ys m eb)
-
 -- the lists of an image, at the start of their arrays
 abbrev pub sparesIn : List ℕ → ℕ → List ℕ
 sparesIn i n = entriesFrom n (drop 26 i) ++ drop n (replicate 32 0)
@@ -53,22 +45,16 @@ sparesIn i n = entriesFrom n (drop 26 i) ++ drop n (replicate 32 0)
 abbrev pub badsIn : List ℕ → ℕ → ℕ → List ℕ
 badsIn i n m = entriesFrom m (drop (29 + 3 * n) i) ++ drop m (replicate 100 0)
 
-pub loaded-yes : (i : List ℕ) (n m : ℕ) → n ≤ 32 → m ≤ 100 → listsOk (sparesIn i n) n (badsIn i n m) m ≡ true
-    → loaded i n m ≡ record { found = found.Lists n m; spares = sparesIn i n; bads = badsIn i n m }
-unfolding loaded
-loaded-yes i n m hn hm h =
+-- what was loaded, by the table's test of the arrays
+pub loaded-test : (i : List ℕ) (n m : ℕ) → n ≤ 32 → m ≤ 100
+    → loaded i n m ≡ cond (listsOk (sparesIn i n) n (badsIn i n m) m) (record { found = found.Lists n m; spares = sparesIn i n; bads = badsIn i n m }) nothing
+unfolding loaded listsOk
+loaded-test i n m hn hm =
+    let sp = entriesFrom n (drop 26 i) in
+    let bd = entriesFrom m (drop (29 + 3 * n) i) in
     let es = entries-length n (drop 26 i) in
     let eb = entries-length m (drop (29 + 3 * n) i) in
-    let t = sym (arrays-test n m (entriesFrom n (drop 26 i)) (entriesFrom m (drop (29 + 3 * n) i)) (drop n (replicate 32 0)) (drop m (replicate 100 0)) hn hm es eb) ∙ h in
-    rw (t, es, eb)
-
-pub loaded-no : (i : List ℕ) (n m : ℕ) → n ≤ 32 → m ≤ 100 → listsOk (sparesIn i n) n (badsIn i n m) m ≡ false → loaded i n m ≡ nothing
-unfolding loaded
-loaded-no i n m hn hm h =
-    let es = entries-length n (drop 26 i) in
-    let eb = entries-length m (drop (29 + 3 * n) i) in
-    let t = sym (arrays-test n m (entriesFrom n (drop 26 i)) (entriesFrom m (drop (29 + 3 * n) i)) (drop n (replicate 32 0)) (drop m (replicate 100 0)) hn hm es eb) ∙ h in
-    rw t
+    rw (le-leb n 32 hn, le-leb m 100 hm, take-at sp (drop n (replicate 32 0)) n es, take-at bd (drop m (replicate 100 0)) m eb, es, eb)
 
 -- with length and frame right, the entries decide
 pub read-framed : (i : List ℕ) → length i ≡ 532 → framed i (spareCount i) (badCount i) ≡ true → loaded i (spareCount i) (badCount i) ≡ readOf i

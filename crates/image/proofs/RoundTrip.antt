@@ -2,21 +2,20 @@
 use mathlib.Core.Path.{_≡_, refl, ap, sym, _∙_}
 use mathlib.Core.Bool.{Bool, true, false, cond, _&&_}
 use mathlib.Core.List.{List, [], _∷_, _++_, append-assoc}
-use Prim.Native.Nat.{ℕ, _+_, _-_, _*_, _≤_, _<_}
+use Prim.Native.Nat.{ℕ, _+_, _-_, _*_, _≤_}
 use native.Mathlib.Omega.{arith}
 use borrow.Author.Tests.{eq-eqb, eqb-true, le-leb}
-use lib.Dec.{eqb, leb}
-use lib.ListN.{length, take, drop, getD, replicate, length-drop, length-append, length-replicate, take-append-drop}
+use lib.Dec.{eqb}
+use lib.ListN.{length, take, drop, replicate, length-drop, length-append, length-replicate, take-append-drop}
 use lib.Seq.{drop-at, drop-drop, take-add, take-at, drop-cons, length-take-le}
-use Rattle.logic.proofs.Bools.{branch, and-left, and-right, and-true}
-use Rattle.buffer.specs.Runs.{same, allAre}
+use Rattle.logic.proofs.Bools.{and-left, and-right}
+use Rattle.buffer.specs.Runs.{allAre}
 use Rattle.buffer.proofs.Compare.{same-equal, same-refl, all-replicate, replicate-all}
 use Rattle.lists.specs.Lists.{entriesOk}
 use Rattle.table.specs.declared.Table.{Table}
-use Rattle.table.specs.Tables.{spareList, badList, SameTable, Shaped, listsOk, tableOk}
+use Rattle.table.specs.Tables.{spareList, badList, SameTable, Shaped, tableOk}
 use Rattle.table.proofs.Keeps.{passes, passed}
-use Rattle.image.specs.declared.Image.{Image}
-use Rattle.image.specs.Images.{header, triples, mark, listPart, framedPart, imageOf, tableImage, spareCount, badCount, spareEntries, badEntries, entriesFrom, framed, wellFormed, tableOf, listsOf, nothing, isTable, readOf, inArray}
+use Rattle.image.specs.Images.{header, triples, mark, listPart, framedPart, imageOf, tableImage, spareCount, badCount, spareEntries, badEntries, framed, wellFormed, tableOf, listsOf, nothing, isTable, readOf, inArray}
 use Rattle.image.proofs.Entries.{Bytes, bytes-drop, triples-length, entries-length, entries-triples, triples-entries}
 use Rattle.image.proofs.Writing.{framed-length, image-length}
 use Rattle.image.proofs.Reading.{Frame, frame}

@@ -16,7 +16,14 @@ use Rattle.image.specs.declared.Image.{Image}
 -- "26 bytes: "PROFILE" and 6 blanks; 00 00 00; 03 90; 00 26 00; 02 14; 20; spare count; bad count."
 abbrev pub header : List ℕ
 header =
-    0x50 ∷ 0x52 ∷ 0x4F ∷ 0x46 ∷ 0x49 ∷ 0x4C ∷ 0x45 ∷ 0x20 ∷ 0x20 ∷ 0x20 ∷ 0x20 ∷ 0x20 ∷ 0x20 ∷ 0x00 ∷ 0x00 ∷ 0x00 ∷ 0x03 ∷ 0x90 ∷ 0x00 ∷ 0x26 ∷ 0x00 ∷ 0x02 ∷ 0x14 ∷ 0x20 ∷ []
+    0x50 ∷ 0x52 ∷ 0x4F ∷ 0x46 ∷ 0x49 ∷ 0x4C ∷ 0x45
+    ∷ 0x20 ∷ 0x20 ∷ 0x20 ∷ 0x20 ∷ 0x20 ∷ 0x20
+    ∷ 0x00 ∷ 0x00 ∷ 0x00
+    ∷ 0x03 ∷ 0x90
+    ∷ 0x00 ∷ 0x26 ∷ 0x00
+    ∷ 0x02 ∷ 0x14
+    ∷ 0x20
+    ∷ []
 
 -- an entry of the table as the image has it: "FFFFFE hex for a dead spare", else the block's number
 unfoldable pub wide : ℕ → ℕ
@@ -34,12 +41,17 @@ triples (x ∷ xs) = triple x ++ triples xs
 abbrev pub mark : List ℕ
 mark = 0xFF ∷ 0xFF ∷ 0xFF ∷ []
 
+-- a list's entries and the mark after them
 unfoldable pub listPart : List ℕ → List ℕ
 listPart l = triples l ++ mark
 
+-- the first 26 bytes, with counts of n and m
+abbrev pub head : ℕ → ℕ → List ℕ
+head n m = header ++ (n ∷ m ∷ [])
+
 -- all of the image but its zeros
 unfoldable pub framedPart : List ℕ → List ℕ → List ℕ
-framedPart spares bads = header ++ (length spares ∷ length bads ∷ []) ++ listPart spares ++ listPart bads
+framedPart spares bads = head (length spares) (length bads) ++ listPart spares ++ listPart bads
 
 -- the image of a spare list and a bad list: "zeros to 532"
 unfoldable pub imageOf : List ℕ → List ℕ → List ℕ
@@ -73,21 +85,32 @@ unfoldable pub entriesFrom : ℕ → List ℕ → List ℕ
 entriesFrom zero s = []
 entriesFrom (suc n) s = entryAt s 0 ∷ entriesFrom n (drop 3 s)
 
+-- the entries of the two lists
 abbrev pub spareEntries : List ℕ → List ℕ
 spareEntries i = entriesFrom (spareCount i) (drop 26 i)
 
 abbrev pub badEntries : List ℕ → List ℕ
 badEntries i = entriesFrom (badCount i) (drop (29 + 3 * spareCount i) i)
 
--- counts of n and m, the header, a mark after each list, and zeros after the second mark
+-- the header at the start, a mark at place k, zeros from place k on
+abbrev pub hasHeader : List ℕ → Bool
+hasHeader i = same (take 24 i) header
+
+abbrev pub markAt : List ℕ → ℕ → Bool
+markAt i k = allAre 0xFF (take 3 (drop k i))
+
+abbrev pub zerosFrom : List ℕ → ℕ → Bool
+zerosFrom i k = allAre 0 (drop k i)
+
+-- with counts of n and m: the header, a mark after each list, and zeros after the second mark
 unfoldable pub framed : List ℕ → ℕ → ℕ → Bool
 framed i n m =
     leb n 32
     && leb m 100
-    && same (take 24 i) header
-    && allAre 0xFF (take 3 (drop (26 + 3 * n) i))
-    && allAre 0xFF (take 3 (drop (29 + 3 * n + 3 * m) i))
-    && allAre 0 (drop (32 + 3 * n + 3 * m) i)
+    && hasHeader i
+    && markAt i (26 + 3 * n)
+    && markAt i (29 + 3 * n + 3 * m)
+    && zerosFrom i (32 + 3 * n + 3 * m)
 
 -- "Well formed: all this, counts at most 32 and 100, entries as above, bad entries blocks only."
 unfoldable pub wellFormed : List ℕ → Bool
@@ -120,7 +143,7 @@ listsOf t = record { found = found.Lists (t .nspares) (t .nbads); spares = t .sp
 unfoldable pub readOf : List ℕ → Image
 readOf i = cond (wellFormed i) (listsOf (tableOf i)) nothing
 
--- the same with all but the entries tested, for counts n and m
+-- the same where all but the entries was tested, for counts of n and m
 unfoldable pub loaded : List ℕ → ℕ → ℕ → Image
 loaded i n m =
     let spares = entriesFrom n (drop 26 i) in

@@ -4,7 +4,7 @@ ghost use mathlib.Core.List.{_++_};
 ghost use Prim.Native.Nat.{_+_, _*_, _≤_, _<_};
 ghost use lib.ListN.{length, drop};
 ghost use Rattle.buffer.specs.Runs.{over};
-ghost use Rattle.image.specs.Images.{wide, triple, triples, listPart, imageOf, written, narrow, entryAt, entriesFrom, framed, loaded, nothing, readOf};
+ghost use Rattle.image.specs.Images.{wide, triple, triples, listPart, head, imageOf, written, narrow, entryAt, entriesFrom, hasHeader, markAt, zerosFrom, framed, loaded, nothing, readOf};
 use buffer::all_are;
 use buffer::fill;
 use buffer::put;
@@ -26,7 +26,7 @@ pub struct Image {
     pub bads: [u16; 100],
 }
 
-// An entry as the image has it: only here is the dead mark FFFFFE hex.
+// Returns an entry as the image has it. Only here is the dead mark FFFFFE hex.
 fn widened(x: u16) -> u32
     ensures { λ r. ⌜ r ≡ wide x ⌝ }
 {
@@ -36,6 +36,7 @@ fn widened(x: u16) -> u32
     x as u32
 }
 
+// Writes an entry's three bytes from place `at` on.
 fn put_entry(out: &mut [u8], at: usize, x: u16)
     requires { ⌜ at + 3 ≤ length (now out) ⌝ }
     ensures { λ r. ⌜ now (out .exit) ≡ over at (triple x) (now (out .entry)) ⌝ }
@@ -52,6 +53,7 @@ fn put_entry(out: &mut [u8], at: usize, x: u16)
     );
 }
 
+// Writes the entries of a list from place `at` on.
 fn put_entries(out: &mut [u8], at: usize, list: &[u16])
     requires { ⌜ at + 3 * length (now list) ≤ length (now out) ⌝ }
     ensures { λ r. ⌜ now (out .exit) ≡ over at (triples (now (list .entry))) (now (out .entry)) ⌝ }
@@ -63,7 +65,7 @@ fn put_entries(out: &mut [u8], at: usize, list: &[u16])
     }
 }
 
-// A list's entries and the mark after them.
+// Writes the entries of a list from place `at` on, and the mark after them.
 fn put_list(out: &mut [u8], at: usize, list: &[u16])
     requires { ⌜ at + 3 * length (now list) + 3 ≤ length (now out) ⌝ }
     ensures { λ r. ⌜ now (out .exit) ≡ over at (listPart (now (list .entry))) (now (out .entry)) ⌝ }
@@ -72,22 +74,32 @@ fn put_list(out: &mut [u8], at: usize, list: &[u16])
     fill(out, at + 3 * list.len(), 3, 255);
 }
 
-// The image of two lists, built where it is lent.
+// Writes the header and the counts of n and m.
+fn put_head(out: &mut [u8], n: usize, m: usize)
+    requires { ⌜ (26 ≤ length (now out)) × (n ≤ 32) × (m ≤ 100) ⌝ }
+    ensures { λ r. ⌜ now (out .exit) ≡ over 0 (head n m) (now (out .entry)) ⌝ }
+{
+    put(out, 0, &HEADER);
+    put(out, 24, &[n as u8, m as u8]);
+}
+
+// Writes the image of two lists.
 fn build(spares: &[u16], bads: &[u16], out: &mut [u8])
     requires { ⌜ (length (now out) ≡ 532) × (length (now spares) ≤ 32) × (length (now bads) ≤ 100) ⌝ }
     ensures { λ r. ⌜ now (out .exit) ≡ imageOf (now (spares .entry)) (now (bads .entry)) ⌝ }
 {
     let n = spares.len();
     let m = bads.len();
-    put(out, 0, &HEADER);
-    put(out, 24, &[n as u8, m as u8]);
+    let a = 3 * n;
+    let b = 3 * m;
+    put_head(out, n, m);
     put_list(out, 26, spares);
-    put_list(out, 29 + 3 * n, bads);
-    fill(out, 32 + 3 * n + 3 * m, 500 - 3 * n - 3 * m, 0);
+    put_list(out, 29 + a, bads);
+    fill(out, 32 + a + b, 500 - a - b, 0);
 }
 
-// Writes the image of two lists into 532 lent bytes. With another length, or lists too long for a
-// table, nothing is written.
+// Writes the image of two lists into 532 lent bytes. Into another number of bytes, or of lists too long
+// for a table, it writes nothing.
 pub fn write_image(spares: &[u16], bads: &[u16], out: &mut [u8])
     ensures { λ r. ⌜ now (out .exit) ≡ written (now (spares .entry)) (now (bads .entry)) (now (out .entry)) ⌝ }
 {
@@ -103,19 +115,7 @@ pub fn write_image(spares: &[u16], bads: &[u16], out: &mut [u8])
     build(spares, bads, out);
 }
 
-fn broad(x: u8) -> u32
-    ensures { λ r. ⌜ (r ≡ x) × (r < 256) ⌝ }
-{
-    x as u32
-}
-
-fn count(x: u8) -> usize
-    ensures { λ r. ⌜ r ≡ x ⌝ }
-{
-    x as usize
-}
-
-// An entry as the table holds it: the dead mark, a block's number, or 65535, which is neither.
+// Returns an entry as the table holds it: the dead mark, a block's number, or 65535, which is neither.
 fn narrowed(v: u32) -> u16
     ensures { λ r. ⌜ r ≡ narrow v ⌝ }
 {
@@ -128,6 +128,14 @@ fn narrowed(v: u32) -> u16
     65535
 }
 
+// Returns a byte as a wider number.
+fn broad(x: u8) -> u32
+    ensures { λ r. ⌜ (r ≡ x) × (r < 256) ⌝ }
+{
+    x as u32
+}
+
+// Returns the entry of the three bytes from place i on.
 fn entry_at(s: &[u8], i: usize) -> u16
     requires { ⌜ i + 3 ≤ length (now s) ⌝ }
     ensures { λ r. ⌜ r ≡ entryAt (now (s .entry)) i ⌝ }
@@ -135,19 +143,43 @@ fn entry_at(s: &[u8], i: usize) -> u16
     narrowed(broad(s[i]) * 65536 + broad(s[i + 1]) * 256 + broad(s[i + 2]))
 }
 
-// The first n entries of s, stored at the start of out.
-fn load(s: &[u8], n: usize, out: &mut [u16])
-    requires { ⌜ (3 * n ≤ length (now s)) × (n ≤ length (now out)) ⌝ }
-    ensures { λ r. ⌜ now (out .exit) ≡ entriesFrom n (now (s .entry)) ++ drop n (now (out .entry)) ⌝ }
+// Stores n entries, read from place `at` of s on, at the start of out.
+fn load(s: &[u8], at: usize, n: usize, out: &mut [u16])
+    requires { ⌜ (at + 3 * n ≤ length (now s)) × (n ≤ length (now out)) ⌝ }
+    ensures { λ r. ⌜ now (out .exit) ≡ entriesFrom n (drop at (now (s .entry))) ++ drop n (now (out .entry)) ⌝ }
 {
     let mut k = 0;
     while k < n {
-        out[k] = entry_at(s, 3 * k);
+        out[k] = entry_at(s, at + 3 * k);
         k += 1;
     }
 }
 
-// Whether an image with these counts has all that is no entry: header, marks and zeros.
+// Says whether s begins with the header.
+fn has_header(s: &[u8]) -> bool
+    requires { ⌜ 24 ≤ length (now s) ⌝ }
+    ensures { λ r. ⌜ r ≡ hasHeader (now (s .entry)) ⌝ }
+{
+    same_bytes(&s[..24], &HEADER)
+}
+
+// Says whether FF FF FF is at place k.
+fn is_mark(s: &[u8], k: usize) -> bool
+    requires { ⌜ k + 3 ≤ length (now s) ⌝ }
+    ensures { λ r. ⌜ r ≡ markAt (now (s .entry)) k ⌝ }
+{
+    all_are(&s[k..k + 3], 255)
+}
+
+// Says whether all bytes from place k on are zeros.
+fn ends_in_zeros(s: &[u8], k: usize) -> bool
+    requires { ⌜ k ≤ length (now s) ⌝ }
+    ensures { λ r. ⌜ r ≡ zerosFrom (now (s .entry)) k ⌝ }
+{
+    all_are(&s[k..], 0)
+}
+
+// Says whether all but the entries is as an image with counts of n and m has it.
 fn is_framed(s: &[u8], n: usize, m: usize) -> bool
     requires { ⌜ length (now s) ≡ 532 ⌝ }
     ensures { λ r. ⌜ r ≡ framed (now (s .entry)) n m ⌝ }
@@ -158,14 +190,12 @@ fn is_framed(s: &[u8], n: usize, m: usize) -> bool
     if 100 < m {
         return false;
     }
-    let a = 26 + 3 * n;
-    let b = 29 + 3 * n + 3 * m;
-    same_bytes(&s[..24], &HEADER)
-        & all_are(&s[a..a + 3], 255)
-        & all_are(&s[b..b + 3], 255)
-        & all_are(&s[b + 3..], 0)
+    let a = 3 * n;
+    let b = 3 * m;
+    has_header(s) & is_mark(s, 26 + a) & is_mark(s, 29 + a + b) & ends_in_zeros(s, 32 + a + b)
 }
 
+// Answers that there is no table.
 fn no_image() -> Image
     ensures { λ r. ⌜ r ≡ nothing ⌝ }
 {
@@ -176,16 +206,15 @@ fn no_image() -> Image
     }
 }
 
-// The lists of an image of which all but the entries is well formed.
+// Returns the lists of an image of which all but the entries was tested.
 fn load_lists(s: &[u8], n: usize, m: usize) -> Image
     requires { ⌜ (length (now s) ≡ 532) × (n ≤ 32) × (m ≤ 100) ⌝ }
     ensures { λ r. ⌜ r ≡ loaded (now (s .entry)) n m ⌝ }
 {
     let mut spares = [0u16; 32];
     let mut bads = [0u16; 100];
-    let at = 29 + 3 * n;
-    load(&s[26..], n, &mut spares);
-    load(&s[at..], m, &mut bads);
+    load(s, 26, n, &mut spares);
+    load(s, 29 + 3 * n, m, &mut bads);
     if table::lists_ok(&spares, n, &bads, m) {
         return Image {
             found: Found::Lists(n, m),
@@ -196,15 +225,15 @@ fn load_lists(s: &[u8], n: usize, m: usize) -> Image
     no_image()
 }
 
-// The lists of a well-formed image. A slice of another length is no image.
+// Returns the lists of a well-formed image. A slice of another length is no image.
 pub fn read_image(s: &[u8]) -> Image
     ensures { λ r. ⌜ r ≡ readOf (now (s .entry)) ⌝ }
 {
     if s.len() != 532 {
         return no_image();
     }
-    let n = count(s[24]);
-    let m = count(s[25]);
+    let n = s[24] as usize;
+    let m = s[25] as usize;
     if is_framed(s, n, m) {
         return load_lists(s, n, m);
     }

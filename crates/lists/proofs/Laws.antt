@@ -1,16 +1,15 @@
 -- Laws of membership, of an entry's place, and of the changes that a list of entries meets.
-use mathlib.Core.Path.{_≡_, refl, ap, sym, subst, _∙_}
-use mathlib.Core.Logic.{_⊎_, inl, inr}
+use mathlib.Core.Path.{_≡_, refl, ap, sym, _∙_}
 use mathlib.Core.Bool.{Bool, true, false, not, cond, _&&_, _||_}
 use mathlib.Core.List.{List, [], _∷_, _++_}
-use Prim.Native.Nat.{ℕ, zero, suc, _+_, _≤_, _<_}
+use Prim.Native.Nat.{ℕ, zero, suc, _≤_, _<_}
 use native.Mathlib.Omega.{arith}
 use borrow.Author.Tests.{eq-eqb, ne-eqb, eqb-true, eqb-false, not-true, lt-ltb, le-ltb, ltb-true}
 use lib.Dec.{eqb, ltb}
-use lib.ListN.{length, getD, set, length-set}
+use lib.ListN.{length, getD, length-set}
 use Rattle.geometry.specs.Geometry.{isBlock}
-use Rattle.lists.specs.Lists.{dead, indexOf, memberOf, entryOk, entriesOk, Entries, kill, strike}
-use Rattle.logic.proofs.Bools.{branch, clash, and-left, and-right, and-true, or-left, or-right, or-false}
+use Rattle.lists.specs.Lists.{dead, indexOf, memberOf, entryOk, entriesOk, kill, strike}
+use Rattle.logic.proofs.Bools.{clash, and-left, and-right, and-true, or-left, or-right, or-false}
 
 -- equality of numbers, the other way round
 eqb-swap : (x y : ℕ) → eqb x y ≡ false → eqb y x ≡ false
@@ -19,6 +18,24 @@ eqb-swap x y e = ne-eqb y x (λ q. eqb-false x y e (sym q))
 -- A block is no dead mark.
 pub block-live : (x : ℕ) → isBlock x ≡ true → eqb x dead ≡ false
 block-live x h = let p = ltb-true x 9728 h in ne-eqb x dead (λ q. omega arith)
+
+-- A block that is not among the entries may be beside them, and the dead mark beside those of a spare list.
+pub new-beside : (marks : Bool) (x : ℕ) (l : List ℕ) → isBlock x ≡ true → memberOf x l ≡ false → entryOk marks x l ≡ true
+unfolding entryOk
+new-beside marks x l b n = rw (block-live x b, b, n)
+
+pub dead-beside : (l : List ℕ) → entryOk true dead l ≡ true
+unfolding entryOk
+dead-beside l = refl
+
+-- a list that passed the test: its first entry, and the rest
+pub first-ok : (marks : Bool) (x : ℕ) (l : List ℕ) → entriesOk marks (x ∷ l) ≡ true → entryOk marks x l ≡ true
+unfolding entriesOk
+first-ok marks x l = and-left (entryOk marks x l) (entriesOk marks l)
+
+pub rest-ok : (marks : Bool) (x : ℕ) (l : List ℕ) → entriesOk marks (x ∷ l) ≡ true → entriesOk marks l ≡ true
+unfolding entriesOk
+rest-ok marks x l = and-right (entryOk marks x l) (entriesOk marks l)
 
 -- A member is at its index, and what is no member has the length for one.
 pub index-in : (x : ℕ) (l : List ℕ) → memberOf x l ≡ true → (indexOf x l < length l) × (getD l (indexOf x l) 0 ≡ x)
@@ -92,7 +109,7 @@ unfolding memberOf indexOf
 index-last x [] h = rw (eq-eqb x x refl)
 index-last x (z ∷ zs) h = rw (or-left (eqb z x) (memberOf x zs) h) (ap suc (index-last x zs (or-right (eqb z x) (memberOf x zs) h)))
 
--- What may stand beside the entries may stand after them.
+-- What may be beside the entries may be after them.
 after : (marks : Bool) (x y : ℕ) (l : List ℕ) → entryOk marks y l ≡ true → (isBlock y ≡ true → eqb x y ≡ false) → entryOk marks y (l ++ (x ∷ [])) ≡ true
 unfolding entryOk
 after marks x y l h n = go (eqb y dead) h
@@ -101,7 +118,7 @@ after marks x y l h n = go (eqb y dead) h
     go true h = h
     go false h = let b = and-left (isBlock y) (not (memberOf y l)) h in rw (member-snoc y x l (n b)) h
 
--- the head of a list that passed the test, and the rest
+-- what may be beside a list is not its first entry, and may be beside the rest
 apart : (marks : Bool) (x y : ℕ) (ys : List ℕ) → entryOk marks x (y ∷ ys) ≡ true → isBlock y ≡ true → eqb x y ≡ false
 unfolding entryOk memberOf
 apart marks x y ys h b = go (eqb x dead) refl h
@@ -125,8 +142,8 @@ unfolding entriesOk
 entries-snoc marks [] x h o = and-true (entryOk marks x []) true o refl
 entries-snoc marks (y ∷ ys) x h o =
     and-true (entryOk marks y (ys ++ (x ∷ []))) _
-    (after marks x y ys (and-left (entryOk marks y ys) (entriesOk marks ys) h) (apart marks x y ys o))
-    (entries-snoc marks ys x (and-right (entryOk marks y ys) (entriesOk marks ys) h) (fewer marks x y ys o))
+    (after marks x y ys (first-ok marks y ys h) (apart marks x y ys o))
+    (entries-snoc marks ys x (rest-ok marks y ys h) (fewer marks x y ys o))
 
 -- a list that passed the test holds a block once: past an entry equal to it there is none
 once-only : (marks : Bool) (x y : ℕ) (ys : List ℕ) → entryOk marks y ys ≡ true → isBlock x ≡ true → eqb y x ≡ true → memberOf x ys ≡ false
@@ -174,7 +191,7 @@ pub kill-gone : (marks : Bool) (x : ℕ) (l : List ℕ) → isBlock x ≡ true �
 unfolding memberOf entriesOk kill
 kill-gone marks x [] b h = refl
 kill-gone marks x (y ∷ ys) b h =
-    go (eqb y x) refl (and-left (entryOk marks y ys) (entriesOk marks ys) h) (kill-gone marks x ys b (and-right (entryOk marks y ys) (entriesOk marks ys) h))
+    go (eqb y x) refl (first-ok marks y ys h) (kill-gone marks x ys b (rest-ok marks y ys h))
   where
     go : (t : Bool) → eqb y x ≡ t → entryOk marks y ys ≡ true → memberOf x (kill x ys) ≡ false → memberOf x (kill x (y ∷ ys)) ≡ false
     go true e o r = rw (kill-hit x y ys e, eqb-swap x dead (block-live x b)) (once-only marks x y ys o b e)
@@ -188,18 +205,13 @@ kill-beside x y ys h n = go (eqb y dead) h
     go true h = refl
     go false h = rw (kill-member x y ys (and-left (isBlock y) (not (memberOf y ys)) h) (eqb-swap y x n)) h
 
--- The dead mark may stand beside any entries of a spare list.
-pub dead-beside : (l : List ℕ) → entryOk true dead l ≡ true
-unfolding entryOk
-dead-beside l = refl
-
 -- AN ENTRY KILLED keeps a spare list well formed.
 pub entries-kill : (x : ℕ) (l : List ℕ) → entriesOk true l ≡ true → entriesOk true (kill x l) ≡ true
 unfolding entriesOk kill
 entries-kill x [] h = refl
 entries-kill x (y ∷ ys) h =
-    go (eqb y x) refl (and-left (entryOk true y ys) (entriesOk true ys) h) (and-right (entryOk true y ys) (entriesOk true ys) h)
-    (entries-kill x ys (and-right (entryOk true y ys) (entriesOk true ys) h))
+    go (eqb y x) refl (first-ok true y ys h) (rest-ok true y ys h)
+    (entries-kill x ys (rest-ok true y ys h))
   where
     go : (t : Bool) → eqb y x ≡ t → entryOk true y ys ≡ true → entriesOk true ys ≡ true → entriesOk true (kill x ys) ≡ true → entriesOk true (kill x (y ∷ ys)) ≡ true
     go true e o h r = rw (kill-hit x y ys e) (and-true (entryOk true dead ys) _ (dead-beside ys) h)
@@ -230,8 +242,8 @@ pub entries-strike : (marks : Bool) (x : ℕ) (l : List ℕ) → entriesOk marks
 unfolding entriesOk strike
 entries-strike marks x [] h = refl
 entries-strike marks x (y ∷ ys) h =
-    go (eqb y x) (and-left (entryOk marks y ys) (entriesOk marks ys) h) (and-right (entryOk marks y ys) (entriesOk marks ys) h)
-    (entries-strike marks x ys (and-right (entryOk marks y ys) (entriesOk marks ys) h))
+    go (eqb y x) (first-ok marks y ys h) (rest-ok marks y ys h)
+    (entries-strike marks x ys (rest-ok marks y ys h))
   where
     go : (t : Bool) → entryOk marks y ys ≡ true → entriesOk marks ys ≡ true → entriesOk marks (strike x ys) ≡ true → entriesOk marks (cond t ys (y ∷ strike x ys)) ≡ true
     go true o h r = h
@@ -242,7 +254,7 @@ pub strike-gone : (marks : Bool) (x : ℕ) (l : List ℕ) → isBlock x ≡ true
 unfolding memberOf strike entriesOk
 strike-gone marks x [] b h = refl
 strike-gone marks x (y ∷ ys) b h =
-    go (eqb y x) refl (and-left (entryOk marks y ys) (entriesOk marks ys) h) (strike-gone marks x ys b (and-right (entryOk marks y ys) (entriesOk marks ys) h))
+    go (eqb y x) refl (first-ok marks y ys h) (strike-gone marks x ys b (rest-ok marks y ys h))
   where
     go : (t : Bool) → eqb y x ≡ t → entryOk marks y ys ≡ true → memberOf x (strike x ys) ≡ false → memberOf x (cond t ys (y ∷ strike x ys)) ≡ false
     go true e o r = once-only marks x y ys o b e

@@ -1,10 +1,9 @@
 -- What the tests and searches of a list are at a place of a walk.
 use mathlib.Core.Path.{_≡_, refl, ap, sym, _∙_}
-use mathlib.Core.Bool.{Bool, true, false, not, cond, _&&_, _||_}
+use mathlib.Core.Bool.{Bool, true, false, _||_}
 use mathlib.Core.List.{List, [], _∷_}
-use Prim.Native.Nat.{ℕ, zero, suc, _%_, _+_, _≤_, _-_, _<_}
-use native.Mathlib.Omega.{arith}
-use borrow.Author.Tests.{eq-eqb, ne-eqb, eqb-true, eqb-false, lt-ltb}
+use Prim.Native.Nat.{ℕ, zero, suc, _%_, _+_, _≤_, _<_}
+use borrow.Author.Tests.{eq-eqb, ne-eqb, eqb-true, eqb-false}
 use lib.Dec.{eqb}
 use lib.ListN.{length, drop, getD, set, replicate, drop-of-length-le}
 use lib.Seq.{getD-set-same, getD-set-other}
@@ -64,13 +63,6 @@ seen-by false w seen l x y q n h e =
 
 pub classes-more : (w : ℕ) (seen : List Bool) (l : List ℕ) (x : ℕ) → x % w < length seen → Classes w seen l → Classes w (set seen (x % w) true) (x ∷ l)
 classes-more w seen l x n h y e = seen-by (eqb (y % w) (x % w)) w seen l x y refl n h e
-
--- an entry whose class was not seen, and which is a block, may stand before the rest
-pub entry-new : (marks : Bool) (x : ℕ) (l : List ℕ) → x < 9728 → memberOf x l ≡ false → entryOk marks x l ≡ true
-unfolding entryOk
-entry-new marks x l b h =
-    let n = ne-eqb x 65534 (λ (e : x ≡ 65534). omega (arith, b, e)) in
-    rw (n, lt-ltb _ _ b, h)
 
 -- no class is seen at first
 pub none-seen : (n y : ℕ) → getD {A = Bool} (replicate n false) y false ≡ false

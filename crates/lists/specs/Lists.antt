@@ -17,11 +17,12 @@ unfoldable pub indexOf : ℕ → List ℕ → ℕ
 indexOf x [] = 0
 indexOf x (y ∷ ys) = cond (eqb y x) 0 (suc (indexOf x ys))
 
+-- x is there
 unfoldable pub memberOf : ℕ → List ℕ → Bool
 memberOf x [] = false
 memberOf x (y ∷ ys) = eqb y x || memberOf x ys
 
--- x may stand beside the entries l: a block that is not among them, or, where marks is true, the dead mark
+-- x may be beside the entries l: a block that is not among them, or, where marks is true, the dead mark
 unfoldable pub entryOk : Bool → ℕ → List ℕ → Bool
 entryOk marks x l = cond (eqb x dead) marks (isBlock x && not (memberOf x l))
 

@@ -1,6 +1,6 @@
 -- Tests taken apart and put together.
 use mathlib.Core.Path.{_≡_, refl, sym, _∙_}
-use mathlib.Core.Bool.{Bool, true, false, not, cond, _&&_, _||_, true≢false}
+use mathlib.Core.Bool.{Bool, true, false, cond, _&&_, _||_, true≢false}
 
 -- a property of a choice, by its two cases
 pub branch : {A : Type 0} (P : A → Type 0) (t : Bool) {x y : A} → (t ≡ true → P x) → (t ≡ false → P y) → P (cond t x y)
@@ -37,13 +37,3 @@ or-right false b e = e
 pub or-false : (a b : Bool) → a ≡ false → b ≡ false → (a || b) ≡ false
 or-false true b p q = p
 or-false false b p q = q
-
-pub or-assoc : (a b c : Bool) → (a || b || c) ≡ (a || (b || c))
-or-assoc true b c = refl
-or-assoc false b c = refl
-
--- a Bool is what its being true says
-pub bool-ext : (a b : Bool) → (a ≡ true → b ≡ true) → (b ≡ true → a ≡ true) → a ≡ b
-bool-ext true b f g = sym (f refl)
-bool-ext false true f g = g refl
-bool-ext false false f g = refl

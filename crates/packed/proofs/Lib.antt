@@ -1,2 +1,2 @@
+pub mod Laid
 pub mod Round
-pub mod Stages

@@ -1,178 +1,213 @@
--- Packing loses nothing, and what is a packing is unpacked and packed to itself.
+-- Packing loses nothing of a record that passes code 1, and what a record's words do not mean is refused.
 use mathlib.Core.Path.{_≡_, refl, sym, ap, _∙_}
-use mathlib.Core.Bool.{Bool, true, false, cond, not, _&&_}
-use Prim.Native.Nat.{ℕ, _≤_}
+use mathlib.Core.Bool.{Bool, true, false, cond, not, _&&_, _||_}
+use mathlib.Core.List.{List, [], _∷_, _++_}
+use Prim.Native.Nat.{ℕ, _+_, _≤_, _<_}
 use native.Mathlib.Omega.{arith}
-use borrow.Author.Tests.{eq-eqb, eqb-true, eqb-false, leb-true, le-leb}
-use lib.Dec.{eqb, leb}
-use Rattle.logic.proofs.Bools.{and-left, and-right, and-true}
+use borrow.Author.Tests.{leb-true, ltb-true, le-leb}
+use lib.Dec.{eqb, leb, ltb}
+use lib.ListN.{length, take, drop, getD, length-drop, take-append-drop, drop-of-length-le}
+use lib.Seq.{take-at, drop-at, drop-drop, take-all}
+use Rattle.logic.proofs.Bools.{and-left, and-right, and-false}
+use Rattle.logic.proofs.Walks.{step}
+use Rattle.geometry.specs.Geometry.{isBlock, isSector, spareOf}
+use Rattle.table.specs.declared.Table.{Table}
+use Rattle.table.specs.Tables.{Shaped, tableOk}
+use Rattle.table.proofs.Keeps.{passes}
 use Rattle.drive.specs.declared.Drive.{Drive}
+use Rattle.drive.specs.declared.State.{State}
 use Rattle.drive.specs.declared.Marks.{Marks}
 use Rattle.drive.specs.declared.Offer.{Offer}
 use Rattle.drive.specs.declared.Offer.the-variants as offer
+use Rattle.drive.specs.declared.Access.{Access}
+use Rattle.drive.specs.declared.Access.the-variants as access
 use Rattle.drive.specs.declared.Phase.{Phase}
 use Rattle.drive.specs.declared.Phase.the-variants as phase
 use Rattle.drive.specs.declared.Retry.{Retry}
 use Rattle.drive.specs.declared.Trial.{Trial}
+use Rattle.drive.specs.Records.{retryOk, trialOk, accessOk, phaseOk, stateOk, recordOk}
 use Rattle.drive.specs.Words.{response}
+use Rattle.drive.specs.Values.{Bytewise, Typed}
 use Rattle.packed.specs.declared.Stage.{Stage}
-use Rattle.packed.specs.declared.Flags.{Flags}
-use Rattle.packed.specs.declared.Packed.{Packed}
-use Rattle.packed.specs.Packing.{bit, flag, offerOf, readStage, tryStage, stageOf, retryOf, trialOf, phaseOf, flagsOf, marksOf, packOf, unpackOf, sameStage, areFlags, isStage, isPacking}
+use Rattle.packed.specs.Packing.{bit, flag, pair, low, high, word, bare, readStage, trialStage, stageOf, damaged, phaseOf, packState, packTable, packOf, stageAt, commandAt, stateAt, tableAt, unpackOf}
 
--- A RECORD IS UNPACKED FROM ITS PACKING
+-- A WORD
 
 flag-bit : (b : Bool) → flag (bit b) ≡ b
 flag-bit true = refl
 flag-bit false = refl
 
-offer-back : (o : Offer) → offerOf (response o) ≡ o
-offer-back offer.Command = refl
-offer-back offer.Read = refl
-offer-back offer.Write = refl
-offer-back offer.Verify = refl
-offer-back offer.Act = refl
+low-pair : (a b : ℕ) → a < 256 → low (pair a b) ≡ a
+low-pair a b h = omega arith
 
-retry-back : (r : Retry) → retryOf (readStage r) ≡ r
-retry-back r =
-    λ i. record {
-      block = r .block;
-      sector = r .sector;
-      first = flag-bit (r .first) i;
-      left = r .left;
-      spent = r .spent;
-      threshold = r .threshold;
-      good = flag-bit (r .good) i;
-      seen = record { errors = r .seen .errors; crc = flag-bit (r .seen .crc) i; timeout = flag-bit (r .seen .timeout) i };
+high-pair : (a b : ℕ) → a < 256 → high (pair a b) ≡ b
+high-pair a b h = omega arith
+
+pub word-is : (n : ℕ) → n ≤ 65535 → word n ≡ n
+word-is n h = rw (le-leb n 65535 h)
+
+-- A STAGE
+
+-- Says that a stage's numbers are no longer than their places.
+record Fits (s : Stage) : Type 0 where
+  kind : s .kind < 256
+  left : s .left < 256
+  spent : s .spent < 256
+  sector : s .sector ≤ 65535
+
+sector-fits : (n : ℕ) → isSector n ≡ true → n ≤ 65535
+sector-fits n h = omega (arith, ltb-true n 9792 h)
+
+retry-fits : (r : Retry) → retryOk r ≡ true → Fits (readStage r)
+unfolding retryOk
+retry-fits r h =
+    let b = isBlock (r .block .0) in
+    let s = isSector (r .sector .0) in
+    let e = leb (r .seen .errors + r .left) 255 in
+    let p = leb (r .spent) 89 in
+    let x = and-left (b && s && e) p h in
+    record {
+      kind = omega arith;
+      left = omega (arith, leb-true (r .seen .errors + r .left) 255 (and-right (b && s) e x));
+      spent = omega (arith, leb-true (r .spent) 89 (and-right (b && s && e) p h));
+      sector = sector-fits (r .sector .0) (and-right b s (and-left (b && s) e x));
     }
 
-trial-back : (k : ℕ) (r : Trial) → trialOf (tryStage k r) ≡ r
-trial-back k r =
-    λ i. record {
-      block = r .block;
-      sector = r .sector;
-      spare = flag-bit (r .spare) i;
-      attempts = r .attempts;
-      seen = record { errors = r .seen .errors; crc = flag-bit (r .seen .crc) i; timeout = flag-bit (r .seen .timeout) i };
-    }
+trial-fits : (k n : ℕ) (r : Trial) → k < 256 → trialOk n r ≡ true → Fits (trialStage k r)
+unfolding trialOk
+trial-fits k n r l h =
+    let b = isBlock (r .block .0) in
+    let s = isSector (r .sector .0) in
+    let a = leb (r .attempts) 2 in
+    let x = and-left (b && s) a (and-left (b && s && a) (not (r .spare) || (ltb n 32 && eqb (r .sector .0) (spareOf n .0))) h) in
+    record { kind = l; left = omega arith; spent = omega arith; sector = sector-fits (r .sector .0) (and-right b s x) }
+
+bare-fits : (k n s : ℕ) → k < 256 → s ≤ 65535 → Fits (bare k n s)
+bare-fits k n s h l = record { kind = h; left = omega arith; spent = omega arith; sector = l }
+
+fits : (n : ℕ) (known : Bool) (p : Phase) → phaseOk n known p ≡ true → Fits (stageOf p)
+fits n known phase.Idle h = bare-fits 0 0 0 (omega arith) (omega arith)
+fits n known (phase.Offered o) h = bare-fits 1 (response o) 0 (omega arith) (omega arith)
+fits n known phase.Command h = bare-fits 2 0 0 (omega arith) (omega arith)
+fits n known phase.Data h = bare-fits 3 0 0 (omega arith) (omega arith)
+fits n known (phase.Awaiting (access.Start k)) h = bare-fits 4 k 0 (omega arith) (omega arith)
+fits n known (phase.Awaiting access.Store) h = bare-fits 5 0 0 (omega arith) (omega arith)
+fits n known (phase.Awaiting (access.Read r)) h = retry-fits r (and-right known (retryOk r) h)
+fits n known (phase.Awaiting (access.Write s)) h = bare-fits 7 0 (s .0) (omega arith) (sector-fits (s .0) (and-right known (isSector (s .0)) h))
+fits n known (phase.Awaiting (access.TrialWrite r)) h = trial-fits 8 n r (omega arith) (and-right known (trialOk n r) h)
+fits n known (phase.Awaiting (access.TrialRead r)) h = trial-fits 9 n r (omega arith) (and-right known (trialOk n r) h)
 
 phase-back : (p : Phase) → phaseOf (stageOf p) ≡ p
 phase-back phase.Idle = refl
-phase-back (phase.Offered o) = ap (λ (o : Offer). phase.Offered o) (offer-back o)
+phase-back (phase.Offered offer.Command) = refl
+phase-back (phase.Offered offer.Read) = refl
+phase-back (phase.Offered offer.Write) = refl
+phase-back (phase.Offered offer.Verify) = refl
+phase-back (phase.Offered offer.Act) = refl
 phase-back phase.Command = refl
 phase-back phase.Data = refl
-phase-back (phase.Starting k) = refl
-phase-back phase.Storing = refl
-phase-back (phase.Reading r) = ap (λ (r : Retry). phase.Reading r) (retry-back r)
-phase-back (phase.Writing s) = refl
-phase-back (phase.Trying r) = ap (λ (r : Trial). phase.Trying r) (trial-back 8 r)
-phase-back (phase.Checking r) = ap (λ (r : Trial). phase.Checking r) (trial-back 9 r)
+phase-back (phase.Awaiting (access.Start k)) = refl
+phase-back (phase.Awaiting access.Store) = refl
+phase-back (phase.Awaiting (access.Read r)) = refl
+phase-back (phase.Awaiting (access.Write s)) = refl
+phase-back (phase.Awaiting (access.TrialWrite r)) = refl
+phase-back (phase.Awaiting (access.TrialRead r)) = refl
 
-marks-back : (m : Marks) → marksOf (flagsOf m) ≡ m
-marks-back m = λ i. record { known = flag-bit (m .known) i; changed = flag-bit (m .changed) i; latch = flag-bit (m .latch) i; fresh = flag-bit (m .fresh) i }
+-- A STATE
 
-pub unpacked : (d : Drive) → unpackOf (packOf d) ≡ d
-unpacked d =
+six : (c : List ℕ) → length c ≡ 6 → getD c 0 0 ∷ getD c 1 0 ∷ getD c 2 0 ∷ getD c 3 0 ∷ getD c 4 0 ∷ getD c 5 0 ∷ [] ≡ c
+six c h =
+    let k : length c ≤ 6 = omega arith in
+    let z : drop 6 c ≡ [] = drop-of-length-le c k in
+    sym (step c 0 (omega arith) ∙ ap (λ (l : List ℕ). getD c 0 0 ∷ l) (step c 1 (omega arith) ∙ ap (λ (l : List ℕ). getD c 1 0 ∷ l) (step c 2 (omega arith)
+    ∙ ap (λ (l : List ℕ). getD c 2 0 ∷ l) (step c 3 (omega arith) ∙ ap (λ (l : List ℕ). getD c 3 0 ∷ l) (step c 4 (omega arith)
+    ∙ ap (λ (l : List ℕ). getD c 4 0 ∷ l) (step c 5 (omega arith) ∙ ap (λ (l : List ℕ). getD c 5 0 ∷ l) z))))))
+
+module _ (l : State) (t : Table) (n : ℕ) (ok : stateOk n l ≡ true) (full : length (l .command) ≡ 6) (bytes : Bytewise (l .command)) where
+  abbrev w : List ℕ
+  w = packState l ++ packTable t
+
+  command-back : commandAt w ≡ l .command
+  unfolding packState
+  command-back =
+      let c = l .command in
+      (λ i. low-pair (getD c 0 0) (getD c 1 0) (bytes 0) i ∷ high-pair (getD c 0 0) (getD c 1 0) (bytes 0) i ∷ low-pair (getD c 2 0) (getD c 3 0) (bytes 2) i
+      ∷ high-pair (getD c 2 0) (getD c 3 0) (bytes 2) i ∷ low-pair (getD c 4 0) (getD c 5 0) (bytes 4) i ∷ high-pair (getD c 4 0) (getD c 5 0) (bytes 4) i ∷ [])
+      ∙ six c full
+
+  stage-back : Fits (stageOf (l .phase)) → stageAt w ≡ stageOf (l .phase)
+  unfolding packState
+  stage-back f =
+      let s = stageOf (l .phase) in
+      λ i. record {
+        kind = low-pair (s .kind) (s .detail) (f .kind) i;
+        detail = high-pair (s .kind) (s .detail) (f .kind) i;
+        sector = word-is (s .sector) (f .sector) i;
+        block = s .block;
+        left = low-pair (s .left) (s .errors) (f .left) i;
+        errors = high-pair (s .left) (s .errors) (f .left) i;
+        spent = low-pair (s .spent) (s .threshold) (f .spent) i;
+        threshold = high-pair (s .spent) (s .threshold) (f .spent) i;
+        first = flag-bit (s .first) i;
+        good = flag-bit (s .good) i;
+        spare = flag-bit (s .spare) i;
+        crc = flag-bit (s .crc) i;
+        timeout = flag-bit (s .timeout) i;
+      }
+
+  state-back : stateAt w ≡ l
+  unfolding stateAt packState stateOk
+  state-back =
+      let m = l .marks in
+      let few = leb (l .count) 6 && leb (l .fed) 533 in
+      let p = phaseOk n (m .known) (l .phase) in
+      let x = and-left few p ok in
+      let s = stage-back (fits n (m .known) (l .phase) (and-right few p ok)) in
+      λ i. record {
+        phase = (ap phaseOf s ∙ phase-back (l .phase)) i;
+        marks = record { known = flag-bit (m .known) i; changed = flag-bit (m .changed) i; latch = flag-bit (m .latch) i; fresh = flag-bit (m .fresh) i };
+        command = command-back i;
+        count = word-is (l .count) (omega (arith, leb-true (l .count) 6 (and-left (leb (l .count) 6) (leb (l .fed) 533) x))) i;
+        fed = word-is (l .fed) (omega (arith, leb-true (l .fed) 533 (and-right (leb (l .count) 6) (leb (l .fed) 533) x))) i;
+      }
+
+-- A TABLE
+
+table-back : (l : State) (t : Table) → tableOk t ≡ true → Shaped t → tableAt (packState l ++ packTable t) ≡ t
+unfolding tableAt packState packTable
+table-back l t ok shaped =
+    let p = passes t ok in
     λ i. record {
-      table = d .table;
-      line = record { phase = phase-back (d .line .phase) i; marks = marks-back (d .line .marks) i; command = d .line .command; count = d .line .count; fed = d .line .fed };
+      spares = take-at (t .spares) (t .bads) 32 (shaped .0) i;
+      bads = (ap (take 100) (drop-at (t .spares) (t .bads) 32 (shaped .0)) ∙ take-all 100 (t .bads) (omega (arith, shaped .1))) i;
+      nspares = word-is (t .nspares) (omega (arith, p .few-spares)) i;
+      nbads = word-is (t .nbads) (omega (arith, p .few-bads)) i;
     }
 
--- ITS PACKING IS ONE
+-- A RECORD
 
-same-self : (s : Stage) → sameStage s s ≡ true
-same-self s = rw (eq-eqb (s .sector) (s .sector) refl, eq-eqb (s .block) (s .block) refl, eq-eqb (s .kind) (s .kind) refl, eq-eqb (s .detail) (s .detail) refl, eq-eqb (s .first) (s .first) refl, eq-eqb (s .left) (s .left) refl, eq-eqb (s .spent) (s .spent) refl, eq-eqb (s .threshold) (s .threshold) refl, eq-eqb (s .good) (s .good) refl, eq-eqb (s .spare) (s .spare) refl, eq-eqb (s .errors) (s .errors) refl, eq-eqb (s .crc) (s .crc) refl, eq-eqb (s .timeout) (s .timeout) refl)
+pub unpacked : (d : Drive) → Typed d → recordOk d ≡ true → unpackOf (packOf d) ≡ d
+unfolding packOf recordOk
+unpacked d y ok =
+    let t = tableOk (d .table) in
+    let s = stateOk (d .table .nspares) (d .state) in
+    λ i. record {
+      table = table-back (d .state) (d .table) (and-left t s ok) (y .table) i;
+      state = state-back (d .state) (d .table) (d .table .nspares) (and-right t s ok) (y .full) (y .bytes) i;
+    }
 
-bit-small : (b : Bool) → leb (bit b) 1 ≡ true
-bit-small true = refl
-bit-small false = refl
+-- The words of a table stay where it is packed again.
+pub table-words : (w : List ℕ) → length w ≡ 153 → getD w 19 0 ≤ 65535 → getD w 20 0 ≤ 65535 → packTable (tableAt w) ≡ drop 19 w
+unfolding tableAt packTable
+table-words w h a b =
+    let x : drop 32 (drop 21 w) ≡ drop 53 w = drop-drop 32 21 w in
+    let y : take 100 (drop 53 w) ≡ drop 53 w = take-all 100 (drop 53 w) (omega (arith, length-drop 53 w)) in
+    (λ i. word-is (getD w 19 0) a i ∷ word-is (getD w 20 0) b i ∷ (take 32 (drop 21 w) ++ (y ∙ sym x) i))
+    ∙ ap (λ (l : List ℕ). getD w 19 0 ∷ getD w 20 0 ∷ l) (take-append-drop 32 (drop 21 w))
+    ∙ ap (λ (l : List ℕ). getD w 19 0 ∷ l) (sym (step w 20 (omega arith)))
+    ∙ sym (step w 19 (omega arith))
 
-pub packs : (d : Drive) → isPacking (packOf d .line) ≡ true
-packs d =
-    let m = d .line .marks in
-    let e : sameStage (stageOf (phaseOf (stageOf (d .line .phase)))) (stageOf (d .line .phase)) ≡ true = rw (phase-back (d .line .phase)) (same-self (stageOf (d .line .phase))) in
-    rw (e, bit-small (m .known), bit-small (m .changed), bit-small (m .latch), bit-small (m .fresh))
-
--- WHAT IS A PACKING IS PACKED AGAIN TO ITSELF
-
-pub same-so : (a b : Stage) → sameStage a b ≡ true → a ≡ b
-same-so a b h =
-    let e0 = eqb (a .sector) (b .sector) in
-    let e1 = eqb (a .block) (b .block) in
-    let e2 = eqb (a .kind) (b .kind) in
-    let e3 = eqb (a .detail) (b .detail) in
-    let e4 = eqb (a .first) (b .first) in
-    let e5 = eqb (a .left) (b .left) in
-    let e6 = eqb (a .spent) (b .spent) in
-    let e7 = eqb (a .threshold) (b .threshold) in
-    let e8 = eqb (a .good) (b .good) in
-    let e9 = eqb (a .spare) (b .spare) in
-    let e10 = eqb (a .errors) (b .errors) in
-    let e11 = eqb (a .crc) (b .crc) in
-    let e12 = eqb (a .timeout) (b .timeout) in
-    let x1 = e0 && e1 in
-    let x2 = x1 && e2 in
-    let x3 = x2 && e3 in
-    let x4 = x3 && e4 in
-    let x5 = x4 && e5 in
-    let x6 = x5 && e6 in
-    let x7 = x6 && e7 in
-    let x8 = x7 && e8 in
-    let x9 = x8 && e9 in
-    let x10 = x9 && e10 in
-    let x11 = x10 && e11 in
-    let h12 = h in
-    let p12 = eqb-true (a .timeout) (b .timeout) (and-right x11 e12 h12) in
-    let h11 = and-left x11 e12 h12 in
-    let p11 = eqb-true (a .crc) (b .crc) (and-right x10 e11 h11) in
-    let h10 = and-left x10 e11 h11 in
-    let p10 = eqb-true (a .errors) (b .errors) (and-right x9 e10 h10) in
-    let h9 = and-left x9 e10 h10 in
-    let p9 = eqb-true (a .spare) (b .spare) (and-right x8 e9 h9) in
-    let h8 = and-left x8 e9 h9 in
-    let p8 = eqb-true (a .good) (b .good) (and-right x7 e8 h8) in
-    let h7 = and-left x7 e8 h8 in
-    let p7 = eqb-true (a .threshold) (b .threshold) (and-right x6 e7 h7) in
-    let h6 = and-left x6 e7 h7 in
-    let p6 = eqb-true (a .spent) (b .spent) (and-right x5 e6 h6) in
-    let h5 = and-left x5 e6 h6 in
-    let p5 = eqb-true (a .left) (b .left) (and-right x4 e5 h5) in
-    let h4 = and-left x4 e5 h5 in
-    let p4 = eqb-true (a .first) (b .first) (and-right x3 e4 h4) in
-    let h3 = and-left x3 e4 h4 in
-    let p3 = eqb-true (a .detail) (b .detail) (and-right x2 e3 h3) in
-    let h2 = and-left x2 e3 h3 in
-    let p2 = eqb-true (a .kind) (b .kind) (and-right x1 e2 h2) in
-    let h1 = and-left x1 e2 h2 in
-    let p1 = eqb-true (a .block) (b .block) (and-right e0 e1 h1) in
-    let h0 = and-left e0 e1 h1 in
-    let p0 = eqb-true (a .sector) (b .sector) h0 in
-    λ i. record { sector = p0 i; block = p1 i; kind = p2 i; detail = p3 i; first = p4 i; left = p5 i; spent = p6 i; threshold = p7 i; good = p8 i; spare = p9 i; errors = p10 i; crc = p11 i; timeout = p12 i }
-
-bit-flag : (n : ℕ) → leb n 1 ≡ true → bit (flag n) ≡ n
-bit-flag n h = go (eqb n 0) refl
-  where
-    go : (b : Bool) → eqb n 0 ≡ b → cond (not b) 1 0 ≡ n
-    go true e = sym (eqb-true n 0 e)
-    go false e = let k = eqb-false n 0 e in let l = leb-true n 1 h in omega (arith, k, l)
-
-flags-back : (f : Flags) → areFlags f ≡ true → flagsOf (marksOf f) ≡ f
-flags-back f h =
-    let a = leb (f .known) 1 in
-    let b = leb (f .changed) 1 in
-    let c = leb (f .latch) 1 in
-    let e = leb (f .fresh) 1 in
-    let abc = and-left (a && b && c) e h in
-    let ab = and-left (a && b) c abc in
-    let k = bit-flag (f .known) (and-left a b ab) in
-    let g = bit-flag (f .changed) (and-right a b ab) in
-    let l = bit-flag (f .latch) (and-right (a && b) c abc) in
-    let m = bit-flag (f .fresh) (and-right (a && b && c) e h) in
-    λ i. record { known = k i; changed = g i; latch = l i; fresh = m i }
-
-pub packed-back : (p : Packed) → isPacking (p .line) ≡ true → packOf (unpackOf p) ≡ p
-packed-back p h =
-    let l = p .line in
-    let e = same-so (stageOf (phaseOf (l .stage))) (l .stage) (and-left (isStage (l .stage)) (areFlags (l .flags)) h) in
-    let q = flags-back (l .flags) (and-right (isStage (l .stage)) (areFlags (l .flags)) h) in
-    λ i. record { table = p .table; line = record { count = l .count; fed = l .fed; stage = e i; flags = q i; command = l .command } }
+-- Code 1 refuses a record in the phase that stands for none.
+pub damaged-refused : (d : Drive) → d .state .phase ≡ damaged → recordOk d ≡ false
+unfolding recordOk stateOk
+damaged-refused d e = rw e (and-false (tableOk (d .table)) (leb (d .state .count) 6 && leb (d .state .fed) 533 && false) (and-false (leb (d .state .count) 6 && leb (d .state .fed) 533) false refl))

@@ -1,140 +1,169 @@
--- The record as numbers, for C: how each phase is written, and which numbers are the packing of a record.
-use mathlib.Core.Bool.{Bool, true, false, cond, not, _&&_}
-use Prim.Native.Nat.{ℕ}
+-- The record as words, for C: 153 numbers of 16 bits, each with a meaning of its own. Two bytes share a word.
+use mathlib.Core.Bool.{Bool, true, false, cond, not}
+use mathlib.Core.List.{List, [], _∷_, _++_}
+use Prim.Native.Nat.{ℕ, _+_, _*_, _/_, _%_}
 use lib.Dec.{eqb, leb}
+use lib.ListN.{take, drop, getD}
+use Rattle.table.specs.declared.Table.{Table}
 use Rattle.drive.specs.declared.Drive.{Drive}
-use Rattle.drive.specs.declared.Line.{Line}
+use Rattle.drive.specs.declared.State.{State}
 use Rattle.drive.specs.declared.Marks.{Marks}
-use Rattle.drive.specs.declared.Offer.{Offer}
 use Rattle.drive.specs.declared.Offer.the-variants as offer
+use Rattle.drive.specs.declared.Access.{Access}
+use Rattle.drive.specs.declared.Access.the-variants as access
 use Rattle.drive.specs.declared.Phase.{Phase}
 use Rattle.drive.specs.declared.Phase.the-variants as phase
+use Rattle.drive.specs.declared.Seen.{Seen}
 use Rattle.drive.specs.declared.Retry.{Retry}
 use Rattle.drive.specs.declared.Trial.{Trial}
 use Rattle.drive.specs.Words.{response}
 use Rattle.packed.specs.declared.Stage.{Stage}
-use Rattle.packed.specs.declared.Flags.{Flags}
-use Rattle.packed.specs.declared.PackedLine.{PackedLine}
-use Rattle.packed.specs.declared.Packed.{Packed}
 
+-- WORDS
+
+-- Returns a flag as a word, and a word as a flag: one that is not 0 is true.
 abbrev pub bit : Bool → ℕ
 bit b = cond b 1 0
 
 abbrev pub flag : ℕ → Bool
 flag n = not (eqb n 0)
 
-abbrev pub offerOf : ℕ → Offer
-offerOf n =
-    cond (eqb n 0x02) offer.Read (cond (eqb n 0x03) offer.Write (cond (eqb n 0x04) offer.Verify (cond (eqb n 0x06) offer.Act offer.Command)))
+-- Returns two bytes as a word, and the bytes of a word.
+abbrev pub pair : ℕ → ℕ → ℕ
+pair a b = a + 256 * b
 
--- PACKING
+abbrev pub low : ℕ → ℕ
+low n = n % 256
 
--- a phase with no more than a number and a sector
+abbrev pub high : ℕ → ℕ
+high n = n / 256
+
+-- Returns a number as a word. No record that passes code 1 has a larger one.
+abbrev pub word : ℕ → ℕ
+word n = cond (leb n 65535) n 65535
+
+-- A PHASE AS A STAGE: its kind is 0 to 9, and what a phase does not have is 0
+
 abbrev pub bare : ℕ → ℕ → ℕ → Stage
-bare k n s = record { sector = s; block = 0; kind = k; detail = n; first = 0; left = 0; spent = 0; threshold = 0; good = 0; spare = 0; errors = 0; crc = 0; timeout = 0 }
+bare k n s =
+    record { kind = k; detail = n; sector = s; block = 0; left = 0; errors = 0; spent = 0; threshold = 0; first = false; good = false; spare = false; crc = false; timeout = false }
 
 abbrev pub readStage : Retry → Stage
 readStage r =
-    record { sector = r .sector .0; block = r .block .0; kind = 6; detail = 0; first = bit (r .first); left = r .left; spent = r .spent; threshold = r .threshold; good = bit (r .good); spare = 0; errors = r .seen .errors; crc = bit (r .seen .crc); timeout = bit (r .seen .timeout) }
+    record { kind = 6; detail = 0; sector = r .sector .0; block = r .block .0; left = r .left; errors = r .seen .errors; spent = r .spent; threshold = r .threshold; first = r .first; good = r .good; spare = false; crc = r .seen .crc; timeout = r .seen .timeout }
 
-abbrev pub tryStage : ℕ → Trial → Stage
-tryStage k r =
-    record { sector = r .sector .0; block = r .block .0; kind = k; detail = r .attempts; first = 0; left = 0; spent = 0; threshold = 0; good = 0; spare = bit (r .spare); errors = r .seen .errors; crc = bit (r .seen .crc); timeout = bit (r .seen .timeout) }
+abbrev pub trialStage : ℕ → Trial → Stage
+trialStage k r =
+    record { kind = k; detail = r .attempts; sector = r .sector .0; block = r .block .0; left = 0; errors = r .seen .errors; spent = 0; threshold = 0; first = false; good = false; spare = r .spare; crc = r .seen .crc; timeout = r .seen .timeout }
+
+abbrev pub accessStage : Access → Stage
+accessStage (access.Start k) = bare 4 k 0
+accessStage access.Store = bare 5 0 0
+accessStage (access.Read r) = readStage r
+accessStage (access.Write s) = bare 7 0 (s .0)
+accessStage (access.TrialWrite r) = trialStage 8 r
+accessStage (access.TrialRead r) = trialStage 9 r
 
 abbrev pub stageOf : Phase → Stage
 stageOf phase.Idle = bare 0 0 0
 stageOf (phase.Offered o) = bare 1 (response o) 0
 stageOf phase.Command = bare 2 0 0
 stageOf phase.Data = bare 3 0 0
-stageOf (phase.Starting k) = bare 4 k 0
-stageOf phase.Storing = bare 5 0 0
-stageOf (phase.Reading r) = readStage r
-stageOf (phase.Writing s) = bare 7 0 (s .0)
-stageOf (phase.Trying r) = tryStage 8 r
-stageOf (phase.Checking r) = tryStage 9 r
+stageOf (phase.Awaiting x) = accessStage x
 
-abbrev pub flagsOf : Marks → Flags
-flagsOf m = record { known = bit (m .known); changed = bit (m .changed); latch = bit (m .latch); fresh = bit (m .fresh) }
+-- A STAGE AS A PHASE. A kind or an offer that there is not becomes a start that asked for 255 reads, which code 1 refuses.
 
-abbrev pub packLine : Line → PackedLine
-packLine l = record { count = l .count; fed = l .fed; stage = stageOf (l .phase); flags = flagsOf (l .marks); command = l .command }
+abbrev pub damaged : Phase
+damaged = phase.Awaiting (access.Start 255)
 
--- the table holds numbers alone, and is packed as it is
-abbrev pub packOf : Drive → Packed
-packOf d = record { table = d .table; line = packLine (d .line) }
+abbrev pub offered : ℕ → Phase
+offered n =
+    cond (eqb n 0x01) (phase.Offered offer.Command)
+    (cond (eqb n 0x02) (phase.Offered offer.Read)
+    (cond (eqb n 0x03) (phase.Offered offer.Write)
+    (cond (eqb n 0x04) (phase.Offered offer.Verify) (cond (eqb n 0x06) (phase.Offered offer.Act) damaged))))
 
--- UNPACKING
+abbrev pub seenOf : Stage → Seen
+seenOf s = record { errors = s .errors; crc = s .crc; timeout = s .timeout }
 
 abbrev pub retryOf : Stage → Retry
 retryOf s =
-    record {
-      block = record { 0 = s .block };
-      sector = record { 0 = s .sector };
-      first = flag (s .first);
-      left = s .left;
-      spent = s .spent;
-      threshold = s .threshold;
-      good = flag (s .good);
-      seen = record { errors = s .errors; crc = flag (s .crc); timeout = flag (s .timeout) };
-    }
+    record { block = record { 0 = s .block }; sector = record { 0 = s .sector }; first = s .first; left = s .left; spent = s .spent; threshold = s .threshold; good = s .good; seen = seenOf s }
 
 abbrev pub trialOf : Stage → Trial
-trialOf s =
-    record {
-      block = record { 0 = s .block };
-      sector = record { 0 = s .sector };
-      spare = flag (s .spare);
-      attempts = s .detail;
-      seen = record { errors = s .errors; crc = flag (s .crc); timeout = flag (s .timeout) };
-    }
-
--- the phase of this kind
-abbrev pub phaseAt : ℕ → Stage → Phase
-phaseAt k s =
-    cond (eqb k 1) (phase.Offered (offerOf (s .detail)))
-    (cond (eqb k 2) phase.Command
-    (cond (eqb k 3) phase.Data
-    (cond (eqb k 4) (phase.Starting (s .detail))
-    (cond (eqb k 5) phase.Storing
-    (cond (eqb k 6) (phase.Reading (retryOf s))
-    (cond (eqb k 7) (phase.Writing (record { 0 = s .sector }))
-    (cond (eqb k 8) (phase.Trying (trialOf s)) (cond (eqb k 9) (phase.Checking (trialOf s)) phase.Idle))))))))
+trialOf s = record { block = record { 0 = s .block }; sector = record { 0 = s .sector }; spare = s .spare; attempts = s .detail; seen = seenOf s }
 
 abbrev pub phaseOf : Stage → Phase
-phaseOf s = phaseAt (s .kind) s
+phaseOf s =
+    cond (eqb (s .kind) 0) phase.Idle
+    (cond (eqb (s .kind) 1) (offered (s .detail))
+    (cond (eqb (s .kind) 2) phase.Command
+    (cond (eqb (s .kind) 3) phase.Data
+    (cond (eqb (s .kind) 4) (phase.Awaiting (access.Start (s .detail)))
+    (cond (eqb (s .kind) 5) (phase.Awaiting access.Store)
+    (cond (eqb (s .kind) 6) (phase.Awaiting (access.Read (retryOf s)))
+    (cond (eqb (s .kind) 7) (phase.Awaiting (access.Write (record { 0 = s .sector })))
+    (cond (eqb (s .kind) 8) (phase.Awaiting (access.TrialWrite (trialOf s)))
+    (cond (eqb (s .kind) 9) (phase.Awaiting (access.TrialRead (trialOf s))) damaged)))))))))
 
-abbrev pub marksOf : Flags → Marks
-marksOf f = record { known = flag (f .known); changed = flag (f .changed); latch = flag (f .latch); fresh = flag (f .fresh) }
+-- PACKING
 
-abbrev pub unpackLine : PackedLine → Line
-unpackLine p = record { phase = phaseOf (p .stage); marks = marksOf (p .flags); command = p .command; count = p .count; fed = p .fed }
+-- Returns the 19 words of a state.
+abbrev pub stateWords : Marks → Stage → State → List ℕ
+stateWords m s l =
+    bit (m .known) ∷ bit (m .changed) ∷ bit (m .latch) ∷ bit (m .fresh)
+    ∷ pair (s .kind) (s .detail) ∷ word (s .sector) ∷ s .block ∷ pair (s .left) (s .errors) ∷ pair (s .spent) (s .threshold)
+    ∷ bit (s .first) ∷ bit (s .good) ∷ bit (s .spare) ∷ bit (s .crc) ∷ bit (s .timeout) ∷ word (l .count) ∷ word (l .fed)
+    ∷ pair (getD (l .command) 0 0) (getD (l .command) 1 0) ∷ pair (getD (l .command) 2 0) (getD (l .command) 3 0)
+    ∷ pair (getD (l .command) 4 0) (getD (l .command) 5 0) ∷ []
 
-abbrev pub unpackOf : Packed → Drive
-unpackOf p = record { table = p .table; line = unpackLine (p .line) }
+unfoldable pub packState : State → List ℕ
+packState l = stateWords (l .marks) (stageOf (l .phase)) l
 
--- WHICH NUMBERS ARE A PACKING: packing what they unpack to gives them again
+-- Returns the 134 words of a table.
+unfoldable pub packTable : Table → List ℕ
+packTable t = word (t .nspares) ∷ word (t .nbads) ∷ (t .spares ++ t .bads)
 
-abbrev pub sameStage : Stage → Stage → Bool
-sameStage a b =
-    eqb (a .sector) (b .sector)
-    && eqb (a .block) (b .block)
-    && eqb (a .kind) (b .kind)
-    && eqb (a .detail) (b .detail)
-    && eqb (a .first) (b .first)
-    && eqb (a .left) (b .left)
-    && eqb (a .spent) (b .spent)
-    && eqb (a .threshold) (b .threshold)
-    && eqb (a .good) (b .good)
-    && eqb (a .spare) (b .spare)
-    && eqb (a .errors) (b .errors)
-    && eqb (a .crc) (b .crc)
-    && eqb (a .timeout) (b .timeout)
+unfoldable pub packOf : Drive → List ℕ
+packOf d = packState (d .state) ++ packTable (d .table)
 
-abbrev pub areFlags : Flags → Bool
-areFlags f = leb (f .known) 1 && leb (f .changed) 1 && leb (f .latch) 1 && leb (f .fresh) 1
+-- UNPACKING
 
-abbrev pub isStage : Stage → Bool
-isStage s = sameStage (stageOf (phaseOf s)) s
+abbrev pub marksAt : List ℕ → Marks
+marksAt w = record { known = flag (getD w 0 0); changed = flag (getD w 1 0); latch = flag (getD w 2 0); fresh = flag (getD w 3 0) }
 
-abbrev pub isPacking : PackedLine → Bool
-isPacking p = isStage (p .stage) && areFlags (p .flags)
+abbrev pub stageAt : List ℕ → Stage
+stageAt w =
+    record {
+      kind = low (getD w 4 0);
+      detail = high (getD w 4 0);
+      sector = getD w 5 0;
+      block = getD w 6 0;
+      left = low (getD w 7 0);
+      errors = high (getD w 7 0);
+      spent = low (getD w 8 0);
+      threshold = high (getD w 8 0);
+      first = flag (getD w 9 0);
+      good = flag (getD w 10 0);
+      spare = flag (getD w 11 0);
+      crc = flag (getD w 12 0);
+      timeout = flag (getD w 13 0);
+    }
+
+abbrev pub commandAt : List ℕ → List ℕ
+commandAt w = low (getD w 16 0) ∷ high (getD w 16 0) ∷ low (getD w 17 0) ∷ high (getD w 17 0) ∷ low (getD w 18 0) ∷ high (getD w 18 0) ∷ []
+
+unfoldable pub stateAt : List ℕ → State
+stateAt w = record { phase = phaseOf (stageAt w); marks = marksAt w; command = commandAt w; count = getD w 14 0; fed = getD w 15 0 }
+
+abbrev pub sparesAt : List ℕ → List ℕ
+sparesAt w = take 32 (drop 21 w)
+
+abbrev pub badsAt : List ℕ → List ℕ
+badsAt w = take 100 (drop 53 w)
+
+unfoldable pub tableAt : List ℕ → Table
+tableAt w = record { spares = sparesAt w; bads = badsAt w; nspares = getD w 19 0; nbads = getD w 20 0 }
+
+abbrev pub unpackOf : List ℕ → Drive
+unpackOf w = record { table = tableAt w; state = stateAt w }

@@ -1,76 +1,109 @@
-// The record as a C program holds it: numbers alone. Packing writes the phase out, unpacking reads it, and
-// what is no packing of any record is told apart.
+// The record as a C program holds it: 153 words of 16 bits. The state is packed into the first 19; the
+// table's counts and entries are the others. Any words are unpacked: a flag that is not 0 is true, and
+// a phase or an offer that there is not becomes a phase that code 1 refuses.
 ghost use mathlib.Core.Path.{_≡_};
+ghost use mathlib.Core.List.{_++_};
+ghost use Prim.Native.Nat.{_+_, _≤_};
+ghost use lib.ListN.{length, take, drop, getD};
+ghost use Rattle.buffer.specs.Runs.{over};
 ghost use Rattle.drive.specs.Words.{response};
-ghost use Rattle.packed.specs.Packing.{bit, flag, offerOf, bare, readStage, tryStage, stageOf, retryOf, trialOf, phaseOf, sameStage, flagsOf, marksOf, isStage, areFlags, isPacking, packLine, unpackLine, packOf, unpackOf};
-use drive::Drive;
-use drive::Line;
+ghost use Rattle.packed.specs.Packing.{bit, flag, pair, low, high, word, bare, readStage, trialStage, accessStage, stageOf};
+ghost use Rattle.packed.specs.Packing.{damaged, offered, seenOf, retryOf, trialOf, phaseOf, packState, packTable};
+ghost use Rattle.packed.specs.Packing.{marksAt, stageAt, commandAt, stateAt, sparesAt, badsAt, tableAt};
+use drive::Access;
 use drive::Marks;
 use drive::Offer;
 use drive::Phase;
 use drive::Retry;
 use drive::Seen;
+use drive::State;
 use drive::Trial;
 use geometry::Block;
 use geometry::Sector;
 use table::Table;
 
-// Where the drive stands. kind is the phase, 0 to 9, in the order of the phases; detail is the offer's
-// response byte, the start's reads, or the attempts begun. What a phase does not have is 0.
-#[repr(C)]
+// Holds a record's words.
+pub type Words = [u16; 153];
+
+// Holds any phase. kind is 0 idle, 1 offered, 2 command, 3 data, 4 start, 5 store, 6 read, 7 write, 8 trial
+// write, 9 trial read; detail is the offer's response byte, the start's reads, or the attempts begun.
 pub struct Stage {
-    pub sector: u32,
-    pub block: u16,
     pub kind: u8,
     pub detail: u8,
-    pub first: u8,
+    pub sector: u32,
+    pub block: u16,
     pub left: u8,
+    pub errors: u8,
     pub spent: u8,
     pub threshold: u8,
-    pub good: u8,
-    pub spare: u8,
-    pub errors: u8,
-    pub crc: u8,
-    pub timeout: u8,
+    pub first: bool,
+    pub good: bool,
+    pub spare: bool,
+    pub crc: bool,
+    pub timeout: bool,
 }
 
-// The marks, each 0 or 1.
-#[repr(C)]
-pub struct Flags {
-    pub known: u8,
-    pub changed: u8,
-    pub latch: u8,
-    pub fresh: u8,
-}
-
-#[repr(C)]
-pub struct PackedLine {
-    pub count: usize,
-    pub fed: usize,
-    pub stage: Stage,
-    pub flags: Flags,
-    pub command: [u8; 6],
-}
-
-#[repr(C)]
-pub struct Packed {
-    pub table: Table,
-    pub line: PackedLine,
-}
-
-fn as_bit(b: bool) -> u8
+// Returns a flag as a word.
+fn bit(b: bool) -> u16
     ensures { λ r. ⌜ r ≡ bit b ⌝ }
 {
     if b { 1 } else { 0 }
 }
 
-fn as_flag(n: u8) -> bool
-    ensures { λ r. ⌜ r ≡ flag n ⌝ }
+// Returns a word as a flag.
+fn flag(w: u16) -> bool
+    ensures { λ r. ⌜ r ≡ flag w ⌝ }
 {
-    !(n == 0)
+    !(w == 0)
 }
 
-pub fn as_response(o: Offer) -> u8
+// Returns two bytes as a word.
+fn pair(a: u8, b: u8) -> u16
+    ensures { λ r. ⌜ r ≡ pair a b ⌝ }
+{
+    a as u16 + 256 * b as u16
+}
+
+// Returns the first byte of a word.
+fn low(w: u16) -> u8
+    ensures { λ r. ⌜ r ≡ low w ⌝ }
+{
+    (w % 256) as u8
+}
+
+// Returns the second byte of a word.
+fn high(w: u16) -> u8
+    ensures { λ r. ⌜ r ≡ high w ⌝ }
+{
+    (w / 256) as u8
+}
+
+// Returns a number as a word.
+fn word(n: usize) -> u16
+    ensures { λ r. ⌜ r ≡ word n ⌝ }
+{
+    if n <= 65535 {
+        return n as u16;
+    }
+    65535
+}
+
+// Returns a word as a number.
+pub fn number(w: u16) -> usize
+    ensures { λ r. ⌜ r ≡ w ⌝ }
+{
+    w as usize
+}
+
+// Returns a word as a longer one.
+fn wide(w: u16) -> u32
+    ensures { λ r. ⌜ r ≡ w ⌝ }
+{
+    w as u32
+}
+
+// Returns the response byte of an offer.
+pub fn response(o: Offer) -> u8
     ensures { λ r. ⌜ r ≡ response o ⌝ }
 {
     match o {
@@ -82,308 +115,337 @@ pub fn as_response(o: Offer) -> u8
     }
 }
 
-fn as_offer(n: u8) -> Offer
-    ensures { λ r. ⌜ r ≡ offerOf n ⌝ }
-{
-    if n == 0x02 {
-        return Offer::Read;
-    }
-    if n == 0x03 {
-        return Offer::Write;
-    }
-    if n == 0x04 {
-        return Offer::Verify;
-    }
-    if n == 0x06 {
-        return Offer::Act;
-    }
-    Offer::Command
-}
-
-// A phase with at most one number.
-fn plain(kind: u8, detail: u8, sector: u32) -> Stage
+// Returns the stage of a phase with at most a detail and a sector.
+fn bare(kind: u8, detail: u8, sector: u32) -> Stage
     ensures { λ r. ⌜ r ≡ bare kind detail sector ⌝ }
 {
     Stage {
-        sector: sector,
-        block: 0,
         kind: kind,
         detail: detail,
-        first: 0,
+        sector: sector,
+        block: 0,
         left: 0,
+        errors: 0,
         spent: 0,
         threshold: 0,
-        good: 0,
-        spare: 0,
-        errors: 0,
-        crc: 0,
-        timeout: 0,
+        first: false,
+        good: false,
+        spare: false,
+        crc: false,
+        timeout: false,
     }
 }
 
-fn pack_retry(r: Retry) -> Stage
+// Returns the stage of a read command.
+fn read_stage(r: Retry) -> Stage
     ensures { λ x. ⌜ x ≡ readStage r ⌝ }
 {
     Stage {
-        sector: r.sector.0,
-        block: r.block.0,
         kind: 6,
         detail: 0,
-        first: as_bit(r.first),
-        left: r.left,
-        spent: r.spent,
-        threshold: r.threshold,
-        good: as_bit(r.good),
-        spare: 0,
-        errors: r.seen.errors,
-        crc: as_bit(r.seen.crc),
-        timeout: as_bit(r.seen.timeout),
-    }
-}
-
-fn pack_trial(kind: u8, r: Trial) -> Stage
-    ensures { λ x. ⌜ x ≡ tryStage kind r ⌝ }
-{
-    Stage {
         sector: r.sector.0,
         block: r.block.0,
-        kind: kind,
-        detail: r.attempts,
-        first: 0,
-        left: 0,
-        spent: 0,
-        threshold: 0,
-        good: 0,
-        spare: as_bit(r.spare),
+        left: r.left,
         errors: r.seen.errors,
-        crc: as_bit(r.seen.crc),
-        timeout: as_bit(r.seen.timeout),
+        spent: r.spent,
+        threshold: r.threshold,
+        first: r.first,
+        good: r.good,
+        spare: false,
+        crc: r.seen.crc,
+        timeout: r.seen.timeout,
     }
 }
 
-fn pack_phase(p: Phase) -> Stage
+// Returns the stage of a trial.
+fn trial_stage(kind: u8, r: Trial) -> Stage
+    ensures { λ x. ⌜ x ≡ trialStage kind r ⌝ }
+{
+    Stage {
+        kind: kind,
+        detail: r.attempts,
+        sector: r.sector.0,
+        block: r.block.0,
+        left: 0,
+        errors: r.seen.errors,
+        spent: 0,
+        threshold: 0,
+        first: false,
+        good: false,
+        spare: r.spare,
+        crc: r.seen.crc,
+        timeout: r.seen.timeout,
+    }
+}
+
+// Returns the stage of an awaited access.
+fn access_stage(x: Access) -> Stage
+    ensures { λ r. ⌜ r ≡ accessStage x ⌝ }
+{
+    match x {
+        Access::Start(k) => bare(4, k, 0),
+        Access::Store => bare(5, 0, 0),
+        Access::Read(r) => read_stage(r),
+        Access::Write(s) => bare(7, 0, s.0),
+        Access::TrialWrite(r) => trial_stage(8, r),
+        Access::TrialRead(r) => trial_stage(9, r),
+    }
+}
+
+// Returns the stage of a phase.
+fn stage_of(p: Phase) -> Stage
     ensures { λ r. ⌜ r ≡ stageOf p ⌝ }
 {
     match p {
-        Phase::Idle => plain(0, 0, 0),
-        Phase::Offered(o) => plain(1, as_response(o), 0),
-        Phase::Command => plain(2, 0, 0),
-        Phase::Data => plain(3, 0, 0),
-        Phase::Starting(k) => plain(4, k, 0),
-        Phase::Storing => plain(5, 0, 0),
-        Phase::Reading(r) => pack_retry(r),
-        Phase::Writing(s) => plain(7, 0, s.0),
-        Phase::Trying(r) => pack_trial(8, r),
-        Phase::Checking(r) => pack_trial(9, r),
+        Phase::Idle => bare(0, 0, 0),
+        Phase::Offered(o) => bare(1, response(o), 0),
+        Phase::Command => bare(2, 0, 0),
+        Phase::Data => bare(3, 0, 0),
+        Phase::Awaiting(x) => access_stage(x),
     }
 }
 
-fn met(s: Stage) -> Seen
-    ensures { λ r. ⌜ r ≡ record { errors = s .errors; crc = flag (s .crc); timeout = flag (s .timeout) } ⌝ }
+// Returns a phase that code 1 refuses.
+fn damaged() -> Phase
+    ensures { λ r. ⌜ r ≡ damaged ⌝ }
+{
+    Phase::Awaiting(Access::Start(255))
+}
+
+// Returns the phase with the offer of a response byte.
+fn offered(n: u8) -> Phase
+    ensures { λ r. ⌜ r ≡ offered n ⌝ }
+{
+    match n {
+        0x01 => Phase::Offered(Offer::Command),
+        0x02 => Phase::Offered(Offer::Read),
+        0x03 => Phase::Offered(Offer::Write),
+        0x04 => Phase::Offered(Offer::Verify),
+        0x06 => Phase::Offered(Offer::Act),
+        _ => damaged(),
+    }
+}
+
+// Returns what a stage's command has met.
+fn seen_of(s: Stage) -> Seen
+    ensures { λ r. ⌜ r ≡ seenOf s ⌝ }
 {
     Seen {
         errors: s.errors,
-        crc: as_flag(s.crc),
-        timeout: as_flag(s.timeout),
+        crc: s.crc,
+        timeout: s.timeout,
     }
 }
 
-fn unpack_retry(s: Stage) -> Retry
+// Returns the read command of a stage.
+fn retry_of(s: Stage) -> Retry
     ensures { λ r. ⌜ r ≡ retryOf s ⌝ }
 {
     Retry {
         block: Block(s.block),
         sector: Sector(s.sector),
-        first: as_flag(s.first),
+        first: s.first,
         left: s.left,
         spent: s.spent,
         threshold: s.threshold,
-        good: as_flag(s.good),
-        seen: met(s),
+        good: s.good,
+        seen: seen_of(s),
     }
 }
 
-fn unpack_trial(s: Stage) -> Trial
+// Returns the trial of a stage.
+fn trial_of(s: Stage) -> Trial
     ensures { λ r. ⌜ r ≡ trialOf s ⌝ }
 {
     Trial {
         block: Block(s.block),
         sector: Sector(s.sector),
-        spare: as_flag(s.spare),
+        spare: s.spare,
         attempts: s.detail,
-        seen: met(s),
+        seen: seen_of(s),
     }
 }
 
-fn unpack_phase(s: Stage) -> Phase
+// Returns the phase of a stage.
+fn phase_of(s: Stage) -> Phase
     ensures { λ r. ⌜ r ≡ phaseOf s ⌝ }
 {
     let k = s.kind;
-    if k == 1 {
-        return Phase::Offered(as_offer(s.detail));
+    match k {
+        0 => Phase::Idle,
+        1 => offered(s.detail),
+        2 => Phase::Command,
+        3 => Phase::Data,
+        4 => Phase::Awaiting(Access::Start(s.detail)),
+        5 => Phase::Awaiting(Access::Store),
+        6 => Phase::Awaiting(Access::Read(retry_of(s))),
+        7 => Phase::Awaiting(Access::Write(Sector(s.sector))),
+        8 => Phase::Awaiting(Access::TrialWrite(trial_of(s))),
+        9 => Phase::Awaiting(Access::TrialRead(trial_of(s))),
+        _ => damaged(),
     }
-    if k == 2 {
-        return Phase::Command;
-    }
-    if k == 3 {
-        return Phase::Data;
-    }
-    if k == 4 {
-        return Phase::Starting(s.detail);
-    }
-    if k == 5 {
-        return Phase::Storing;
-    }
-    if k == 6 {
-        return Phase::Reading(unpack_retry(s));
-    }
-    if k == 7 {
-        return Phase::Writing(Sector(s.sector));
-    }
-    if k == 8 {
-        return Phase::Trying(unpack_trial(s));
-    }
-    if k == 9 {
-        return Phase::Checking(unpack_trial(s));
-    }
-    Phase::Idle
 }
 
-fn same(a: Stage, b: Stage) -> bool
-    ensures { λ r. ⌜ r ≡ sameStage a b ⌝ }
+// Returns the words of a state.
+pub fn pack_state(l: State) -> [u16; 19]
+    ensures { λ r. ⌜ r ≡ packState l ⌝ }
 {
-    (a.sector == b.sector)
-        & (a.block == b.block)
-        & (a.kind == b.kind)
-        & (a.detail == b.detail)
-        & (a.first == b.first)
-        & (a.left == b.left)
-        & (a.spent == b.spent)
-        & (a.threshold == b.threshold)
-        & (a.good == b.good)
-        & (a.spare == b.spare)
-        & (a.errors == b.errors)
-        & (a.crc == b.crc)
-        & (a.timeout == b.timeout)
+    let p = l.phase;
+    let m = l.marks;
+    let c = l.command;
+    let s = stage_of(p);
+    [
+        bit(m.known),
+        bit(m.changed),
+        bit(m.latch),
+        bit(m.fresh),
+        pair(s.kind, s.detail),
+        word(s.sector as usize),
+        s.block,
+        pair(s.left, s.errors),
+        pair(s.spent, s.threshold),
+        bit(s.first),
+        bit(s.good),
+        bit(s.spare),
+        bit(s.crc),
+        bit(s.timeout),
+        word(l.count),
+        word(l.fed),
+        pair(c[0], c[1]),
+        pair(c[2], c[3]),
+        pair(c[4], c[5]),
+    ]
 }
 
-fn pack_marks(m: Marks) -> Flags
-    ensures { λ r. ⌜ r ≡ flagsOf m ⌝ }
-{
-    Flags {
-        known: as_bit(m.known),
-        changed: as_bit(m.changed),
-        latch: as_bit(m.latch),
-        fresh: as_bit(m.fresh),
-    }
-}
-
-fn unpack_marks(f: Flags) -> Marks
-    ensures { λ r. ⌜ r ≡ marksOf f ⌝ }
+// Returns the marks of a record's words.
+fn marks_at(w: &[u16]) -> Marks
+    requires { ⌜ length (now w) ≡ 153 ⌝ }
+    ensures { λ r. ⌜ r ≡ marksAt (now (w .entry)) ⌝ }
 {
     Marks {
-        known: as_flag(f.known),
-        changed: as_flag(f.changed),
-        latch: as_flag(f.latch),
-        fresh: as_flag(f.fresh),
+        known: flag(w[0]),
+        changed: flag(w[1]),
+        latch: flag(w[2]),
+        fresh: flag(w[3]),
     }
 }
 
-fn are_flags(f: Flags) -> bool
-    ensures { λ r. ⌜ r ≡ areFlags f ⌝ }
+// Returns the stage of a record's words.
+fn stage_at(w: &[u16]) -> Stage
+    requires { ⌜ length (now w) ≡ 153 ⌝ }
+    ensures { λ r. ⌜ r ≡ stageAt (now (w .entry)) ⌝ }
 {
-    (f.known <= 1) & (f.changed <= 1) & (f.latch <= 1) & (f.fresh <= 1)
-}
-
-// Whether this is the packing of a phase: packing what it unpacks to gives it again. Each phase is asked
-// for the fields that it has.
-fn is_stage(s: Stage) -> bool
-    ensures { λ r. ⌜ r ≡ isStage s ⌝ }
-{
-    let k = s.kind;
-    if k == 1 {
-        return same(plain(1, as_response(as_offer(s.detail)), 0), s);
-    }
-    if k == 4 {
-        return same(plain(4, s.detail, 0), s);
-    }
-    if k == 6 {
-        return same(pack_retry(unpack_retry(s)), s);
-    }
-    if k == 7 {
-        return same(plain(7, 0, s.sector), s);
-    }
-    if k == 8 {
-        return same(pack_trial(8, unpack_trial(s)), s);
-    }
-    if k == 9 {
-        return same(pack_trial(9, unpack_trial(s)), s);
-    }
-    if (k == 0) | (k == 2) | (k == 3) | (k == 5) {
-        return same(plain(k, 0, 0), s);
-    }
-    false
-}
-
-// Whether these are the packing of a record's line.
-pub fn is_packing(p: PackedLine) -> bool
-    ensures { λ r. ⌜ r ≡ isPacking p ⌝ }
-{
-    let s = p.stage;
-    let f = p.flags;
-    is_stage(s) & are_flags(f)
-}
-
-pub fn pack_line(l: Line) -> PackedLine
-    ensures { λ r. ⌜ r ≡ packLine l ⌝ }
-{
-    let phase = l.phase;
-    let marks = l.marks;
-    let command = l.command;
-    let stage = pack_phase(phase);
-    let flags = pack_marks(marks);
-    PackedLine {
-        count: l.count,
-        fed: l.fed,
-        stage: stage,
-        flags: flags,
-        command: command,
+    Stage {
+        kind: low(w[4]),
+        detail: high(w[4]),
+        sector: wide(w[5]),
+        block: w[6],
+        left: low(w[7]),
+        errors: high(w[7]),
+        spent: low(w[8]),
+        threshold: high(w[8]),
+        first: flag(w[9]),
+        good: flag(w[10]),
+        spare: flag(w[11]),
+        crc: flag(w[12]),
+        timeout: flag(w[13]),
     }
 }
 
-pub fn unpack_line(p: PackedLine) -> Line
-    ensures { λ r. ⌜ r ≡ unpackLine p ⌝ }
+// Returns the command bytes of a record's words.
+fn command_at(w: &[u16]) -> [u8; 6]
+    requires { ⌜ length (now w) ≡ 153 ⌝ }
+    ensures { λ r. ⌜ r ≡ commandAt (now (w .entry)) ⌝ }
 {
-    let phase = unpack_phase(p.stage);
-    let marks = unpack_marks(p.flags);
-    let command = p.command;
-    Line {
+    [
+        low(w[16]),
+        high(w[16]),
+        low(w[17]),
+        high(w[17]),
+        low(w[18]),
+        high(w[18]),
+    ]
+}
+
+// Returns the state of a record's words.
+pub fn state_at(w: &[u16]) -> State
+    requires { ⌜ length (now w) ≡ 153 ⌝ }
+    ensures { λ r. ⌜ r ≡ stateAt (now (w .entry)) ⌝ }
+{
+    let s = stage_at(w);
+    let phase = phase_of(s);
+    let marks = marks_at(w);
+    let command = command_at(w);
+    State {
         phase: phase,
         marks: marks,
         command: command,
-        count: p.count,
-        fed: p.fed,
+        count: number(w[14]),
+        fed: number(w[15]),
     }
 }
 
-pub fn pack(d: Drive) -> Packed
-    ensures { λ r. ⌜ r ≡ packOf d ⌝ }
+// Returns the places of the spare list.
+pub fn spares(w: &[u16]) -> &[u16]
+    requires { ⌜ length (now w) ≡ 153 ⌝ }
+    ensures { λ r. ⌜ now r ≡ sparesAt (now (w .entry)) ⌝ }
 {
-    let t = d.table;
-    let l = d.line;
-    Packed {
-        table: t,
-        line: pack_line(l),
+    &w[21..53]
+}
+
+// Returns the places of the bad list.
+pub fn bads(w: &[u16]) -> &[u16]
+    requires { ⌜ length (now w) ≡ 153 ⌝ }
+    ensures { λ r. ⌜ now r ≡ badsAt (now (w .entry)) ⌝ }
+{
+    &w[53..153]
+}
+
+// Writes the run from index `at` on.
+fn put(out: &mut [u16], at: usize, run: &[u16])
+    requires { ⌜ at + length (now run) ≤ length (now out) ⌝ }
+    ensures { λ r. ⌜ now (out .exit) ≡ over at (now (run .entry)) (now (out .entry)) ⌝ }
+{
+    let mut i = 0;
+    while i < run.len() {
+        out[at + i] = run[i];
+        i += 1;
     }
 }
 
-pub fn unpack(p: Packed) -> Drive
-    ensures { λ r. ⌜ r ≡ unpackOf p ⌝ }
+// Returns the table of a record's words.
+pub fn table_at(w: &[u16]) -> Table
+    requires { ⌜ length (now w) ≡ 153 ⌝ }
+    ensures { λ r. ⌜ r ≡ tableAt (now (w .entry)) ⌝ }
 {
-    let t = p.table;
-    let l = p.line;
-    Drive {
-        table: t,
-        line: unpack_line(l),
+    let mut s = [0u16; 32];
+    put(&mut s, 0, spares(w));
+    let mut b = [0u16; 100];
+    put(&mut b, 0, bads(w));
+    Table {
+        spares: s,
+        bads: b,
+        nspares: number(w[19]),
+        nbads: number(w[20]),
     }
+}
+
+// Writes a state into a record's words.
+pub fn put_state(w: &mut [u16], l: State)
+    requires { ⌜ length (now w) ≡ 153 ⌝ }
+    ensures { λ r. ⌜ now (w .exit) ≡ packState l ++ drop 19 (now (w .entry)) ⌝ }
+{
+    let s = pack_state(l);
+    put(w, 0, &s);
+}
+
+// Writes a table into a record's words.
+pub fn put_table(w: &mut [u16], t: Table)
+    requires { ⌜ length (now w) ≡ 153 ⌝ }
+    ensures { λ r. ⌜ now (w .exit) ≡ take 19 (now (w .entry)) ++ packTable t ⌝ }
+{
+    let counts = [word(t.nspares), word(t.nbads)];
+    put(w, 19, &counts);
+    put(w, 21, &t.spares);
+    put(w, 53, &t.bads);
 }

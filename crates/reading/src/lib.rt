@@ -1,138 +1,101 @@
-// A read command's read answered (document 01, "Read"): which bytes stay, and what its end does.
+// A read command's reads (document 01, "Read"): which bytes stay in the data part, and what ends the
+// command.
 ghost use mathlib.Core.Path.{_≡_};
-ghost use mathlib.Core.Bool.{true, false, cond};
+ghost use mathlib.Core.Bool.{true};
 ghost use mathlib.Core.List.{[]};
-ghost use lib.Dec.{leb};
-ghost use lib.ListN.{length};
 ghost use Rattle.drive.specs.Records.{retryOk};
+ghost use Rattle.drive.specs.Retries.{afterRead};
 ghost use Rattle.drive.specs.declared.Outcome.the-variants as outcome;
-ghost use Rattle.drive.specs.Access.{keptData, lost, settled, reads, readAnswered};
-ghost use Rattle.records.specs.Turns.{turnOf, lent};
+ghost use Rattle.drive.specs.Access.{keptPart, lost, settled, reads};
+ghost use Rattle.records.specs.Turns.{lent};
+use drive::Access;
 use drive::Answer;
 use drive::Change;
 use drive::Ending;
-use drive::Line;
+use drive::Leaves;
 use drive::Outcome;
+use drive::Part;
 use drive::Phase;
 use drive::Retry;
-use drive::Trial;
-use records::Turn;
+use drive::State;
+use drive::Status;
+use drive::Turn;
 
-// The first good bytes stay in the data part; until then those of answer 1 replace it.
-fn keep(r: Retry, buf: &mut [u8], a: u8, bytes: &[u8])
-    requires { ⌜ (length (now buf) ≡ 536) × (length (now bytes) ≡ cond (leb a 1) 532 0) ⌝ }
-    ensures { λ x. ⌜ now (buf .exit) ≡ keptData r (now (buf .entry)) a (now (bytes .entry)) ⌝ }
+mod retries;
+
+// Returns what becomes of the data part: the first good bytes stay; until then those of answer 1 fill it.
+fn kept_part(r: Retry, a: u8) -> Part
+    ensures { λ x. ⌜ x ≡ keptPart r a ⌝ }
 {
     if (a <= 1) & !r.good {
-        buffer::put(buf, 4, bytes);
+        return Part::Filled(0);
     }
+    Part::Kept
 }
 
-// None was good: the block enters the bad list, unless it is listed or the list is full.
-fn lose(l: Line, bads: &[u16], m: usize, r: Retry, buf: &mut [u8]) -> Turn
-    requires { ⌜ length (now buf) ≡ 536 ⌝ }
-    ensures { λ x. ⌜ (x ≡ turnOf (lost l (lent [] 0 (now (bads .entry)) m) r (now (buf .entry)))) × (now (buf .exit) ≡ lost l (lent [] 0 (now (bads .entry)) m) r (now (buf .entry)) .bytes) ⌝ }
+// Asks for the same sector again.
+fn again(l: State, r: Retry, p: Part) -> Turn
+    ensures { λ x. ⌜ x ≡ reads (outcome.Again r) l (lent [] 0 [] 0) p ⌝ }
 {
-    let marks = l.marks;
-    let s = r.seen;
-    let b = r.block;
-    if table::listed_bad(lists::cut(bads, m), b) {
-        return records::finished(l, marks, Change::Keep, Ending::Failed, s, buf);
-    }
-    if m < 100 {
-        let k = records::with_change(marks);
-        return records::finished(l, k, Change::Enter(b), Ending::Failed, s, buf);
-    }
-    records::finished(l, marks, Change::Keep, Ending::BadFull, s, buf)
-}
-
-// The move routine's first attempt for a block that was read with errors.
-fn rescue(r: Retry) -> Trial
-    ensures { λ x. ⌜ x ≡ record { block = r .block; sector = r .sector; spare = false; attempts = 1; seen = r .seen } ⌝ }
-{
-    let block = r.block;
-    let sector = r.sector;
-    let seen = r.seen;
-    Trial {
-        block: block,
-        sector: sector,
-        spare: false,
-        attempts: 1,
-        seen: seen,
+    let s = r.sector;
+    Turn {
+        state: records::in_phase(l, Phase::Awaiting(Access::Read(r))),
+        answer: Answer::Read(s),
+        change: Change::Keep,
+        leaves: Leaves {
+            status: Status::Kept,
+            part: p,
+        },
     }
 }
 
-// Good after rereads: done below the threshold, else the block is moved, unless under the latch.
-fn settle(l: Line, r: Retry, buf: &mut [u8]) -> Turn
-    requires { ⌜ length (now buf) ≡ 536 ⌝ }
-    ensures { λ x. ⌜ (x ≡ turnOf (settled l r (now (buf .entry)))) × (now (buf .exit) ≡ settled l r (now (buf .entry)) .bytes) ⌝ }
+// Ends a read that was good after errors, or begins to move its block.
+fn settle(l: State, r: Retry, p: Part) -> Turn
+    ensures { λ x. ⌜ x ≡ settled l r p ⌝ }
 {
     let m = l.marks;
     let s = r.seen;
     if s.errors < r.threshold {
-        return records::finished(l, m, Change::Keep, Ending::Good, s, buf);
+        return records::finish(l, Change::Keep, Ending::Good, s, p);
     }
     if m.latch {
-        return records::finished(l, m, Change::Keep, Ending::Latched, s, buf);
+        return records::finish(l, Change::Keep, Ending::Latched, s, p);
     }
-    sparing::begin(l, m, Change::Keep, rescue(r))
+    sparing::attempt(
+        l,
+        Change::Keep,
+        records::on_present(r.block, r.sector, s),
+        p,
+    )
 }
 
-// Answer 3.
-fn stop(l: Line, r: Retry, buf: &mut [u8]) -> Turn
-    requires { ⌜ length (now buf) ≡ 536 ⌝ }
-    ensures { λ x. ⌜ (x ≡ turnOf (reads (outcome.Stop r) l (lent [] 0 [] 0) (now (buf .entry)))) × (now (buf .exit) ≡ reads (outcome.Stop r) l (lent [] 0 [] 0) (now (buf .entry)) .bytes) ⌝ }
+// Ends a read that never was good: the block enters the bad list, unless it is there or the list is full.
+// The first m of bads are the list.
+fn lose(l: State, bads: &[u16], m: usize, r: Retry, p: Part) -> Turn
+    ensures { λ x. ⌜ x ≡ lost l (lent [] 0 (now (bads .entry)) m) r p ⌝ }
 {
-    let m = l.marks;
     let s = r.seen;
-    let k = records::with_latch(m);
-    records::finished(l, k, Change::Keep, Ending::Latched, s, buf)
-}
-
-fn done(l: Line, r: Retry, buf: &mut [u8]) -> Turn
-    requires { ⌜ length (now buf) ≡ 536 ⌝ }
-    ensures { λ x. ⌜ (x ≡ turnOf (reads (outcome.Done r) l (lent [] 0 [] 0) (now (buf .entry)))) × (now (buf .exit) ≡ reads (outcome.Done r) l (lent [] 0 [] 0) (now (buf .entry)) .bytes) ⌝ }
-{
-    let m = l.marks;
-    let s = r.seen;
-    records::finished(l, m, Change::Keep, Ending::Good, s, buf)
-}
-
-// The same sector is read again.
-fn again(l: Line, r: Retry) -> Turn
-    ensures { λ x. ⌜ x ≡ turnOf (reads (outcome.Again r) l (lent [] 0 [] 0) []) ⌝ }
-{
-    let s = r.sector;
-    records::said(records::in_phase(l, Phase::Reading(r)), Answer::Read(s))
-}
-
-fn follow(o: Outcome, l: Line, bads: &[u16], m: usize, buf: &mut [u8]) -> Turn
-    requires { ⌜ length (now buf) ≡ 536 ⌝ }
-    ensures { λ x. ⌜ (x ≡ turnOf (reads o l (lent [] 0 (now (bads .entry)) m) (now (buf .entry)))) × (now (buf .exit) ≡ reads o l (lent [] 0 (now (bads .entry)) m) (now (buf .entry)) .bytes) ⌝ }
-{
-    match o {
-        Outcome::Done(r) => done(l, r, buf),
-        Outcome::Again(r) => again(l, r),
-        Outcome::Settle(r) => settle(l, r, buf),
-        Outcome::Lost(r) => lose(l, bads, m, r, buf),
-        Outcome::Stop(r) => stop(l, r, buf),
+    let b = r.block;
+    if table::listed_bad(lists::cut(bads, m), b) {
+        return records::finish(l, Change::Keep, Ending::Failed, s, p);
     }
+    if m < 100 {
+        return records::finish(l, Change::Enter(b), Ending::Failed, s, p);
+    }
+    records::finish(l, Change::Keep, Ending::BadFull, s, p)
 }
 
-// The awaited read answered, with the first m of bads as the bad list.
-pub fn answered(
-    l: Line,
-    bads: &[u16],
-    m: usize,
-    r: Retry,
-    buf: &mut [u8],
-    a: u8,
-    bytes: &[u8],
-) -> Turn
-    requires { ⌜ (length (now buf) ≡ 536) × (length (now bytes) ≡ cond (leb a 1) 532 0) × (retryOk r ≡ true) ⌝ }
-    ensures { λ x. ⌜ (x ≡ turnOf (readAnswered r l (lent [] 0 (now (bads .entry)) m) (now (buf .entry)) a (now (bytes .entry)))) × (now (buf .exit) ≡ readAnswered r l (lent [] 0 (now (bads .entry)) m) (now (buf .entry)) a (now (bytes .entry)) .bytes) ⌝ }
+// Returns what answer a to the awaited read leads to. The first m of bads are the bad list.
+pub fn read(l: State, bads: &[u16], m: usize, r: Retry, a: u8) -> Turn
+    requires { ⌜ retryOk r ≡ true ⌝ }
+    ensures { λ x. ⌜ x ≡ reads (afterRead r a) l (lent [] 0 (now (bads .entry)) m) (keptPart r a) ⌝ }
 {
-    keep(r, buf, a, bytes);
-    let o = retries::after_read(r, a);
-    follow(o, l, bads, m, buf)
+    let p = kept_part(r, a);
+    match retries::after_read(r, a) {
+        Outcome::Done(r) => records::finish(l, Change::Keep, Ending::Good, r.seen, p),
+        Outcome::Again(r) => again(l, r, p),
+        Outcome::Settle(r) => settle(l, r, p),
+        Outcome::Lost(r) => lose(l, bads, m, r, p),
+        Outcome::Stop(r) => records::finish(l, Change::Keep, Ending::Latched, r.seen, p),
+    }
 }

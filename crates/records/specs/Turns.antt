@@ -1,13 +1,20 @@
--- A call's result as the code of the line hands it back: all of it but the buffer.
+-- The table whose lists are lent to a rule, and the change that needs an image.
+use mathlib.Core.Bool.{Bool, true, false}
 use mathlib.Core.List.{List}
 use Prim.Native.Nat.{ℕ}
 use Rattle.table.specs.declared.Table.{Table}
-use Rattle.records.specs.declared.Turn.{Turn}
-use Rattle.drive.specs.Results.{Result}
+use Rattle.drive.specs.declared.Change.{Change}
+use Rattle.drive.specs.declared.Change.the-variants as change
 
-abbrev pub turnOf : Result → Turn
-turnOf x = record { line = x .line; answer = x .answer; change = x .change }
-
--- the table whose arrays and counts are lent
+-- Returns the table whose arrays and counts these are.
 abbrev pub lent : List ℕ → ℕ → List ℕ → ℕ → Table
 lent spares n bads m = record { spares = spares; bads = bads; nspares = n; nbads = m }
+
+-- Says whether a change loads a table.
+abbrev pub isLoad : Change → Bool
+isLoad change.Keep = false
+isLoad change.Load = true
+isLoad (change.Enter b) = false
+isLoad (change.Remove b) = false
+isLoad (change.Move b) = false
+isLoad change.Kill = false

@@ -1,34 +1,43 @@
-// The tests of a record (document 01's code 1), the ways in which a call ends, and the four status bytes.
+// The tests of a record (document 01's code 1), the command decoded, the ways in which a rule ends, and
+// the four status bytes.
 ghost use mathlib.Core.Path.{_≡_};
-ghost use mathlib.Core.List.{[], _++_};
 ghost use mathlib.Core.Bool.{cond, _&&_};
-ghost use Prim.Native.Nat.{_≤_};
-ghost use lib.Dec.{ltb, eqb};
-ghost use lib.ListN.{length};
+ghost use Prim.Native.Nat.{_<_};
+ghost use lib.Dec.{eqb};
+ghost use lib.ListN.{take};
 ghost use Rattle.geometry.specs.Geometry.{spareOf};
-ghost use Rattle.drive.specs.Words.{ending1, ending2, ending3, statusOf, dataOf};
-ghost use Rattle.drive.specs.Results.{toPhase, toMarked, refuse, say, finish, altered, latched};
-ghost use Rattle.drive.specs.Records.{retryOk, trialOk, phaseOk, lineOk};
-ghost use Rattle.records.specs.Turns.{turnOf};
+ghost use Rattle.drive.specs.Words.{kindOf, numberOf, orderOf, isRead, isWrite, isVerify, rowOf, statusOf};
+ghost use Rattle.drive.specs.Results.{inPhase, withMarks, say, refuse, alters, latches, altered, finished, finish, clean, onPresent};
+ghost use Rattle.drive.specs.Records.{retryOk, trialOk, accessOk, phaseOk, stateOk};
+ghost use Rattle.drive.specs.Retries.{met};
+ghost use Rattle.drive.specs.Sparing.{hasUnused};
+ghost use Rattle.drive.specs.Handshake.{opened};
+ghost use Rattle.drive.specs.declared.Answer.the-variants as answer;
+use drive::Access;
 use drive::Answer;
 use drive::Change;
 use drive::Ending;
-use drive::Line;
+use drive::Four;
+use drive::Kind;
+use drive::Leaves;
 use drive::Marks;
+use drive::Offer;
+use drive::Order;
+use drive::Part;
 use drive::Phase;
 use drive::Refusal;
 use drive::Retry;
+use drive::Row;
 use drive::Seen;
+use drive::State;
+use drive::Status;
 use drive::Trial;
+use drive::Turn;
+use geometry::Block;
+use geometry::Sector;
 use table::NextSpare;
 
-// What the code of a line hands back: the next line, the answer, and what becomes of the table.
-pub struct Turn {
-    pub line: Line,
-    pub answer: Answer,
-    pub change: Change,
-}
-
+// Says whether a read command passes code 1.
 pub fn retry_ok(r: Retry) -> bool
     ensures { λ x. ⌜ x ≡ retryOk r ⌝ }
 {
@@ -38,9 +47,9 @@ pub fn retry_ok(r: Retry) -> bool
         & (r.spent <= 89)
 }
 
-// Whether this is the sector of the next unused spare, with n listed.
-fn next_unused(n: usize, s: u32) -> bool
-    ensures { λ x. ⌜ x ≡ (ltb n 32 && eqb s (spareOf n .0)) ⌝ }
+// Says whether s is the sector of the next unused spare, with n listed.
+fn is_next_unused(n: usize, s: u32) -> bool
+    ensures { λ x. ⌜ x ≡ (hasUnused n && eqb s (spareOf n .0)) ⌝ }
 {
     match table::next_spare(n) {
         NextSpare::At(at) => s == at.0,
@@ -48,16 +57,31 @@ fn next_unused(n: usize, s: u32) -> bool
     }
 }
 
-// With n spares listed.
+// Says whether a trial passes code 1, with n spares listed.
 pub fn trial_ok(n: usize, r: Trial) -> bool
     ensures { λ x. ⌜ x ≡ trialOk n r ⌝ }
 {
     geometry::is_block(r.block)
         & geometry::is_sector(r.sector)
         & (r.attempts <= 2)
-        & (!r.spare | next_unused(n, r.sector.0))
+        & (!r.spare | is_next_unused(n, r.sector.0))
 }
 
+// Says whether an awaited access passes code 1. known: there is a table.
+fn access_ok(n: usize, known: bool, x: Access) -> bool
+    ensures { λ b. ⌜ b ≡ accessOk n known x ⌝ }
+{
+    match x {
+        Access::Start(k) => k <= 10,
+        Access::Store => known,
+        Access::Read(r) => known & retry_ok(r),
+        Access::Write(s) => known & geometry::is_sector(s),
+        Access::TrialWrite(r) => known & trial_ok(n, r),
+        Access::TrialRead(r) => known & trial_ok(n, r),
+    }
+}
+
+// Says whether the phase passes code 1.
 pub fn phase_ok(n: usize, known: bool, p: Phase) -> bool
     ensures { λ x. ⌜ x ≡ phaseOk n known p ⌝ }
 {
@@ -66,37 +90,149 @@ pub fn phase_ok(n: usize, known: bool, p: Phase) -> bool
         Phase::Offered(_) => true,
         Phase::Command => true,
         Phase::Data => true,
-        Phase::Starting(k) => k <= 10,
-        Phase::Storing => known,
-        Phase::Reading(r) => known & retry_ok(r),
-        Phase::Writing(s) => known & geometry::is_sector(s),
-        Phase::Trying(r) => known & trial_ok(n, r),
-        Phase::Checking(r) => known & trial_ok(n, r),
+        Phase::Awaiting(x) => access_ok(n, known, x),
     }
 }
 
-pub fn line_ok(n: usize, l: Line) -> bool
-    ensures { λ x. ⌜ x ≡ lineOk n l ⌝ }
+// Says whether all of the record but the table passes code 1.
+pub fn state_ok(n: usize, l: State) -> bool
+    ensures { λ x. ⌜ x ≡ stateOk n l ⌝ }
 {
     let p = l.phase;
     let m = l.marks;
     (l.count <= 6) & (l.fed <= 533) & phase_ok(n, m.known, p)
 }
 
-// The line in another phase.
-pub fn in_phase(l: Line, p: Phase) -> Line
-    ensures { λ r. ⌜ r ≡ toPhase l p ⌝ }
+// Returns the kind of a command.
+fn kind_of(command: [u8; 6]) -> Kind
+    ensures { λ r. ⌜ r ≡ kindOf command ⌝ }
+{
+    let op = command[0];
+    if op == 0x00 {
+        return Kind::Read;
+    }
+    if op == 0x01 {
+        return Kind::Write;
+    }
+    if op == 0x02 {
+        return Kind::Verify;
+    }
+    Kind::Other
+}
+
+// Returns a byte as a number of 32 bits.
+fn broad(x: u8) -> u32
+    ensures { λ r. ⌜ (r ≡ x) × (r < 256) ⌝ }
+{
+    x as u32
+}
+
+// Returns the number in a command's block field.
+fn number_of(command: [u8; 6]) -> u32
+    ensures { λ r. ⌜ r ≡ numberOf command ⌝ }
+{
+    broad(command[1]) * 65536 + broad(command[2]) * 256 + broad(command[3])
+}
+
+// Decodes a command.
+pub fn order_of(command: [u8; 6]) -> Order
+    ensures { λ r. ⌜ r ≡ orderOf command ⌝ }
+{
+    let kind = kind_of(command);
+    let number = number_of(command);
+    Order {
+        kind: kind,
+        number: number,
+        retries: command[4],
+        threshold: command[5],
+    }
+}
+
+// Says whether a command of this kind is a read.
+pub fn is_read(k: Kind) -> bool
+    ensures { λ r. ⌜ r ≡ isRead k ⌝ }
+{
+    match k {
+        Kind::Read => true,
+        Kind::Write => false,
+        Kind::Verify => false,
+        Kind::Other => false,
+    }
+}
+
+// Says whether a command of this kind is a write.
+pub fn is_write(k: Kind) -> bool
+    ensures { λ r. ⌜ r ≡ isWrite k ⌝ }
+{
+    match k {
+        Kind::Read => false,
+        Kind::Write => true,
+        Kind::Verify => false,
+        Kind::Other => false,
+    }
+}
+
+// Says whether a command of this kind is a write/verify.
+pub fn is_verify(k: Kind) -> bool
+    ensures { λ r. ⌜ r ≡ isVerify k ⌝ }
+{
+    match k {
+        Kind::Read => false,
+        Kind::Write => false,
+        Kind::Verify => true,
+        Kind::Other => false,
+    }
+}
+
+// Returns what a command has met at its start: nothing.
+pub fn clean() -> Seen
+    ensures { λ r. ⌜ r ≡ clean ⌝ }
+{
+    Seen {
+        errors: 0,
+        crc: false,
+        timeout: false,
+    }
+}
+
+// Returns what was met, with answer a.
+pub fn met(a: u8, s: Seen) -> Seen
+    ensures { λ r. ⌜ r ≡ met a s ⌝ }
+{
+    Seen {
+        errors: s.errors,
+        crc: s.crc | (a == 1),
+        timeout: s.timeout | (a == 2),
+    }
+}
+
+// Returns the first attempt on a block's present sector.
+pub fn on_present(b: Block, s: Sector, seen: Seen) -> Trial
+    ensures { λ r. ⌜ r ≡ onPresent b s seen ⌝ }
+{
+    Trial {
+        block: b,
+        sector: s,
+        spare: false,
+        attempts: 1,
+        seen: seen,
+    }
+}
+
+// Returns the state in another phase.
+pub fn in_phase(l: State, p: Phase) -> State
+    ensures { λ r. ⌜ r ≡ inPhase l p ⌝ }
 {
     let m = l.marks;
     with_marks(l, m, p)
 }
 
-// The line with other marks in another phase.
-pub fn with_marks(l: Line, m: Marks, p: Phase) -> Line
-    ensures { λ r. ⌜ r ≡ toMarked l m p ⌝ }
+// Returns the state with other marks in another phase.
+pub fn with_marks(l: State, m: Marks, p: Phase) -> State
+    ensures { λ r. ⌜ r ≡ withMarks l m p ⌝ }
 {
     let c = l.command;
-    Line {
+    State {
         phase: p,
         marks: m,
         command: c,
@@ -105,128 +241,162 @@ pub fn with_marks(l: Line, m: Marks, p: Phase) -> Line
     }
 }
 
-// Marks of a table that was changed.
-pub fn with_change(m: Marks) -> Marks
-    ensures { λ r. ⌜ r ≡ altered m ⌝ }
-{
-    Marks {
-        known: m.known,
-        changed: true,
-        latch: m.latch,
-        fresh: m.fresh,
-    }
-}
-
-// Marks of a drive that does not settle.
-pub fn with_latch(m: Marks) -> Marks
-    ensures { λ r. ⌜ r ≡ latched m ⌝ }
-{
-    Marks {
-        known: m.known,
-        changed: m.changed,
-        latch: true,
-        fresh: m.fresh,
-    }
-}
-
-// An answer that leaves table and buffer alone.
-pub fn said(l: Line, a: Answer) -> Turn
-    ensures { λ r. ⌜ r ≡ turnOf (say l a []) ⌝ }
+// Answers a, and leaves table and buffer alone.
+pub fn say(l: State, a: Answer) -> Turn
+    ensures { λ r. ⌜ r ≡ say l a ⌝ }
 {
     Turn {
-        line: l,
+        state: l,
         answer: a,
         change: Change::Keep,
+        leaves: Leaves {
+            status: Status::Kept,
+            part: Part::Kept,
+        },
     }
 }
 
-pub fn refused(l: Line, r: Refusal) -> Turn
-    ensures { λ x. ⌜ x ≡ turnOf (refuse r l []) ⌝ }
+// Refuses the call, and leaves all unchanged.
+pub fn refuse(l: State, r: Refusal) -> Turn
+    ensures { λ x. ⌜ x ≡ refuse r l ⌝ }
 {
-    said(l, Answer::Refused(r))
+    say(l, Answer::Refused(r))
 }
 
-// v where a flag is set: a bit of a status byte, or a figure of the health block.
+// Makes an offer, with n command bytes kept and no data byte fed.
+pub fn offer(l: State, o: Offer, n: usize) -> Turn
+    ensures { λ x. ⌜ x ≡ say (opened l o n) (answer.Offer o) ⌝ }
+{
+    let m = l.marks;
+    let c = l.command;
+    let next = State {
+        phase: Phase::Offered(o),
+        marks: m,
+        command: c,
+        count: n,
+        fed: 0,
+    };
+    say(next, Answer::Offer(o))
+}
+
+// Returns the first n bytes, or all of them where there are fewer.
+pub fn cut(s: &[u8], n: usize) -> &[u8]
+    ensures { λ r. ⌜ now r ≡ take n (now (s .entry)) ⌝ }
+{
+    if n < s.len() {
+        return &s[..n];
+    }
+    s
+}
+
+// Returns v where a flag is set, else 0: a bit of a status byte, or a figure of the health block.
 pub fn bit(on: bool, v: u8) -> u8
     ensures { λ x. ⌜ x ≡ cond on v 0 ⌝ }
 {
     if on { v } else { 0 }
 }
 
-fn ending_1(e: Ending) -> u8
-    ensures { λ x. ⌜ x ≡ ending1 e ⌝ }
+// Returns status bytes 1, 2 and 3 of an ending.
+fn row_of(e: Ending) -> Row
+    ensures { λ r. ⌜ r ≡ rowOf e ⌝ }
 {
     match e {
-        Ending::Good => 0x00,
-        Ending::Moved => 0x00,
-        Ending::Failed => 0x01,
-        Ending::Overrun => 0x41,
-        Ending::NoBlock => 0x01,
-        Ending::NoTable(w) => { if w { 0x41 } else { 0x01 } }
-        Ending::Latched => 0x11,
-        Ending::BadFull => 0x01,
-        Ending::NoSpare => 0x01,
+        Ending::Good => Row(0x00, 0x00, 0x00),
+        Ending::Moved => Row(0x00, 0x04, 0x00),
+        Ending::Failed => Row(0x01, 0x00, 0x00),
+        Ending::Overrun => Row(0x41, 0x00, 0x00),
+        Ending::NoNumber => Row(0x01, 0x00, 0x40),
+        Ending::NoTable(on_write) => {
+            if on_write {
+                Row(0x41, 0x08, 0x00)
+            } else {
+                Row(0x01, 0x08, 0x00)
+            }
+        },
+        Ending::Latched => Row(0x11, 0x00, 0x00),
+        Ending::BadFull => Row(0x01, 0x10, 0x00),
+        Ending::NoSpare => Row(0x01, 0x40, 0x00),
     }
 }
 
-fn ending_2(e: Ending) -> u8
-    ensures { λ x. ⌜ x ≡ ending2 e ⌝ }
-{
-    match e {
-        Ending::Good => 0x00,
-        Ending::Moved => 0x04,
-        Ending::Failed => 0x00,
-        Ending::Overrun => 0x00,
-        Ending::NoBlock => 0x00,
-        Ending::NoTable(_) => 0x08,
-        Ending::Latched => 0x00,
-        Ending::BadFull => 0x10,
-        Ending::NoSpare => 0x40,
-    }
-}
-
-fn ending_3(e: Ending) -> u8
-    ensures { λ x. ⌜ x ≡ ending3 e ⌝ }
-{
-    match e {
-        Ending::Good => 0x00,
-        Ending::Moved => 0x00,
-        Ending::Failed => 0x00,
-        Ending::Overrun => 0x00,
-        Ending::NoBlock => 0x40,
-        Ending::NoTable(_) => 0x00,
-        Ending::Latched => 0x00,
-        Ending::BadFull => 0x00,
-        Ending::NoSpare => 0x00,
-    }
-}
-
-// The four status bytes of a finish.
-fn status(e: Ending, s: Seen, fresh: bool) -> [u8; 4]
+// Returns the four status bytes of a finish.
+fn status_of(e: Ending, s: Seen, fresh: bool) -> Four
     ensures { λ r. ⌜ r ≡ statusOf e s fresh ⌝ }
 {
-    let a = ending_1(e) + bit(s.crc, 0x08) + bit(s.timeout, 0x04);
-    let b = ending_2(e);
-    let c = ending_3(e) + bit(fresh, 0x80);
-    [a, b, c, s.errors]
+    let r = row_of(e);
+    let a = r.0 + bit(s.crc, 0x08) + bit(s.timeout, 0x04);
+    let c = r.2 + bit(fresh, 0x80);
+    Four(a, r.1, c, s.errors)
 }
 
-// A command finished: its status is written, and nothing else of the buffer.
-pub fn finished(l: Line, m: Marks, c: Change, e: Ending, s: Seen, buf: &mut [u8]) -> Turn
-    requires { ⌜ length (now buf) ≡ 536 ⌝ }
-    ensures { λ r. ⌜ (r ≡ turnOf (finish l m c e s (now (buf .entry)))) × (now (buf .exit) ≡ finish l m c e s (now (buf .entry)) .bytes) ⌝ }
+// Says whether a change adds, kills or removes an entry.
+fn alters(c: Change) -> bool
+    ensures { λ r. ⌜ r ≡ alters c ⌝ }
 {
-    let bytes = status(e, s, m.fresh);
-    buffer::put(buf, 0, &bytes);
-    let told = Marks {
+    match c {
+        Change::Keep => false,
+        Change::Load => false,
+        Change::Enter(_) => true,
+        Change::Remove(_) => true,
+        Change::Move(_) => true,
+        Change::Kill => true,
+    }
+}
+
+// Says whether an ending sets the latch.
+fn latches(e: Ending) -> bool
+    ensures { λ r. ⌜ r ≡ latches e ⌝ }
+{
+    match e {
+        Ending::Good => false,
+        Ending::Moved => false,
+        Ending::Failed => false,
+        Ending::Overrun => false,
+        Ending::NoNumber => false,
+        Ending::NoTable(_) => false,
+        Ending::Latched => true,
+        Ending::BadFull => false,
+        Ending::NoSpare => false,
+    }
+}
+
+// Returns the marks after a change of the table.
+pub fn altered(m: Marks, c: Change) -> Marks
+    ensures { λ r. ⌜ r ≡ altered m c ⌝ }
+{
+    Marks {
         known: m.known,
-        changed: m.changed,
+        changed: alters(c) | m.changed,
         latch: m.latch,
+        fresh: m.fresh,
+    }
+}
+
+// Returns the marks after a finish.
+fn finished(m: Marks, c: Change, e: Ending) -> Marks
+    ensures { λ r. ⌜ r ≡ finished m c e ⌝ }
+{
+    Marks {
+        known: m.known,
+        changed: alters(c) | m.changed,
+        latch: latches(e) | m.latch,
         fresh: false,
-    };
+    }
+}
+
+// Finishes the command with its four status bytes.
+pub fn finish(l: State, c: Change, e: Ending, s: Seen, p: Part) -> Turn
+    ensures { λ r. ⌜ r ≡ finish l c e s p ⌝ }
+{
+    let m = l.marks;
+    let bytes = status_of(e, s, m.fresh);
     Turn {
-        line: with_marks(l, told, Phase::Idle),
+        state: with_marks(l, finished(m, c, e), Phase::Idle),
         answer: Answer::Finished,
         change: c,
+        leaves: Leaves {
+            status: Status::Written(bytes),
+            part: p,
+        },
     }
 }

@@ -2,37 +2,48 @@
 ghost use mathlib.Core.Path.{_≡_};
 ghost use mathlib.Core.Bool.{true, cond};
 ghost use mathlib.Core.List.{[]};
-ghost use Prim.Native.Nat.{_+_, _≤_};
+ghost use Prim.Native.Nat.{_+_, _≤_, _<_};
 ghost use lib.Dec.{eqb};
-ghost use lib.ListN.{length};
-ghost use Rattle.drive.specs.Sparing.{attempt, once, nextAttempt, missed, brokenOff, verified, tried, checked};
-ghost use Rattle.records.specs.Turns.{turnOf, lent};
+ghost use Rattle.drive.specs.Sparing.{attempt, once, nextAttempt, missed, stopped, verified, tried, checked};
+ghost use Rattle.records.specs.Turns.{lent};
+use drive::Access;
 use drive::Answer;
 use drive::Change;
 use drive::Ending;
-use drive::Line;
-use drive::Marks;
+use drive::Leaves;
+use drive::Part;
 use drive::Phase;
 use drive::Seen;
+use drive::State;
+use drive::Status;
 use drive::Trial;
+use drive::Turn;
 use geometry::Sector;
-use records::Turn;
 use table::NextSpare;
 
-// An attempt's write is asked for.
-pub fn begin(l: Line, m: Marks, c: Change, r: Trial) -> Turn
-    ensures { λ x. ⌜ x ≡ turnOf (attempt l m c r []) ⌝ }
+// Begins an attempt: asks for its write.
+pub fn attempt(l: State, c: Change, r: Trial, p: Part) -> Turn
+    ensures { λ x. ⌜ x ≡ attempt l c r p ⌝ }
 {
+    let m = l.marks;
     let s = r.sector;
     Turn {
-        line: records::with_marks(l, m, Phase::Trying(r)),
+        state: records::with_marks(
+            l,
+            records::altered(m, c),
+            Phase::Awaiting(Access::TrialWrite(r)),
+        ),
         answer: Answer::Write(s),
         change: c,
+        leaves: Leaves {
+            status: Status::Kept,
+            part: p,
+        },
     }
 }
 
-// The first attempt on a spare.
-fn first_on(at: Sector, r: Trial, s: Seen) -> Trial
+// Returns the first attempt on a spare's sector.
+fn on_spare(at: Sector, r: Trial, s: Seen) -> Trial
     ensures { λ x. ⌜ x ≡ record { block = r .block; sector = at; spare = true; attempts = 1; seen = s } ⌝ }
 {
     let block = r.block;
@@ -45,9 +56,9 @@ fn first_on(at: Sector, r: Trial, s: Seen) -> Trial
     }
 }
 
-// One attempt more on the same sector.
-fn once_more(r: Trial, s: Seen) -> Trial
-    requires { ⌜ r .attempts ≤ 2 ⌝ }
+// Returns one attempt more on the same sector.
+fn once(r: Trial, s: Seen) -> Trial
+    requires { ⌜ r .attempts < 2 ⌝ }
     ensures { λ x. ⌜ x ≡ once r s ⌝ }
 {
     let block = r.block;
@@ -61,111 +72,91 @@ fn once_more(r: Trial, s: Seen) -> Trial
     }
 }
 
-// On the next unused spare, with n listed by now, or the end.
-fn next_on(n: usize, l: Line, m: Marks, c: Change, r: Trial, s: Seen, buf: &mut [u8]) -> Turn
-    requires { ⌜ length (now buf) ≡ 536 ⌝ }
-    ensures { λ x. ⌜ (x ≡ turnOf (nextAttempt n l m c r s (now (buf .entry)))) × (now (buf .exit) ≡ nextAttempt n l m c r s (now (buf .entry)) .bytes) ⌝ }
+// Goes to the next unused spare, with n listed by now, or finishes where there is none.
+fn next_attempt(n: usize, l: State, c: Change, r: Trial, s: Seen) -> Turn
+    ensures { λ x. ⌜ x ≡ nextAttempt n l c r s ⌝ }
 {
     match table::next_spare(n) {
-        NextSpare::At(at) => begin(l, m, c, first_on(at, r, s)),
-        NextSpare::None => records::finished(l, m, c, Ending::NoSpare, s, buf),
+        NextSpare::At(at) => attempt(l, c, on_spare(at, r, s), Part::Kept),
+        NextSpare::None => records::finish(l, c, Ending::NoSpare, s, Part::Kept),
     }
 }
 
-// An attempt failed, with n spares listed.
-fn go_on(l: Line, n: usize, r: Trial, s: Seen, buf: &mut [u8]) -> Turn
-    requires { ⌜ (length (now buf) ≡ 536) × (r .attempts ≤ 2) × (n ≤ 32) ⌝ }
-    ensures { λ x. ⌜ (x ≡ turnOf (missed l (lent [] n [] 0) r s (now (buf .entry)))) × (now (buf .exit) ≡ missed l (lent [] n [] 0) r s (now (buf .entry)) .bytes) ⌝ }
+// Goes on after an attempt that failed, with n spares listed.
+fn miss(l: State, n: usize, r: Trial, s: Seen) -> Turn
+    requires { ⌜ n ≤ 32 ⌝ }
+    ensures { λ x. ⌜ x ≡ missed l (lent [] n [] 0) r s ⌝ }
 {
-    let m = l.marks;
     if r.attempts < 2 {
-        let next = once_more(r, s);
-        return begin(l, m, Change::Keep, next);
+        return attempt(l, Change::Keep, once(r, s), Part::Kept);
     }
     if r.spare {
-        let k = records::with_change(m);
-        return next_on(n + 1, l, k, Change::Kill, r, s, buf);
+        return next_attempt(n + 1, l, Change::Kill, r, s);
     }
-    next_on(n, l, m, Change::Keep, r, s, buf)
+    next_attempt(n, l, Change::Keep, r, s)
 }
 
-// Answer 3 to an attempt's access.
-fn stop(l: Line, r: Trial, buf: &mut [u8]) -> Turn
-    requires { ⌜ length (now buf) ≡ 536 ⌝ }
-    ensures { λ x. ⌜ (x ≡ turnOf (brokenOff l r (now (buf .entry)))) × (now (buf .exit) ≡ brokenOff l r (now (buf .entry)) .bytes) ⌝ }
+// Stops a trial that was answered 3: a spare under trial dies.
+fn stop(l: State, r: Trial) -> Turn
+    ensures { λ x. ⌜ x ≡ stopped l r ⌝ }
 {
-    let m = l.marks;
     let s = r.seen;
     if r.spare {
-        let k = records::with_latch(records::with_change(m));
-        return records::finished(l, k, Change::Kill, Ending::Latched, s, buf);
+        return records::finish(l, Change::Kill, Ending::Latched, s, Part::Kept);
     }
-    let k = records::with_latch(m);
-    records::finished(l, k, Change::Keep, Ending::Latched, s, buf)
+    records::finish(l, Change::Keep, Ending::Latched, s, Part::Kept)
 }
 
-// An attempt verified. The first count of bads are the bad list.
-fn settle(l: Line, bads: &[u16], count: usize, r: Trial, buf: &mut [u8]) -> Turn
-    requires { ⌜ length (now buf) ≡ 536 ⌝ }
-    ensures { λ x. ⌜ (x ≡ turnOf (verified l (lent [] 0 (now (bads .entry)) count) r (now (buf .entry)))) × (now (buf .exit) ≡ verified l (lent [] 0 (now (bads .entry)) count) r (now (buf .entry)) .bytes) ⌝ }
+// Ends a trial that verified. The first m of bads are the bad list.
+fn verify(l: State, bads: &[u16], m: usize, r: Trial) -> Turn
+    ensures { λ x. ⌜ x ≡ verified l (lent [] 0 (now (bads .entry)) m) r ⌝ }
 {
-    let m = l.marks;
     let s = r.seen;
     let b = r.block;
     if r.spare {
-        let k = records::with_change(m);
-        return records::finished(l, k, Change::Move(b), Ending::Moved, s, buf);
+        return records::finish(l, Change::Move(b), Ending::Moved, s, Part::Kept);
     }
-    if table::listed_bad(lists::cut(bads, count), b) {
-        let k = records::with_change(m);
-        return records::finished(l, k, Change::Leave(b), Ending::Good, s, buf);
+    if table::listed_bad(lists::cut(bads, m), b) {
+        return records::finish(l, Change::Remove(b), Ending::Good, s, Part::Kept);
     }
-    records::finished(l, m, Change::Keep, Ending::Good, s, buf)
+    records::finish(l, Change::Keep, Ending::Good, s, Part::Kept)
 }
 
-// An attempt's write answered, with n spares listed.
-pub fn write_answered(l: Line, n: usize, r: Trial, buf: &mut [u8], a: u8) -> Turn
-    requires { ⌜ (length (now buf) ≡ 536) × (r .attempts ≤ 2) × (n ≤ 32) ⌝ }
-    ensures { λ x. ⌜ (x ≡ turnOf (tried l (lent [] n [] 0) r (now (buf .entry)) a)) × (now (buf .exit) ≡ tried l (lent [] n [] 0) r (now (buf .entry)) a .bytes) ⌝ }
+// Returns what answer a to an attempt's write leads to, with n spares listed.
+pub fn tried(l: State, n: usize, r: Trial, a: u8) -> Turn
+    requires { ⌜ n ≤ 32 ⌝ }
+    ensures { λ x. ⌜ x ≡ tried l (lent [] n [] 0) r a ⌝ }
 {
     let s = r.sector;
     if a == 0 {
-        return records::said(records::in_phase(l, Phase::Checking(r)), Answer::Read(s));
+        return records::say(
+            records::in_phase(l, Phase::Awaiting(Access::TrialRead(r))),
+            Answer::Read(s),
+        );
     }
     if a == 3 {
-        return stop(l, r, buf);
+        return stop(l, r);
     }
-    let seen = retries::with_answer(a, r.seen);
-    go_on(l, n, r, seen, buf)
+    miss(l, n, r, records::met(a, r.seen))
 }
 
-// Differing bytes count as a CRC error.
+// Returns the answer that a verify counts as: bytes that differ are a CRC error.
 fn as_failure(a: u8) -> u8
     ensures { λ x. ⌜ x ≡ cond (eqb a 0) 1 a ⌝ }
 {
     if a == 0 { 1 } else { a }
 }
 
-// An attempt's read answered.
-pub fn read_answered(
-    l: Line,
-    n: usize,
-    bads: &[u16],
-    count: usize,
-    r: Trial,
-    buf: &mut [u8],
-    a: u8,
-    bytes: &[u8],
-) -> Turn
-    requires { ⌜ (length (now buf) ≡ 536) × (r .attempts ≤ 2) × (n ≤ 32) ⌝ }
-    ensures { λ x. ⌜ (x ≡ turnOf (checked l (lent [] n (now (bads .entry)) count) r (now (buf .entry)) a (now (bytes .entry)))) × (now (buf .exit) ≡ checked l (lent [] n (now (bads .entry)) count) r (now (buf .entry)) a (now (bytes .entry)) .bytes) ⌝ }
+// Returns what answer a to an attempt's read leads to. equal: it is 0, with the bytes of the data part.
+pub fn checked(l: State, n: usize, bads: &[u16], m: usize, r: Trial, a: u8, equal: bool) -> Turn
+    requires { ⌜ n ≤ 32 ⌝ }
+    ensures { λ x. ⌜ x ≡ checked l (lent [] n (now (bads .entry)) m) r a equal ⌝ }
 {
-    if (a == 0) & buffer::same_bytes(bytes, &buf[4..]) {
-        return settle(l, bads, count, r, buf);
+    if equal {
+        return verify(l, bads, m, r);
     }
     if a == 3 {
-        return stop(l, r, buf);
+        return stop(l, r);
     }
-    let seen = retries::with_answer(as_failure(a), r.seen);
-    go_on(l, n, r, seen, buf)
+    miss(l, n, r, records::met(as_failure(a), r.seen))
 }

@@ -6,10 +6,10 @@ use Prim.Native.Nat.{ℕ, zero, suc, _+_, _-_, _≤_, _<_}
 use native.Mathlib.Omega.{arith}
 use native.Mathlib.Numerals.{add-one}
 use lib.Dec.{eqb}
-use lib.ListN.{length, take, drop, getD, set, length-set, length-take, length-drop, length-append, take-append-drop, drop-of-length-le}
-use lib.Seq.{take-suc-set, take-suc, drop-cons, set-at, take-all, take-at, drop-at, take-append-le, length-take-le, getD-append-add, getD-drop, append-snoc}
+use lib.ListN.{length, take, drop, getD, set, length-drop, length-append, take-append-drop, drop-of-length-le}
+use lib.Seq.{take-suc-set, take-suc, drop-cons, set-at, take-all, take-at, take-append-le, length-take-le, getD-append-add, getD-drop, append-snoc}
 use Rattle.lists.specs.Lists.{indexOf, memberOf, strike}
-use Rattle.logic.proofs.Bools.{clash, or-left, or-right}
+use Rattle.logic.proofs.Bools.{clash}
 use Rattle.table.specs.Tables.{removed}
 
 -- a store at place k of the array is one at place k of the list
@@ -34,7 +34,7 @@ gap-length k a h =
     let r = length-drop (suc k) a in
     omega (arith, p, q, r)
 
--- from place k on it holds what stood one place further
+-- from place k on it holds what was one place further
 gap-at : (k : ℕ) (a : List ℕ) (j : ℕ) → k ≤ length a → getD (gap k a) (k + j) 0 ≡ getD a (k + j + 1) 0
 gap-at k a j h =
     let q = length-take-le k a h in

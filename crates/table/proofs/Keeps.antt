@@ -1,16 +1,15 @@
 -- Every change of a table keeps it well formed.
 use mathlib.Core.Path.{_≡_, refl}
-use mathlib.Core.Bool.{Bool, true, false, _&&_}
-use mathlib.Core.List.{List}
-use Prim.Native.Nat.{ℕ, _≤_, _<_}
+use mathlib.Core.Bool.{true, false, _&&_}
+use Prim.Native.Nat.{_≤_, _<_}
 use native.Mathlib.Omega.{arith}
 use borrow.Author.Tests.{ltb-true, leb-true, le-leb}
 use lib.Dec.{ltb, leb}
 use Rattle.geometry.specs.Geometry.{isBlock}
 use Rattle.geometry.specs.declared.Block.{Block}
-use Rattle.lists.specs.Lists.{dead, memberOf, entryOk, entriesOk, kill}
+use Rattle.lists.specs.Lists.{dead, memberOf, entriesOk, kill}
 use Rattle.logic.proofs.Bools.{branch, and-left, and-right}
-use Rattle.lists.proofs.Laws.{block-live, entries-snoc, entries-kill, entries-strike, kill-gone, dead-beside}
+use Rattle.lists.proofs.Laws.{new-beside, dead-beside, entries-snoc, entries-kill, entries-strike, kill-gone}
 use Rattle.table.specs.Tables.{spareList, badList, Shaped, listsOk, tableOk, emptyTable, listed, killedNext, withBad, withoutBad}
 use Rattle.table.specs.declared.Table.{Table}
 use Rattle.table.proofs.Lists.{listed-spares, killed-spares, entered-bads, removed-bads}
@@ -35,11 +34,6 @@ passes t h =
 pub passed : (t : Table) → Passes t → tableOk t ≡ true
 unfolding listsOk
 passed t p = rw (le-leb (t .nspares) 32 (p .few-spares), le-leb (t .nbads) 100 (p .few-bads), p .spares) (p .bads)
-
--- a block that stands in none of the entries may stand beside them
-pub new-beside : (marks : Bool) (x : ℕ) (l : List ℕ) → isBlock x ≡ true → memberOf x l ≡ false → entryOk marks x l ≡ true
-unfolding entryOk
-new-beside marks x l b n = rw (block-live x b, b, n)
 
 pub empty-ok : tableOk emptyTable ≡ true
 unfolding listsOk entriesOk
@@ -76,7 +70,7 @@ killed-ok t s h =
     more : t .nspares < 32 → entriesOk true (spareList (killedNext t)) ≡ true
     more r = rw (killed-spares t s r) (entries-snoc true (spareList t) dead (p .spares) (dead-beside (spareList t)))
 
--- A BLOCK ENTERED, which must not stand in the bad list
+-- ENTERING A BLOCK that is not in the bad list
 pub entered-ok : (t : Table) (b : Block) → Shaped t → isBlock (b .0) ≡ true → memberOf (b .0) (badList t) ≡ false → tableOk t ≡ true → tableOk (withBad t b) ≡ true
 unfolding withBad
 entered-ok t b s i n h =
@@ -90,7 +84,7 @@ entered-ok t b s i n h =
     more : t .nbads < 100 → entriesOk false (badList (withBad t b)) ≡ true
     more r = rw (entered-bads t b s r) (entries-snoc false (badList t) (b .0) (p .bads) (new-beside false (b .0) (badList t) i n))
 
--- A BLOCK REMOVED
+-- REMOVING A BLOCK
 pub removed-ok : (t : Table) (b : Block) → Shaped t → tableOk t ≡ true → tableOk (withoutBad t b) ≡ true
 unfolding withoutBad
 removed-ok t b s h =

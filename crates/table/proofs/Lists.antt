@@ -1,18 +1,18 @@
 -- What each change of a table does to its two lists, and that the arrays keep their lengths.
 use mathlib.Core.Path.{_≡_, refl, ap, sym, _∙_}
-use mathlib.Core.Bool.{Bool, true, false, cond}
+use mathlib.Core.Bool.{true}
 use mathlib.Core.List.{List, [], _∷_, _++_}
-use Prim.Native.Nat.{ℕ, suc, _+_, _-_, _≤_, _<_}
+use Prim.Native.Nat.{ℕ, _≤_, _<_}
 use native.Mathlib.Omega.{arith}
-use borrow.Author.Tests.{lt-ltb, ltb-true}
+use borrow.Author.Tests.{lt-ltb}
 use lib.Dec.{ltb}
-use lib.ListN.{length, take, set, length-set, length-take}
+use lib.ListN.{length, set, length-set, length-take}
 use lib.Seq.{length-take-le}
 use Rattle.geometry.specs.declared.Block.{Block}
 use Rattle.lists.specs.Lists.{dead, indexOf, memberOf, kill, strike}
-use Rattle.logic.proofs.Bools.{branch, clash}
+use Rattle.logic.proofs.Bools.{branch}
 use Rattle.lists.proofs.Laws.{index-in}
-use Rattle.table.specs.Tables.{spareList, badList, Shaped, listed, killedNext, withBad, withoutBad, removed}
+use Rattle.table.specs.Tables.{spareList, badList, Shaped, listed, killedNext, withBad, withoutBad}
 use Rattle.table.specs.declared.Table.{Table}
 use Rattle.table.proofs.Arrays.{take-set, take-added, strike-gap, take-removed, removed-length}
 
@@ -29,12 +29,12 @@ pub killed-spares : (t : Table) → Shaped t → t .nspares < 32 → spareList (
 unfolding killedNext
 killed-spares t s h = rw (lt-ltb (t .nspares) 32 h) (take-added (t .nspares) (t .spares) dead (omega (arith, s .0)))
 
--- A BLOCK ENTERED stands at the end of the bad list.
+-- ENTERING A BLOCK puts it at the end of the bad list.
 pub entered-bads : (t : Table) (b : Block) → Shaped t → t .nbads < 100 → badList (withBad t b) ≡ badList t ++ (b .0 ∷ [])
 unfolding withBad
 entered-bads t b s h = rw (lt-ltb (t .nbads) 100 h) (take-added (t .nbads) (t .bads) (b .0) (omega (arith, s .1)))
 
--- A BLOCK REMOVED is gone from the bad list, order kept.
+-- REMOVING A BLOCK takes it out of the bad list and keeps the order.
 pub removed-bads : (t : Table) (b : Block) → Shaped t → t .nbads ≤ 100 → memberOf (b .0) (badList t) ≡ true → badList (withoutBad t b) ≡ strike (b .0) (badList t)
 unfolding withoutBad
 removed-bads t b s n h =

@@ -1,8 +1,8 @@
 -- Where a spare list puts the blocks: two never at one sector, and what each change moves.
-use mathlib.Core.Path.{_≡_, refl, ap, sym, subst, _∙_}
-use mathlib.Core.Bool.{Bool, true, false, cond}
+use mathlib.Core.Path.{_≡_, refl, ap, sym, _∙_}
+use mathlib.Core.Bool.{Bool, true, false}
 use mathlib.Core.List.{List, [], _∷_, _++_}
-use Prim.Native.Nat.{ℕ, _+_, _≤_, _<_}
+use Prim.Native.Nat.{ℕ, _≤_, _<_}
 use native.Mathlib.Omega.{arith}
 use borrow.Author.Tests.{ne-eqb}
 use lib.Dec.{eqb}
@@ -11,10 +11,10 @@ use Rattle.geometry.specs.Geometry.{isBlock, isSector, homeOf, spareOf, tableSe
 use Rattle.geometry.specs.declared.Block.{Block}
 use Rattle.geometry.specs.declared.Sector.{Sector}
 use Rattle.geometry.proofs.Laws.{home-apart, home-not-spare, home-not-table, spare-apart, spare-not-table, home-sector, spare-sector}
-use Rattle.lists.specs.Lists.{dead, indexOf, memberOf, entriesOk, kill}
-use Rattle.logic.proofs.Bools.{branch, clash}
+use Rattle.lists.specs.Lists.{dead, indexOf, memberOf, kill}
+use Rattle.logic.proofs.Bools.{branch}
 use Rattle.lists.proofs.Laws.{block-live, index-in, index-last, index-snoc, member-last, member-snoc, kill-index, kill-member, kill-gone, kill-length}
-use Rattle.table.specs.Tables.{spareList, badList, Shaped, tableOk, sectorOf, listed, killedNext, withBad, withoutBad}
+use Rattle.table.specs.Tables.{spareList, Shaped, tableOk, sectorOf, listed, killedNext, withBad, withoutBad}
 use Rattle.table.specs.declared.Table.{Table}
 use Rattle.table.proofs.Lists.{listed-spares, killed-spares, entered-spares, removed-spares}
 use Rattle.table.proofs.Keeps.{passes}

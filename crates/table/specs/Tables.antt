@@ -57,8 +57,9 @@ emptyTable = record { spares = replicate 32 0; bads = replicate 100 0; nspares =
 -- "lists the block there, kills its old entry": at the next unused spare, if there is one
 unfoldable pub listed : Table → Block → Table
 listed t b =
+    let killed = set (t .spares) (indexOf (b .0) (spareList t)) dead in
     cond (ltb (t .nspares) 32)
-    (record { spares = set (set (t .spares) (indexOf (b .0) (spareList t)) dead) (t .nspares) (b .0); bads = t .bads; nspares = t .nspares + 1; nbads = t .nbads })
+    (record { spares = set killed (t .nspares) (b .0); bads = t .bads; nspares = t .nspares + 1; nbads = t .nbads })
     t
 
 -- "A spare that fails becomes dead": the next unused one, if there is one
@@ -75,7 +76,7 @@ withBad t b =
     (record { spares = t .spares; bads = set (t .bads) (t .nbads) (b .0); nspares = t .nspares; nbads = t .nbads + 1 })
     t
 
--- an array without its place k: what stood after it moves up, and a zero ends it
+-- an array without its place k: what was after it moves up, and a zero ends it
 unfoldable pub removed : ℕ → List ℕ → List ℕ
 removed k a = take k a ++ drop (suc k) a ++ (0 ∷ [])
 

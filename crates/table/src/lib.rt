@@ -1,7 +1,7 @@
-// The spare table: which block stands on which spare, and which blocks are bad.
+// The spare table: which block is on which spare, and which blocks are bad.
 ghost use mathlib.Core.Path.{_≡_};
 ghost use Prim.Native.Nat.{_-_, _≤_, _<_};
-ghost use lib.ListN.{length, take};
+ghost use lib.ListN.{length};
 ghost use Rattle.lists.specs.Lists.{memberOf};
 ghost use Rattle.table.specs.Tables.{listsOk, sectorOf, nextSpare, emptyTable, listed, killedNext, withBad, withoutBad, removed};
 use geometry::Block;
@@ -23,14 +23,18 @@ pub enum NextSpare {
     None,
 }
 
-// Whether n spare entries and m bad entries, lent with their arrays, make a well-formed table.
+// Says whether n spare entries and m bad entries, lent with their arrays, make a well-formed table. Two
+// empty lists do, and cost one test.
 pub fn lists_ok<'a>(spares: &'a [u16], n: usize, bads: &'a [u16], m: usize) -> bool
     ensures { λ r. ⌜ r ≡ listsOk (now (spares .entry)) n (now (bads .entry)) m ⌝ }
 {
+    if (n == 0) & (m == 0) {
+        return true;
+    }
     (n <= 32) & (m <= 100) & lists::entries_ok(true, spares, n) & lists::entries_ok(false, bads, m)
 }
 
-// A block's sector by the spare list: its spare if it is listed, else its home.
+// Returns a block's sector by the spare list: its spare if it is listed, else its home.
 pub fn sector_of(spares: &[u16], b: Block) -> Sector
     requires { ⌜ length (now spares) ≤ 32 ⌝ }
     ensures { λ r. ⌜ r ≡ sectorOf (now (spares .entry)) b ⌝ }
@@ -42,7 +46,7 @@ pub fn sector_of(spares: &[u16], b: Block) -> Sector
     geometry::home(b)
 }
 
-// With n spares listed.
+// Returns the next unused spare where n are listed.
 pub fn next_spare(n: usize) -> NextSpare
     ensures { λ r. ⌜ r ≡ nextSpare n ⌝ }
 {
@@ -52,7 +56,7 @@ pub fn next_spare(n: usize) -> NextSpare
     NextSpare::None
 }
 
-// How many spares are unused where n are listed.
+// Returns how many spares are unused where n are listed.
 pub fn unused(n: usize) -> usize
     ensures { λ r. ⌜ r ≡ 32 - n ⌝ }
 {
@@ -62,14 +66,14 @@ pub fn unused(n: usize) -> usize
     32 - n
 }
 
-// Whether a block stands in the bad list.
+// Says whether a block is in the bad list.
 pub fn listed_bad(bads: &[u16], b: Block) -> bool
     ensures { λ r. ⌜ r ≡ memberOf (b .0) (now (bads .entry)) ⌝ }
 {
     lists::member(bads, b.0)
 }
 
-// The array without its place k: what stood after it moves up, and a zero ends it.
+// Returns the array without its place k: what was after it moves up, and a zero ends it.
 fn removed_at(a: [u16; 100], k: usize) -> [u16; 100]
     requires { ⌜ k < 100 ⌝ }
     ensures { λ r. ⌜ r ≡ removed k a ⌝ }
@@ -85,6 +89,7 @@ fn removed_at(a: [u16; 100], k: usize) -> [u16; 100]
 }
 
 impl Table {
+    // Returns the table of a drive with no spare used and no bad block.
     pub fn empty() -> Table
         ensures { λ r. ⌜ r ≡ emptyTable ⌝ }
     {
@@ -96,8 +101,8 @@ impl Table {
         }
     }
 
-    // The block listed on the next unused spare, and its old entry killed. Where no spare is unused,
-    // nothing changes.
+    // Lists a block on the next unused spare and kills its old entry. Where no spare is unused, nothing
+    // changes.
     pub fn list(self, b: Block) -> Table
         ensures { λ r. ⌜ r ≡ listed self b ⌝ }
     {
@@ -114,7 +119,7 @@ impl Table {
         t
     }
 
-    // The next unused spare marked dead. Where none is unused, nothing changes.
+    // Marks the next unused spare dead. Where none is unused, nothing changes.
     pub fn kill_next(self) -> Table
         ensures { λ r. ⌜ r ≡ killedNext self ⌝ }
     {
@@ -128,7 +133,7 @@ impl Table {
         t
     }
 
-    // The block at the end of the bad list. Where 100 are held, nothing changes.
+    // Enters a block at the end of the bad list. Where 100 are held, nothing changes.
     pub fn with_bad(self, b: Block) -> Table
         ensures { λ r. ⌜ r ≡ withBad self b ⌝ }
     {
@@ -142,7 +147,7 @@ impl Table {
         t
     }
 
-    // The block removed from the bad list, order kept. Where it is not listed, nothing changes.
+    // Removes a block from the bad list and keeps the order. Where it is not listed, nothing changes.
     pub fn without_bad(self, b: Block) -> Table
         ensures { λ r. ⌜ r ≡ withoutBad self b ⌝ }
     {

@@ -53,12 +53,12 @@ enum Phase {
     Offered(Offer),
     Command,
     Data,
-    Starting(u8),
-    Storing,
-    Reading(Read),
-    Writing(u32),
-    Trying(Trial),
-    Checking(Trial),
+    Start(u8),
+    Store,
+    Read(Read),
+    Write(u32),
+    TrialWrite(Trial),
+    TrialRead(Trial),
 }
 
 /// The record.
@@ -149,7 +149,7 @@ impl Drive {
         }
         *self = Drive {
             fresh: true,
-            phase: Phase::Starting(1),
+            phase: Phase::Start(1),
             ..Drive::new()
         };
         buffer.fill(0);
@@ -200,17 +200,17 @@ impl Drive {
     fn valid_phase(&self) -> bool {
         match &self.phase {
             Phase::Idle | Phase::Offered(_) | Phase::Command | Phase::Data => true,
-            Phase::Starting(reads) => *reads <= 10,
-            Phase::Storing => self.known,
-            Phase::Reading(read) => {
+            Phase::Start(reads) => *reads <= 10,
+            Phase::Store => self.known,
+            Phase::Read(read) => {
                 self.known
                     && read.block < BLOCKS
                     && read.sector < SECTORS
                     && u16::from(read.seen.errors) + u16::from(read.left) <= 255
                     && read.spent <= 89
             }
-            Phase::Writing(sector) => self.known && *sector < SECTORS,
-            Phase::Trying(trial) | Phase::Checking(trial) => {
+            Phase::Write(sector) => self.known && *sector < SECTORS,
+            Phase::TrialWrite(trial) | Phase::TrialRead(trial) => {
                 self.known
                     && trial.block < BLOCKS
                     && trial.sector < SECTORS
@@ -259,7 +259,7 @@ impl Drive {
         self.accept(buffer, BUFFER)?;
         match self.phase {
             Phase::Idle if self.known && self.changed && !self.latch => {
-                self.phase = Phase::Storing;
+                self.phase = Phase::Store;
                 Ok(Answer::Store)
             }
             Phase::Idle => Ok(self.offer(Offer::Command)),
@@ -337,7 +337,7 @@ impl Drive {
     fn begin_read(&mut self, block: u16) -> Answer {
         let [.., rereads, threshold] = self.command;
         let sector = self.sector(block);
-        self.phase = Phase::Reading(Read {
+        self.phase = Phase::Read(Read {
             block,
             sector,
             first: true,
@@ -361,7 +361,7 @@ impl Drive {
                 seen: Seen::default(),
             });
         }
-        self.phase = Phase::Writing(sector);
+        self.phase = Phase::Write(sector);
         Answer::Write(Sector(sector))
     }
 
@@ -408,22 +408,22 @@ impl Drive {
     fn answered(&mut self, buffer: &mut [u8], answer: u8, bytes: &[u8]) -> Result<Answer, Code> {
         self.accept(buffer, BUFFER)?;
         Ok(match self.phase {
-            Phase::Starting(reads) => {
+            Phase::Start(reads) => {
                 read_lengths(answer, bytes)?;
                 self.start_read(reads, answer, bytes)
             }
-            Phase::Storing => {
+            Phase::Store => {
                 write_lengths(answer, bytes)?;
                 if answer == 0 {
                     self.changed = false;
                 }
                 self.offer(Offer::Command)
             }
-            Phase::Reading(read) => {
+            Phase::Read(read) => {
                 read_lengths(answer, bytes)?;
                 self.command_read(buffer, read, answer, bytes)
             }
-            Phase::Writing(_) => {
+            Phase::Write(_) => {
                 write_lengths(answer, bytes)?;
                 match answer {
                     0 => self.finish(buffer, [0; STATUS]),
@@ -431,11 +431,11 @@ impl Drive {
                     _ => self.no_settle(buffer, Seen::default()),
                 }
             }
-            Phase::Trying(trial) => {
+            Phase::TrialWrite(trial) => {
                 write_lengths(answer, bytes)?;
                 self.attempt_written(buffer, trial, answer)
             }
-            Phase::Checking(trial) => {
+            Phase::TrialRead(trial) => {
                 read_lengths(answer, bytes)?;
                 self.attempt_read(buffer, trial, answer, bytes)
             }
@@ -448,7 +448,7 @@ impl Drive {
             self.phase = Phase::Idle;
             return Answer::Wait;
         }
-        self.phase = Phase::Starting(reads + 1);
+        self.phase = Phase::Start(reads + 1);
         Answer::Read(TABLE)
     }
 
@@ -490,7 +490,7 @@ impl Drive {
                 return self.never_read(buffer, read);
             }
         }
-        self.phase = Phase::Reading(read);
+        self.phase = Phase::Read(read);
         Answer::Read(Sector(read.sector))
     }
 
@@ -525,14 +525,14 @@ impl Drive {
     }
 
     fn attempt(&mut self, trial: Trial) -> Answer {
-        self.phase = Phase::Trying(trial);
+        self.phase = Phase::TrialWrite(trial);
         Answer::Write(Sector(trial.sector))
     }
 
     fn attempt_written(&mut self, buffer: &mut [u8], mut trial: Trial, answer: u8) -> Answer {
         match answer {
             0 => {
-                self.phase = Phase::Checking(trial);
+                self.phase = Phase::TrialRead(trial);
                 Answer::Read(Sector(trial.sector))
             }
             2 => {
@@ -602,8 +602,8 @@ impl Drive {
     }
 
     fn no_settle(&mut self, buffer: &mut [u8], seen: Seen) -> Answer {
-        if let Phase::Trying(Trial { spare: true, .. })
-        | Phase::Checking(Trial { spare: true, .. }) = self.phase
+        if let Phase::TrialWrite(Trial { spare: true, .. })
+        | Phase::TrialRead(Trial { spare: true, .. }) = self.phase
         {
             self.push_spare(DEAD);
         }

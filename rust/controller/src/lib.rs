@@ -15,6 +15,8 @@ extern crate std;
 pub mod baseline;
 #[cfg(feature = "compare")]
 pub mod compare;
+#[cfg(any(test, feature = "compare"))]
+pub mod fields;
 pub mod raw;
 #[cfg(test)]
 mod tests;
@@ -162,7 +164,7 @@ impl Default for Drive {
 }
 
 impl From<raw::Drive> for Drive {
-    /// Any numbers may stand in the record: the calls refuse what is none.
+    /// Any words may stand in the record: the calls refuse what is none.
     fn from(record: raw::Drive) -> Drive {
         Drive { record }
     }
@@ -178,9 +180,29 @@ impl Drive {
         }
     }
 
-    /// The record's numbers.
+    /// The record as C has it.
     pub fn record(&self) -> &raw::Drive {
         &self.record
+    }
+
+    /// Where the drive is: one of `raw::kind`.
+    pub fn phase(&self) -> u8 {
+        self.record.words[raw::word::PHASE].to_le_bytes()[0]
+    }
+
+    /// Says whether there is a table.
+    pub fn has_table(&self) -> bool {
+        self.record.words[raw::word::KNOWN] != 0
+    }
+
+    /// Says whether the table has changes that are not stored.
+    pub fn has_unstored(&self) -> bool {
+        self.record.words[raw::word::UNSTORED] != 0
+    }
+
+    /// Says whether an answer 3 has ended a command since the last start.
+    pub fn is_latched(&self) -> bool {
+        self.record.words[raw::word::LATCH] != 0
     }
 
     /// Makes the record anew, whatever it was, zeroes the buffer and asks for the
@@ -223,8 +245,8 @@ impl Drive {
     }
 
     /// Writes the table's image into 532 lent bytes, and leaves the record.
-    pub fn image(&mut self, lent: &mut [u8]) -> Answer {
+    pub fn image(&self, lent: &mut [u8]) -> Answer {
         let (buf, len) = (lent.as_mut_ptr(), lent.len());
-        Answer::new(unsafe { raw::bv_image(&mut self.record, buf, len) })
+        Answer::new(unsafe { raw::bv_image(&self.record, buf, len) })
     }
 }

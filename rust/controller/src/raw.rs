@@ -1,25 +1,34 @@
 //! The library as C sees it: `include/bumivondra.h` in Rust.
 
-/// `struct bv_stage`: where the drive stands. What a kind does not have is 0.
+/// How many words a record has.
+pub const WORDS: usize = 153;
+
+/// `struct bv_drive`: the record. All of it is the library's own, but for the
+/// words of `word`, which a board may look at.
 #[repr(C)]
-#[derive(Clone, Copy, Debug, Default, PartialEq, Eq)]
-pub struct Stage {
-    pub sector: u32,
-    pub block: u16,
-    pub kind: u8,
-    pub detail: u8,
-    pub first: u8,
-    pub left: u8,
-    pub spent: u8,
-    pub threshold: u8,
-    pub good: u8,
-    pub spare: u8,
-    pub errors: u8,
-    pub crc: u8,
-    pub timeout: u8,
+#[derive(Clone, Copy, Debug, PartialEq, Eq)]
+pub struct Drive {
+    pub words: [u16; WORDS],
 }
 
-/// The kinds of a stage.
+impl Drive {
+    /// The record that was never started: all zero.
+    pub const NEW: Drive = Drive { words: [0; WORDS] };
+}
+
+/// The words that a board may look at.
+pub mod word {
+    /// Not 0 if there is a table.
+    pub const KNOWN: usize = 0;
+    /// Not 0 while the table has changes that are not stored.
+    pub const UNSTORED: usize = 1;
+    /// Not 0 under the latch.
+    pub const LATCH: usize = 2;
+    /// The low byte is the phase, one of `kind`.
+    pub const PHASE: usize = 4;
+}
+
+/// The phases.
 pub mod kind {
     pub const IDLE: u8 = 0;
     pub const OFFER: u8 = 1;
@@ -29,74 +38,8 @@ pub mod kind {
     pub const STORE: u8 = 5;
     pub const READ: u8 = 6;
     pub const WRITE: u8 = 7;
-    pub const ATTEMPT_WRITE: u8 = 8;
-    pub const ATTEMPT_READ: u8 = 9;
-}
-
-/// `struct bv_flags`, each 0 or 1.
-#[repr(C)]
-#[derive(Clone, Copy, Debug, Default, PartialEq, Eq)]
-pub struct Flags {
-    pub known: u8,
-    pub changed: u8,
-    pub latch: u8,
-    pub fresh: u8,
-}
-
-/// The most entries of the two lists.
-pub const SPARES: usize = 32;
-pub const BADS: usize = 100;
-
-/// The entry of a dead spare.
-pub const DEAD: u16 = 0xFFFE;
-
-/// `struct bv_drive`: the record.
-#[repr(C)]
-#[derive(Clone, Copy, Debug, PartialEq, Eq)]
-pub struct Drive {
-    pub spares: [u16; SPARES],
-    pub bads: [u16; BADS],
-    pub nspares: usize,
-    pub nbads: usize,
-    pub count: usize,
-    pub fed: usize,
-    pub stage: Stage,
-    pub flags: Flags,
-    pub command: [u8; 6],
-}
-
-impl Drive {
-    /// The record that was never started: all zero.
-    pub const NEW: Drive = Drive {
-        spares: [0; SPARES],
-        bads: [0; BADS],
-        nspares: 0,
-        nbads: 0,
-        count: 0,
-        fed: 0,
-        stage: Stage {
-            sector: 0,
-            block: 0,
-            kind: kind::IDLE,
-            detail: 0,
-            first: 0,
-            left: 0,
-            spent: 0,
-            threshold: 0,
-            good: 0,
-            spare: 0,
-            errors: 0,
-            crc: 0,
-            timeout: 0,
-        },
-        flags: Flags {
-            known: 0,
-            changed: 0,
-            latch: 0,
-            fresh: 0,
-        },
-        command: [0; 6],
-    };
+    pub const TRIAL_WRITE: u8 = 8;
+    pub const TRIAL_READ: u8 = 9;
 }
 
 /// `struct bv_reply`: what a call answers.
@@ -114,36 +57,8 @@ const _: () = {
     assert!(size_of::<Reply>() == 8);
     assert!(offset_of!(Reply, kind) == 0);
     assert!(offset_of!(Reply, value) == 4);
-    assert!(size_of::<Stage>() == 20);
-    assert!(offset_of!(Stage, sector) == 0);
-    assert!(offset_of!(Stage, block) == 4);
-    assert!(offset_of!(Stage, kind) == 6);
-    assert!(offset_of!(Stage, detail) == 7);
-    assert!(offset_of!(Stage, first) == 8);
-    assert!(offset_of!(Stage, left) == 9);
-    assert!(offset_of!(Stage, spent) == 10);
-    assert!(offset_of!(Stage, threshold) == 11);
-    assert!(offset_of!(Stage, good) == 12);
-    assert!(offset_of!(Stage, spare) == 13);
-    assert!(offset_of!(Stage, errors) == 14);
-    assert!(offset_of!(Stage, crc) == 15);
-    assert!(offset_of!(Stage, timeout) == 16);
-    assert!(size_of::<Flags>() == 4);
-    assert!(offset_of!(Flags, known) == 0);
-    assert!(offset_of!(Flags, changed) == 1);
-    assert!(offset_of!(Flags, latch) == 2);
-    assert!(offset_of!(Flags, fresh) == 3);
-    assert!(size_of::<Drive>() == 328);
-    assert!(align_of::<Drive>() == 8);
-    assert!(offset_of!(Drive, spares) == 0);
-    assert!(offset_of!(Drive, bads) == 64);
-    assert!(offset_of!(Drive, nspares) == 264);
-    assert!(offset_of!(Drive, nbads) == 272);
-    assert!(offset_of!(Drive, count) == 280);
-    assert!(offset_of!(Drive, fed) == 288);
-    assert!(offset_of!(Drive, stage) == 296);
-    assert!(offset_of!(Drive, flags) == 316);
-    assert!(offset_of!(Drive, command) == 320);
+    assert!(size_of::<Drive>() == 2 * WORDS);
+    assert!(align_of::<Drive>() == 2);
 };
 
 extern "C" {
@@ -166,5 +81,5 @@ extern "C" {
         n: usize,
     ) -> Reply;
     pub fn bv_reset(drive: *mut Drive, buf: *mut u8, len: usize) -> Reply;
-    pub fn bv_image(drive: *mut Drive, buf: *mut u8, len: usize) -> Reply;
+    pub fn bv_image(drive: *const Drive, buf: *mut u8, len: usize) -> Reply;
 }

@@ -5,7 +5,8 @@ use std::vec;
 use std::vec::Vec;
 use std::{env, fs};
 
-use crate::raw::{self, kind};
+use crate::fields::Fields;
+use crate::raw::kind;
 use crate::{surface, Answer, Code, Drive, Offer, Sector, BUFFER, GO_ON, SECTOR_BYTES, TABLE};
 
 /// The archive that was linked.
@@ -248,21 +249,21 @@ fn codes_in_their_order() {
 
 #[test]
 fn records_that_are_none() {
-    let changes: [fn(&mut raw::Drive); 8] = [
+    let changes: [fn(&mut Fields); 8] = [
         |record| record.stage.kind = 10,
-        |record| record.stage.timeout = 1,
-        |record| record.flags.latch = 2,
+        |record| record.stage.kind = 255,
         |record| (record.stage.kind, record.stage.detail) = (kind::OFFER, 5),
+        |record| (record.stage.kind, record.stage.detail) = (kind::START, 11),
         |record| record.nspares = 33,
         |record| (record.nbads, record.bads[0]) = (1, 9728),
         |record| record.count = 7,
-        |record| record.fed = usize::MAX,
+        |record| record.fed = u16::MAX,
     ];
     for change in changes {
         let (drive, buffer) = started();
-        let mut record = *drive.record();
+        let mut record = Fields::of(drive.record());
         change(&mut record);
-        let wrong = Drive::from(record);
+        let wrong = Drive::from(record.record());
         let code = Answer::Refused(Code::Record);
         let (mut drive, mut lent) = (wrong.clone(), buffer.clone());
         assert_eq!(drive.raise(&mut lent), code);
@@ -276,6 +277,46 @@ fn records_that_are_none() {
         assert_eq!((&drive, &lent), (&wrong, &buffer));
         assert_eq!(drive.start(&mut lent), Answer::Read(TABLE));
     }
+}
+
+#[test]
+fn flags_that_are_not_0_are_true() {
+    for number in [1, 2, 256, u16::MAX] {
+        let (drive, mut buffer) = started();
+        let mut record = Fields::of(drive.record());
+        (record.flags.latch, record.flags.changed) = (number, number);
+        let mut drive = Drive::from(record.record());
+        assert!(drive.is_latched() && drive.has_unstored());
+        let done = command(&mut drive, &mut buffer, &READ_HEALTH, &[]);
+        assert_eq!(done, Answer::Finished);
+        assert_eq!(buffer[4..8], [32, 0, 1, 1]);
+        // What the call left is a packing again.
+        let left = Fields::of(drive.record()).flags;
+        assert_eq!((left.latch, left.changed, left.fresh), (1, 1, 0));
+    }
+}
+
+#[test]
+fn what_a_board_may_look_at() {
+    let (mut drive, mut buffer) = (Drive::new(), vec![0; BUFFER]);
+    assert_eq!((drive.phase(), drive.has_table()), (kind::IDLE, false));
+    drive.start(&mut buffer);
+    assert_eq!((drive.phase(), drive.has_table()), (kind::START, false));
+    drive.surface(&mut buffer, surface::GOOD, &image(&[], &[]));
+    assert_eq!((drive.phase(), drive.has_table()), (kind::IDLE, true));
+    let asked = command(&mut drive, &mut buffer, &[2, 0, 0, 17], &[]);
+    assert_eq!(
+        (asked, drive.phase()),
+        (Answer::Write(Sector(17)), kind::TRIAL_WRITE)
+    );
+    for _ in 0..2 {
+        drive.surface(&mut buffer, surface::TIMEOUT, &[]);
+    }
+    assert!(!drive.has_unstored() && !drive.is_latched());
+    // A spare under trial dies of answer 3.
+    let done = drive.surface(&mut buffer, surface::NO_SETTLE, &[]);
+    assert_eq!((done, drive.phase()), (Answer::Finished, kind::IDLE));
+    assert!(drive.has_unstored() && drive.is_latched());
 }
 
 #[test]

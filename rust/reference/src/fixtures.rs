@@ -37,8 +37,8 @@ pub fn of_images() -> Vec<Fixture> {
     let input = images::input();
     let transcript = images::transcript(input.as_bytes());
     vec![
-        Fixture::new("crates/images/stdin", input),
-        Fixture::new("crates/images/stdout", transcript),
+        Fixture::new("crates/test_images/stdin", input),
+        Fixture::new("crates/test_images/stdout", transcript),
     ]
 }
 
@@ -202,7 +202,7 @@ mod tests {
     #[test]
     fn names_are_known() {
         let paths: Vec<String> = all().into_iter().map(|fixture| fixture.path).collect();
-        assert_eq!(paths[..2], ["crates/images/stdin", "crates/images/stdout"]);
+        assert_eq!(paths[..2], ["crates/test_images/stdin", "crates/test_images/stdout"]);
         for (pair, stored) in paths[2..].chunks(2).zip(scripts::all()) {
             let path = format!("tests/scripts/{}", stored.name);
             assert_eq!(pair, [format!("{path}.script"), format!("{path}.expected")]);

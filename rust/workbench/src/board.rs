@@ -69,9 +69,9 @@ impl Board {
         &self.history
     }
 
-    /// The controller's record.
-    pub fn record(&self) -> &controller::raw::Drive {
-        self.drive.record()
+    /// Says whether the table has changes that are not stored.
+    pub fn has_unstored(&self) -> bool {
+        self.drive.has_unstored()
     }
 
     /// The last answer that was neither an access nor a refusal: where the handshake

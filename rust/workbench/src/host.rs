@@ -1,10 +1,9 @@
 //! The host: its commands as handshakes on the board, and what each came to.
 
-use controller::raw::{self, DEAD};
 use controller::{Answer, Code, Offer, GO_ON};
 use reference::drive::Call;
 use reference::geometry::{home, spare, Block, Sector};
-use reference::image::three_bytes;
+use reference::image::{three_bytes, Spare, Table};
 
 use crate::board::{Accessed, Board};
 use crate::status;
@@ -149,7 +148,7 @@ impl Host {
 
     /// Makes calls until one finishes a command or is refused.
     fn perform(&mut self, calls: &[Call]) -> Report {
-        let before = *self.board.record();
+        let before = self.board.table();
         let mut accesses = vec![];
         let mut end = End::Waits;
         for call in calls {
@@ -166,7 +165,7 @@ impl Host {
         self.tally.accesses += accesses.len() as u64;
         let changes = match calls {
             [Call::Start] => vec![],
-            _ => changes(&before, self.board.record()),
+            _ => changes(before.as_ref(), self.board.table().as_ref()),
         };
         Report {
             accesses,
@@ -183,11 +182,14 @@ fn command_bytes(opcode: u8, number: u32) -> Vec<u8> {
     bytes
 }
 
-/// What a command changed in the table. Its own block is the only one that a
+/// Returns what a command changed in the table. Its own block is the only one that a
 /// command enters or removes.
-fn changes(before: &raw::Drive, after: &raw::Drive) -> Vec<Change> {
-    let mut changes = spare_changes(before, after);
-    match before.nbads.cmp(&after.nbads) {
+fn changes(before: Option<&Table>, after: Option<&Table>) -> Vec<Change> {
+    let (Some(before), Some(after)) = (before, after) else {
+        return vec![];
+    };
+    let mut changes = spare_changes(before.spares(), after.spares());
+    match before.bads().len().cmp(&after.bads().len()) {
         std::cmp::Ordering::Less => changes.push(Change::EnteredBad),
         std::cmp::Ordering::Greater => changes.push(Change::RemovedBad),
         std::cmp::Ordering::Equal => {}
@@ -195,24 +197,21 @@ fn changes(before: &raw::Drive, after: &raw::Drive) -> Vec<Change> {
     changes
 }
 
-fn spare_changes(before: &raw::Drive, after: &raw::Drive) -> Vec<Change> {
-    let old = &before.spares[..before.nspares];
-    let new = &after.spares[..after.nspares];
+fn spare_changes(old: &[Spare], new: &[Spare]) -> Vec<Change> {
     let differing = (0..new.len()).filter(|&k| old.get(k) != Some(&new[k]));
     differing
         .map(|k| match new[k] {
-            DEAD => Change::Died { spare: k },
-            number => moved(old, number, k),
+            Spare::Dead => Change::Died { spare: k },
+            Spare::Moved(block) => moved(old, block, k),
         })
         .collect()
 }
 
-/// A block stands newly at spare `k`.
-fn moved(old: &[u16], number: u16, k: usize) -> Change {
-    let block = Block::new(number.into()).expect("a live entry is a block");
+/// Returns the move of a block to spare `k`.
+fn moved(old: &[Spare], block: Block, k: usize) -> Change {
     let was = old
         .iter()
-        .position(|&entry| entry == number)
+        .position(|&entry| entry == Spare::Moved(block))
         .and_then(spare);
     Change::Moved {
         block,

@@ -49,7 +49,7 @@ fn bad_blocks(table: &Table) -> Option<String> {
 
 /// Whether all changes of the table are on the platter.
 pub fn stored(host: &Host) -> bool {
-    host.board.record().flags.changed == 0
+    !host.board.has_unstored()
 }
 
 /// All lines of a summary but the last.

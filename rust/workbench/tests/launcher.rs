@@ -256,7 +256,7 @@ fn another_kit_or_library_is_proved(checkout: &Checkout) {
 fn other_edits_cost_no_proof(checkout: &Checkout) {
     for name in [
         "crates/geometry/must-fail/block_9728.edit",
-        "crates/replay/src/main.rt",
+        "crates/test_replay/src/main.rt",
         "rust/workbench/src/lib.rs",
         "README.md",
     ] {

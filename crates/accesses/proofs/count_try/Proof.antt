@@ -1,5 +1,6 @@
 -- `accesses::count_try` meets its contract.
-use borrow.Author.Tests.{lt-ltb, le-ltb}
+use borrow.Author.Tests.{le-ltb, lt-ltb}
+use Rattle.drive.specs.Access.{startAnswered}
 use borrow.Author.Needs.{needs}
 use Rattle.accesses.proofs.count_try.Statement.{statement}
 use Rattle.accesses.proofs.count_try.Tie as tie
@@ -13,16 +14,18 @@ add-t6 c = search needs
 in-phase-requires : tie.Need-in-phase-requires
 in-phase-requires c κs = search needs
 
-said-requires : tie.Need-said-requires
-said-requires c κs = search needs
+say-requires : tie.Need-say-requires
+say-requires c κs = search needs
 
 returns : tie.Need-returns
-returns c = rw (c .said .ensures, c .before .in-phase .ensures, c .before .before .table-sector .ensures, lt-ltb _ _ (c .before .before .before .if1 .taken))
+unfolding startAnswered
+returns c = rw (c .say .ensures, c .before .in-phase .ensures, c .before .before .table-sector .ensures, lt-ltb _ _ (c .before .before .before .if1 .taken))
 
 give-up-requires : tie.Need-give-up-requires
 give-up-requires c κs = search needs
 
 returns-2 : tie.Need-returns-2
+unfolding startAnswered
 returns-2 c = rw (c .give-up .ensures, le-ltb _ _ (c .before .if1 .left))
 
 pub count-try-spec : {M : Type 1} → statement M
@@ -32,7 +35,7 @@ count-try-spec =
     table-sector-requires
     add-t6
     in-phase-requires
-    said-requires
+    say-requires
     returns
     give-up-requires
     returns-2)

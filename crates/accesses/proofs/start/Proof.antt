@@ -1,53 +1,62 @@
--- `accesses::start` meets its contract.
-use mathlib.Core.Path.{_≡_, sym}
-use mathlib.Core.Bool.{true, false, cond}
-use borrow.Author.Tests.{eq-eqb, ne-eqb, le-leb, lt-leb}
-use lib.ListN.{length}
-use denote.Ref.{now}
-use lib.Dec.{eqb, leb}
-use Rattle.drive.specs.Access.{toRead}
+-- `accesses::start` meets its contract: the table exactly for a well-formed image.
+use mathlib.Core.Path.{ap}
+use borrow.Author.Tests.{ne-eqb}
+use Rattle.image.specs.declared.Image.{Image}
+use Rattle.drive.specs.Access.{startAnswered}
+use Rattle.accesses.proofs.Answers.{is-formed}
 use borrow.Author.Needs.{needs}
 use Rattle.accesses.proofs.start.Statement.{statement}
 use Rattle.accesses.proofs.start.Tie as tie
 
-refused-requires : tie.Need-refused-requires
-refused-requires c κs = search needs
+give-up-requires : tie.Need-give-up-requires
+give-up-requires c κs = search needs
 
 returns : tie.Need-returns
-unfolding toRead
-returns c = rw (c .refused .ensures, lt-leb _ _ (c .before .if1 .taken))
+unfolding startAnswered
+returns c = rw (c .give-up .ensures, c .before .if1 .taken)
 
-due-requires : tie.Need-due-requires
-due-requires c κs = search needs
-
-refused-requires-2 : tie.Need-refused-requires-2
-refused-requires-2 c κs = search needs
+count-try-requires : tie.Need-count-try-requires
+count-try-requires c κs = search needs
 
 returns-2 : tie.Need-returns-2
-unfolding toRead
-returns-2 c =
-    let d : c .before .before .due .result ≡ cond (leb (c .before .before .before .before .before .args .a) 1) 532 0 = c .before .before .due .ensures in
-    let e : eqb (length (now (c .before .before .before .before .before .args .bytes))) (cond (leb (c .before .before .before .before .before .args .a) 1) 532 0) ≡ false = rw (sym d) (ne-eqb _ _ (c .before .if2 .taken)) in
-    rw (c .refused2 .ensures, le-leb _ _ (c .before .before .before .if1 .left), e)
+unfolding startAnswered
+returns-2 c = rw (c .count-try .ensures, ne-eqb _ _ (c .before .if2 .taken), ne-eqb _ _ (c .before .before .if1 .left))
 
-start-answered-requires : tie.Need-start-answered-requires
-start-answered-requires c κs = search needs
+read-image-requires : tie.Need-read-image-requires
+read-image-requires c κs = search needs
+
+enum-told : tie.Need-enum-told
+enum-told c = search needs
+
+enum-told-2 : tie.Need-enum-told-2
+enum-told-2 c = search needs
+
+count-try-requires-2 : tie.Need-count-try-requires-2
+count-try-requires-2 c κs = search needs
 
 returns-3 : tie.Need-returns-3
-unfolding toRead
-returns-3 c =
-    let d : c .before .before .due .result ≡ cond (leb (c .before .before .before .before .before .args .a) 1) 532 0 = c .before .before .due .ensures in
-    let e : eqb (length (now (c .before .before .before .before .before .args .bytes))) (cond (leb (c .before .before .before .before .before .args .a) 1) 532 0) ≡ true = rw (sym d) (eq-eqb _ _ (c .before .if2 .left)) in
-    rw (c .start-answered .ensures, le-leb _ _ (c .before .before .before .if1 .left), e)
+unfolding startAnswered
+returns-3 c = rw (c .count-try2 .ensures, c .before .before .before .before .if2 .left, is-formed _ _ _ (ap (λ (x : Image). x .found) (c .before .before .before .read-image .ensures)) (c .before .enum-told2 .given .1))
+
+with-table-requires : tie.Need-with-table-requires
+with-table-requires c κs = search needs
+
+returns-4 : tie.Need-returns-4
+unfolding startAnswered
+returns-4 c = rw (c .with-table .ensures, c .before .before .before .before .if2 .left, is-formed _ _ _ (ap (λ (x : Image). x .found) (c .before .before .before .read-image .ensures)) (c .before .enum-told .given .1))
 
 pub start-spec : {M : Type 1} → statement M
 start-spec =
     tie.close
     (tie.spec
-    refused-requires
+    give-up-requires
     returns
-    due-requires
-    refused-requires-2
+    count-try-requires
     returns-2
-    start-answered-requires
-    returns-3)
+    read-image-requires
+    enum-told
+    enum-told-2
+    count-try-requires-2
+    returns-3
+    with-table-requires
+    returns-4)

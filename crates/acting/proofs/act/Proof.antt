@@ -1,43 +1,26 @@
--- `acting::act` meets its contract, rule by rule.
-use mathlib.Core.Path.{_≡_, sym, ap, _∙_}
-use mathlib.Core.Bool.{true, false}
-use borrow.Author.Tests.{lt-ltb, le-ltb, eq-eqb, ne-eqb}
+-- `acting::act` meets its contract: each return follows the tests that were passed.
+use mathlib.Core.Path.{sym, _∙_}
 use native.Mathlib.Omega.{arith}
-use lib.ListN.{length-take}
-use denote.Ref.{now}
-use lib.Dec.{eqb}
-use Prim.Native.Nat.{ℕ, _-_}
-use Rattle.acting.proofs.Given.{number-left, write-aside, acts-write}
-use mathlib.Core.List.{[]}
-use Rattle.records.specs.Turns.{turnOf, lent}
-use Rattle.drive.specs.Results.{Result}
-use Rattle.geometry.specs.declared.Block.{Block}
-use Rattle.drive.specs.Words.{numberOf, opcodeOf, blockOf}
-use Rattle.drive.specs.Handshake.{acted, noNumber}
 use borrow.Author.Needs.{needs}
+use borrow.Author.Tests.{lt-ltb, le-ltb, ltb-true}
+use denote.Ref.{now}
+use lib.ListN.{length-take}
+use Rattle.drive.specs.Handshake.{acted}
+use Rattle.records.proofs.Numbers.{block-left}
 use Rattle.acting.proofs.act.Statement.{statement}
 use Rattle.acting.proofs.act.Tie as tie
 
-abbrev blk : ℕ → Block
-blk x = record { 0 = x }
-
-array-read-op : tie.Need-array-read-op
-array-read-op c = search needs
-
-number-requires : tie.Need-number-requires
-number-requires c κs = search needs
+is-read-requires : tie.Need-is-read-requires
+is-read-requires c κs = search needs
 
 end-requires : tie.Need-end-requires
 end-requires c κs = search needs
 
-same-length : tie.Need-same-length
-same-length c = search needs
-
 returns : tie.Need-returns
-unfolding acted opcodeOf
+unfolding acted
 returns c =
-    let n1 = lt-ltb _ _ (c .before .before .before .before .if1 .taken) in
-    (rw (c .before .before .end .ensures .0, n1), rw (c .before .before .end .ensures .1, n1))
+    let f = c .before in
+    rw (c .end .ensures, lt-ltb _ _ (f .if1 .taken))
 
 no-number-requires : tie.Need-no-number-requires
 no-number-requires c κs = search needs
@@ -45,193 +28,163 @@ no-number-requires c κs = search needs
 end-requires-2 : tie.Need-end-requires-2
 end-requires-2 c κs = search needs
 
-same-length-2 : tie.Need-same-length-2
-same-length-2 c = search needs
-
 returns-2 : tie.Need-returns-2
-unfolding acted opcodeOf
+unfolding acted
 returns-2 c =
-    let a = c .before .before .before .before .before .before .before .before .before .before .before .before .before .before .args in
-    let v : c .before .before .before .before .before .before .before .before .number .result ≡ numberOf (a .l .command) = c .before .before .before .before .before .before .before .before .number .ensures in
-    let n1 = le-ltb _ _ (c .before .before .before .before .before .before .if1 .left) in
-    let n2 : noNumber (opcodeOf (a .l .command)) (numberOf (a .l .command)) ≡ true = rw (sym v) (sym (c .before .before .before .before .before .no-number .ensures) ∙ c .before .before .before .before .if2 .taken) in
-    (rw (c .before .before .end2 .ensures .0, n1, n2), rw (c .before .before .end2 .ensures .1, n1, n2))
+    let n = c .before in
+    let f = n .before .before in
+    rw (c .end2 .ensures, le-ltb _ _ (f .if1 .left), sym (n .before .no-number .ensures) ∙ n .if2 .taken)
+
+asks-buffer-requires : tie.Need-asks-buffer-requires
+asks-buffer-requires c κs = search needs
 
 end-requires-3 : tie.Need-end-requires-3
 end-requires-3 c κs = search needs
 
-same-length-3 : tie.Need-same-length-3
-same-length-3 c = search needs
-
 returns-3 : tie.Need-returns-3
-unfolding acted opcodeOf
+unfolding acted
 returns-3 c =
-    let a = c .before .before .before .before .before .before .before .before .before .before .before .before .before .before .before .args in
-    let v : c .before .before .before .before .before .before .before .before .before .number .result ≡ numberOf (a .l .command) = c .before .before .before .before .before .before .before .before .before .number .ensures in
-    let n1 = le-ltb _ _ (c .before .before .before .before .before .before .before .if1 .left) in
-    let n2 : noNumber (opcodeOf (a .l .command)) (numberOf (a .l .command)) ≡ false = rw (sym v) (sym (c .before .before .before .before .before .before .no-number .ensures) ∙ c .before .before .before .before .before .if2 .left) in
-    let n3 : eqb (numberOf (a .l .command)) 0xFFFFFE ≡ true = rw (sym v) (eq-eqb _ _ (c .before .before .before .before .if3 .taken)) in
-    (rw (c .before .before .end3 .ensures .0, n1, n2, n3), rw (c .before .before .end3 .ensures .1, n1, n2, n3))
+    let s = c .before in
+    let n = s .before .before in
+    let f = n .before .before in
+    rw (c .end3 .ensures, le-ltb _ _ (f .if1 .left), sym (n .before .no-number .ensures) ∙ n .if2 .left, sym (s .before .asks-buffer .ensures) ∙ s .if3 .taken)
 
 end-requires-4 : tie.Need-end-requires-4
 end-requires-4 c κs = search needs
 
-same-length-4 : tie.Need-same-length-4
-same-length-4 c = search needs
-
 returns-4 : tie.Need-returns-4
-unfolding acted opcodeOf
+unfolding acted
 returns-4 c =
-    let q = c .before .before .before .before in
-    let a = q .before .before .before .before .before .before .before .before .before .before .before .before .before .args in
-    let v : q .before .before .before .before .before .before .before .number .result ≡ numberOf (a .l .command) = q .before .before .before .before .before .before .before .number .ensures in
-    let n1 = le-ltb _ _ (q .before .before .before .before .before .if1 .left) in
-    let n2 : noNumber (opcodeOf (a .l .command)) (numberOf (a .l .command)) ≡ false = rw (sym v) (sym (q .before .before .before .before .no-number .ensures) ∙ q .before .before .before .if2 .left) in
-    let n3 : eqb (numberOf (a .l .command)) 0xFFFFFE ≡ false = rw (sym v) (ne-eqb _ _ (q .before .before .if3 .left)) in
-    (rw (c .before .before .end4 .ensures .0, n1, n2, n3, q .if4 .taken), rw (c .before .before .end4 .ensures .1, n1, n2, n3, q .if4 .taken))
+    let k = c .before in
+    let s = k .before .before in
+    let n = s .before .before in
+    let f = n .before .before in
+    rw (c .end4 .ensures, f .before .before .is-read .ensures, le-ltb _ _ (f .if1 .left), sym (n .before .no-number .ensures) ∙ n .if2 .left, sym (s .before .asks-buffer .ensures) ∙ s .if3 .left, k .if4 .taken)
 
-give-table-requires : tie.Need-give-table-requires
-give-table-requires c κs = search needs
+asks-table-requires : tie.Need-asks-table-requires
+asks-table-requires c κs = search needs
 
-same-length-5 : tie.Need-same-length-5
-same-length-5 c = search needs
+end-requires-5 : tie.Need-end-requires-5
+end-requires-5 c κs = search needs
 
 returns-5 : tie.Need-returns-5
-unfolding acted opcodeOf
+unfolding acted
 returns-5 c =
-    let q = c .before .before .before .before .before in
-    let a = q .before .before .before .before .before .before .before .before .before .before .before .before .before .args in
-    let v : q .before .before .before .before .before .before .before .number .result ≡ numberOf (a .l .command) = q .before .before .before .before .before .before .before .number .ensures in
-    let n1 = le-ltb _ _ (q .before .before .before .before .before .if1 .left) in
-    let n2 : noNumber (opcodeOf (a .l .command)) (numberOf (a .l .command)) ≡ false = rw (sym v) (sym (q .before .before .before .before .no-number .ensures) ∙ q .before .before .before .if2 .left) in
-    let n3 : eqb (numberOf (a .l .command)) 0xFFFFFE ≡ false = rw (sym v) (ne-eqb _ _ (q .before .before .if3 .left)) in
-    let n5 : eqb (numberOf (a .l .command)) 0xFFFFFF ≡ true = rw (sym v) (eq-eqb _ _ (c .before .before .before .before .if5 .taken)) in
-    (rw (c .before .before .give-table .ensures .0, n1, n2, n3, q .if4 .left, n5), rw (c .before .before .give-table .ensures .1, n1, n2, n3, q .if4 .left, n5))
+    let t = c .before in
+    let k = t .before .before in
+    let s = k .before .before in
+    let n = s .before .before in
+    let f = n .before .before in
+    rw (c .end5 .ensures, le-ltb _ _ (f .if1 .left), sym (n .before .no-number .ensures) ∙ n .if2 .left, sym (s .before .asks-buffer .ensures) ∙ s .if3 .left, k .if4 .left, sym (t .before .asks-table .ensures) ∙ t .if5 .taken)
 
-give-health-requires : tie.Need-give-health-requires
-give-health-requires c κs = search needs
+asks-health-requires : tie.Need-asks-health-requires
+asks-health-requires c κs = search needs
 
-same-length-6 : tie.Need-same-length-6
-same-length-6 c = search needs
+health-requires : tie.Need-health-requires
+health-requires c κs = search needs
+
+end-requires-6 : tie.Need-end-requires-6
+end-requires-6 c κs = search needs
 
 returns-6 : tie.Need-returns-6
-unfolding acted opcodeOf
+unfolding acted
 returns-6 c =
-    let q = c .before .before .before .before .before .before in
-    let a = q .before .before .before .before .before .before .before .before .before .before .before .before .before .args in
-    let v : q .before .before .before .before .before .before .before .number .result ≡ numberOf (a .l .command) = q .before .before .before .before .before .before .before .number .ensures in
-    let n1 = le-ltb _ _ (q .before .before .before .before .before .if1 .left) in
-    let n2 : noNumber (opcodeOf (a .l .command)) (numberOf (a .l .command)) ≡ false = rw (sym v) (sym (q .before .before .before .before .no-number .ensures) ∙ q .before .before .before .if2 .left) in
-    let n3 : eqb (numberOf (a .l .command)) 0xFFFFFE ≡ false = rw (sym v) (ne-eqb _ _ (q .before .before .if3 .left)) in
-    let n5 : eqb (numberOf (a .l .command)) 0xFFFFFF ≡ false = rw (sym v) (ne-eqb _ _ (c .before .before .before .before .before .if5 .left)) in
-    let n6 : eqb (numberOf (a .l .command)) 0xFFFFFD ≡ true = rw (sym v) (eq-eqb _ _ (c .before .before .before .before .if6 .taken)) in
-    (rw (c .before .before .give-health .ensures .0, n1, n2, n3, q .if4 .left, n5, n6), rw (c .before .before .give-health .ensures .1, n1, n2, n3, q .if4 .left, n5, n6))
-
-block-requires : tie.Need-block-requires
-unfolding opcodeOf
-block-requires c κs =
-    let q = c .before .before .before in
-    number-left (opcodeOf (q .before .before .before .before .before .before .before .before .before .before .before .before .before .args .l .command)) (q .before .before .before .before .before .before .before .number .result) (sym (q .before .before .before .before .no-number .ensures) ∙ q .before .before .before .if2 .left) (ne-eqb _ _ (q .before .before .if3 .left)) (ne-eqb _ _ (c .before .before .if5 .left)) (ne-eqb _ _ (c .before .if6 .left))
+    let h = c .before .before in
+    let t = h .before .before in
+    let k = t .before .before in
+    let s = k .before .before in
+    let n = s .before .before in
+    let f = n .before .before in
+    rw (c .end6 .ensures, c .before .health .ensures, le-ltb _ _ (f .if1 .left), sym (n .before .no-number .ensures) ∙ n .if2 .left, sym (s .before .asks-buffer .ensures) ∙ s .if3 .left, k .if4 .left, sym (t .before .asks-table .ensures) ∙ t .if5 .left, sym (h .before .asks-health .ensures) ∙ h .if6 .taken)
 
 cut-requires : tie.Need-cut-requires
 cut-requires c κs = search needs
 
 first-read-requires : tie.Need-first-read-requires
 first-read-requires c κs =
-    let s = c .before .before .before .before .before .before .before .before .before .before .before .before .before .before .before .before .before .before in
-    rw (c .cut .ensures) (omega (arith, length-take (s .args .n) (now (s .args .spares)), s .pre .1))
+    let h = c .before .before in
+    let t = h .before .before in
+    let k = t .before .before in
+    let s = k .before .before in
+    let n = s .before .before in
+    let f = n .before .before in
+    let left = block-left _ _ (sym (n .before .no-number .ensures) ∙ n .if2 .left) (sym (s .before .asks-buffer .ensures) ∙ s .if3 .left) (sym (t .before .asks-table .ensures) ∙ t .if5 .left) (sym (h .before .asks-health .ensures) ∙ h .if6 .left) in
+    let a = f .before .before .before .before .before .before in
+    (ltb-true _ 9728 left, rw (c .cut .ensures) (omega (arith, length-take (a .args .n) (now (a .args .spares)), a .pre .0)))
 
 returns-7 : tie.Need-returns-7
-unfolding acted opcodeOf
+unfolding acted
 returns-7 c =
-    let q = c .before .before .before .before .before .before in
-    let a = q .before .before .before .before .before .before .before .before .before .before .before .before .before .args in
-    let v : q .before .before .before .before .before .before .before .number .result ≡ numberOf (a .l .command) = q .before .before .before .before .before .before .before .number .ensures in
-    let n1 = le-ltb _ _ (q .before .before .before .before .before .if1 .left) in
-    let n2 : noNumber (opcodeOf (a .l .command)) (numberOf (a .l .command)) ≡ false = rw (sym v) (sym (q .before .before .before .before .no-number .ensures) ∙ q .before .before .before .if2 .left) in
-    let n3 : eqb (numberOf (a .l .command)) 0xFFFFFE ≡ false = rw (sym v) (ne-eqb _ _ (q .before .before .if3 .left)) in
-    let n5 : eqb (numberOf (a .l .command)) 0xFFFFFF ≡ false = rw (sym v) (ne-eqb _ _ (c .before .before .before .before .before .if5 .left)) in
-    let n6 : eqb (numberOf (a .l .command)) 0xFFFFFD ≡ false = rw (sym v) (ne-eqb _ _ (c .before .before .before .before .if6 .left)) in
-    let n7 = eq-eqb _ _ (c .before .before .before .if7 .taken) in
-    let b : c .before .before .block .result ≡ blockOf (a .l .command) = ap (λ (x : ℕ). blk x) (c .before .before .block .ensures ∙ v) in
-    (rw (c .first-read .ensures, c .before .cut .ensures, b, n1, n2, n3, q .if4 .left, n5, n6, n7), rw (n1, n2, n3, q .if4 .left, n5, n6, n7))
+    let h = c .before .before .before in
+    let t = h .before .before in
+    let k = t .before .before in
+    let s = k .before .before in
+    let n = s .before .before in
+    let f = n .before .before in
+    rw (c .first-read .ensures, c .before .cut .ensures, le-ltb _ _ (f .if1 .left), sym (n .before .no-number .ensures) ∙ n .if2 .left, sym (s .before .asks-buffer .ensures) ∙ s .if3 .left, k .if4 .left, sym (t .before .asks-table .ensures) ∙ t .if5 .left, sym (h .before .asks-health .ensures) ∙ h .if6 .left, sym (f .before .before .is-read .ensures) ∙ c .before .before .if7 .taken)
 
-end-requires-5 : tie.Need-end-requires-5
-end-requires-5 c κs = search needs
-
-same-length-7 : tie.Need-same-length-7
-same-length-7 c = search needs
+end-requires-7 : tie.Need-end-requires-7
+end-requires-7 c κs = search needs
 
 returns-8 : tie.Need-returns-8
-unfolding acted opcodeOf
+unfolding acted
 returns-8 c =
-    let q = c .before .before .before .before .before .before .before .before in
-    let a = q .before .before .before .before .before .before .before .before .before .before .before .before .before .args in
-    let v : q .before .before .before .before .before .before .before .number .result ≡ numberOf (a .l .command) = q .before .before .before .before .before .before .before .number .ensures in
-    let n1 = le-ltb _ _ (q .before .before .before .before .before .if1 .left) in
-    let n2 : noNumber (opcodeOf (a .l .command)) (numberOf (a .l .command)) ≡ false = rw (sym v) (sym (q .before .before .before .before .no-number .ensures) ∙ q .before .before .before .if2 .left) in
-    let n3 : eqb (numberOf (a .l .command)) 0xFFFFFE ≡ false = rw (sym v) (ne-eqb _ _ (q .before .before .if3 .left)) in
-    let n5 : eqb (numberOf (a .l .command)) 0xFFFFFF ≡ false = rw (sym v) (ne-eqb _ _ (c .before .before .before .before .before .before .before .if5 .left)) in
-    let n6 : eqb (numberOf (a .l .command)) 0xFFFFFD ≡ false = rw (sym v) (ne-eqb _ _ (c .before .before .before .before .before .before .if6 .left)) in
-    let n7 = ne-eqb _ _ (c .before .before .before .before .before .if7 .left) in
-    (rw (c .before .before .end5 .ensures .0, n1, n2, n3, q .if4 .left, n5, n6, n7, c .before .before .before .before .if8 .taken), rw (c .before .before .end5 .ensures .1, n1, n2, n3, q .if4 .left, n5, n6, n7, c .before .before .before .before .if8 .taken))
-
-block-requires-2 : tie.Need-block-requires-2
-unfolding opcodeOf
-block-requires-2 c κs =
-    let q = c .before .before .before .before in
-    number-left (opcodeOf (q .before .before .before .before .before .before .before .before .before .before .before .before .before .args .l .command)) (q .before .before .before .before .before .before .before .number .result) (sym (q .before .before .before .before .no-number .ensures) ∙ q .before .before .before .if2 .left) (ne-eqb _ _ (q .before .before .if3 .left)) (ne-eqb _ _ (c .before .before .before .if5 .left)) (ne-eqb _ _ (c .before .before .if6 .left))
+    let h = c .before .before .before in
+    let t = h .before .before in
+    let k = t .before .before in
+    let s = k .before .before in
+    let n = s .before .before in
+    let f = n .before .before in
+    rw (c .end7 .ensures, le-ltb _ _ (f .if1 .left), sym (n .before .no-number .ensures) ∙ n .if2 .left, sym (s .before .asks-buffer .ensures) ∙ s .if3 .left, k .if4 .left, sym (t .before .asks-table .ensures) ∙ t .if5 .left, sym (h .before .asks-health .ensures) ∙ h .if6 .left, sym (f .before .before .is-read .ensures) ∙ c .before .before .if7 .left, c .before .if8 .taken)
 
 write-requires : tie.Need-write-requires
-write-requires c κs = (ap (λ (x : ℕ). blk x) (c .block2 .ensures ∙ c .before .before .before .before .before .before .before .before .before .before .before .before .number .ensures), c .before .before .before .before .before .before .before .before .before .before .before .before .before .before .before .before .before .before .pre .1)
+write-requires c κs =
+    let h = c .before .before in
+    let t = h .before .before in
+    let k = t .before .before in
+    let s = k .before .before in
+    let n = s .before .before in
+    let f = n .before .before in
+    let left = block-left _ _ (sym (n .before .no-number .ensures) ∙ n .if2 .left) (sym (s .before .asks-buffer .ensures) ∙ s .if3 .left) (sym (t .before .asks-table .ensures) ∙ t .if5 .left) (sym (h .before .asks-health .ensures) ∙ h .if6 .left) in
+    (ltb-true _ 9728 left, f .before .before .before .before .before .before .pre .0)
 
 returns-9 : tie.Need-returns-9
-unfolding acted opcodeOf
+unfolding acted
 returns-9 c =
-    let q = c .before .before .before .before .before .before in
-    let a = q .before .before .before .before .before .before .before .before .before .before .before .before .before .args in
-    let v : q .before .before .before .before .before .before .before .number .result ≡ numberOf (a .l .command) = q .before .before .before .before .before .before .before .number .ensures in
-    let n1 = le-ltb _ _ (q .before .before .before .before .before .if1 .left) in
-    let n2 : noNumber (opcodeOf (a .l .command)) (numberOf (a .l .command)) ≡ false = rw (sym v) (sym (q .before .before .before .before .no-number .ensures) ∙ q .before .before .before .if2 .left) in
-    let n3 : eqb (numberOf (a .l .command)) 0xFFFFFE ≡ false = rw (sym v) (ne-eqb _ _ (q .before .before .if3 .left)) in
-    let n5 : eqb (numberOf (a .l .command)) 0xFFFFFF ≡ false = rw (sym v) (ne-eqb _ _ (c .before .before .before .before .before .if5 .left)) in
-    let n6 : eqb (numberOf (a .l .command)) 0xFFFFFD ≡ false = rw (sym v) (ne-eqb _ _ (c .before .before .before .before .if6 .left)) in
-    let t = lent (now (a .spares)) (a .n) (now (a .bads)) (a .m) in
-    let w = acts-write (a .l) t (now (a .buf)) n1 n2 n3 (q .if4 .left) n5 n6 (ne-eqb _ _ (c .before .before .before .if7 .left)) (c .before .before .if8 .left) in
-    (c .write .ensures ∙ write-aside (a .l) t [] (now (a .buf)) .turn ∙ sym (ap turnOf w), sym (write-aside (a .l) t [] (now (a .buf)) .bytes) ∙ sym (ap (λ (x : Result). x .bytes) w))
+    let h = c .before .before .before in
+    let t = h .before .before in
+    let k = t .before .before in
+    let s = k .before .before in
+    let n = s .before .before in
+    let f = n .before .before in
+    rw (c .write .ensures, le-ltb _ _ (f .if1 .left), sym (n .before .no-number .ensures) ∙ n .if2 .left, sym (s .before .asks-buffer .ensures) ∙ s .if3 .left, k .if4 .left, sym (t .before .asks-table .ensures) ∙ t .if5 .left, sym (h .before .asks-health .ensures) ∙ h .if6 .left, sym (f .before .before .is-read .ensures) ∙ c .before .before .if7 .left, c .before .if8 .left)
 
 pub act-spec : {M : Type 1} → statement M
 act-spec =
     tie.close
     (tie.spec
-    array-read-op
-    number-requires
+    is-read-requires
     end-requires
-    same-length
     returns
     no-number-requires
     end-requires-2
-    same-length-2
     returns-2
+    asks-buffer-requires
     end-requires-3
-    same-length-3
     returns-3
     end-requires-4
-    same-length-4
     returns-4
-    give-table-requires
-    same-length-5
+    asks-table-requires
+    end-requires-5
     returns-5
-    give-health-requires
-    same-length-6
+    asks-health-requires
+    health-requires
+    end-requires-6
     returns-6
-    block-requires
     cut-requires
     first-read-requires
     returns-7
-    end-requires-5
-    same-length-7
+    end-requires-7
     returns-8
-    block-requires-2
     write-requires
     returns-9)

@@ -3,35 +3,31 @@ use borrow.Author.Needs.{needs}
 use Rattle.acting.proofs.first_read.Statement.{statement}
 use Rattle.acting.proofs.first_read.Tie as tie
 
+block-of-requires : tie.Need-block-of-requires
+block-of-requires c κs = search needs
+
 sector-of-requires : tie.Need-sector-of-requires
 sector-of-requires c κs = search needs
 
-nothing-met-requires : tie.Need-nothing-met-requires
-nothing-met-requires c κs = search needs
-
-array-read-t10 : tie.Need-array-read-t10
-array-read-t10 c = search needs
-
-array-read-t13 : tie.Need-array-read-t13
-array-read-t13 c = search needs
+clean-requires : tie.Need-clean-requires
+clean-requires c κs = search needs
 
 in-phase-requires : tie.Need-in-phase-requires
 in-phase-requires c κs = search needs
 
-said-requires : tie.Need-said-requires
-said-requires c κs = search needs
+say-requires : tie.Need-say-requires
+say-requires c κs = search needs
 
 returns : tie.Need-returns
-returns c = rw (c .said .ensures, c .before .in-phase .ensures, c .before .before .nothing-met .ensures, c .before .before .before .sector-of .ensures)
+returns c = rw (c .say .ensures, c .before .in-phase .ensures, c .before .before .clean .ensures, c .before .before .before .sector-of .ensures, c .before .before .before .before .block-of .ensures)
 
 pub first-read-spec : {M : Type 1} → statement M
 first-read-spec =
     tie.close
     (tie.spec
+    block-of-requires
     sector-of-requires
-    nothing-met-requires
-    array-read-t10
-    array-read-t13
+    clean-requires
     in-phase-requires
-    said-requires
+    say-requires
     returns)

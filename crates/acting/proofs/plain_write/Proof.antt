@@ -3,17 +3,22 @@ use borrow.Author.Needs.{needs}
 use Rattle.acting.proofs.plain_write.Statement.{statement}
 use Rattle.acting.proofs.plain_write.Tie as tie
 
+block-of-requires : tie.Need-block-of-requires
+block-of-requires c κs = search needs
+
 sector-of-requires : tie.Need-sector-of-requires
 sector-of-requires c κs = search needs
 
 in-phase-requires : tie.Need-in-phase-requires
 in-phase-requires c κs = search needs
 
-said-requires : tie.Need-said-requires
-said-requires c κs = search needs
+say-requires : tie.Need-say-requires
+say-requires c κs = search needs
 
 returns : tie.Need-returns
-returns c = rw (c .said .ensures, c .before .in-phase .ensures, c .before .before .sector-of .ensures)
+returns c = rw (c .say .ensures, c .before .in-phase .ensures, c .before .before .sector-of .ensures, c .before .before .before .block-of .ensures)
 
 pub plain-write-spec : {M : Type 1} → statement M
-plain-write-spec = tie.close (tie.spec sector-of-requires in-phase-requires said-requires returns)
+plain-write-spec =
+    tie.close
+    (tie.spec block-of-requires sector-of-requires in-phase-requires say-requires returns)

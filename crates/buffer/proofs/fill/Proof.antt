@@ -1,6 +1,6 @@
--- `buffer::fill` meets its contract: i times v is laid already.
-use mathlib.Core.Path.{_≡_, refl, sym, ap, _∙_}
-use Prim.Native.Nat.{ℕ, suc, _≤_, _-_, _+_}
+-- `buffer::fill` meets its contract: v is written i times already.
+use mathlib.Core.Path.{_≡_, refl, sym}
+use Prim.Native.Nat.{_≤_, _-_}
 use native.Mathlib.Numerals.{add-one}
 use lib.ListN.{length, replicate, length-set, length-replicate}
 use Rattle.buffer.specs.Runs.{over}

@@ -1,6 +1,6 @@
--- `buffer::put` meets its contract: the first i of the run are laid already.
+-- `buffer::put` meets its contract: the first i of the run are written already.
 use mathlib.Core.Path.{_≡_, refl, sym, ap, _∙_}
-use Prim.Native.Nat.{ℕ, suc, _≤_, _-_, _+_}
+use Prim.Native.Nat.{_≤_, _-_}
 use native.Mathlib.Numerals.{add-one}
 use lib.ListN.{length, take, getD, length-set}
 use lib.Seq.{take-suc, take-all, length-take-le}

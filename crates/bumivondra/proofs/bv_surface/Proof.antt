@@ -1,29 +1,39 @@
--- `bumivondra::bv_surface` meets its contract: the law of thin calls, `ThinByteBytes.antt`, at `crossing::surface`.
-use mathlib.Core.Path.{refl}
-use mathlib.Core.List.{List}
-use Prim.Native.Nat.{ℕ}
-use Rattle.drive.specs.declared.Drive.{Drive}
-use Rattle.drive.specs.Calls.{surfaceOf}
-use Rattle.packed.specs.declared.Packed.{Packed}
-use Rattle.packed.specs.Packing.{unpackOf}
-use Rattle.packed.proofs.Packed as D
-use Rattle.packed.proofs.Packed.Laws as D′
-use Rattle.crossing.specs.declared.PackedStep.{PackedStep}
-use Rattle.crossing.specs.Crossing.{through, throughBytes, anew}
-use Rattle.crossing.proofs.PackedStep as S
-use Rattle.crossing.proofs.Reply as N
-use Rattle.crossing.proofs.Reply.Laws as N′
-use Rattle.crossing.proofs.surface.Symbol as callee
-use Rattle.crossing.proofs.surface.Met as callee-thm
-use Rattle.bumivondra.proofs.ThinByteBytes.{equally}
-use Rattle.bumivondra.proofs.bv_surface.Key as key
-use Rattle.bumivondra.proofs.bv_surface.Statement as stated
-use Rattle.bumivondra.proofs.bv_surface.Code as code
+use denote.Ref.{now}
+use Rattle.drive.specs.Results.{changed}
+use Rattle.drive.specs.Calls.{stepOf}
+use Rattle.drive.specs.Calls as call
+use Rattle.calls.specs.Gives.{handed}
+use Rattle.packed.specs.Packing.{tableAt, unpackOf}
+use Rattle.crossing.proofs.Crossed.{shows}
+use borrow.Author.Needs.{needs}
+use Rattle.bumivondra.proofs.bv_surface.Statement.{statement}
+use Rattle.bumivondra.proofs.bv_surface.Tie as tie
+use Rattle.bumivondra.proofs.bv_surface.Reads as reads
+use Rattle.bumivondra.proofs.bv_surface.Lts as lts
+use Rattle.crossing.proofs.settle.Reads as settle-reads
+use Rattle.crossing.proofs.surface.Reads as surface-reads
 
-pub bv-surface-spec : {M : Type 1} → stated.statement M
-unfolding code.routine
-bv-surface-spec 𝓤 H 𝓜 𝓖 𝓡 =
-    equally D.the-type D′.the-laws D′.the-plain D′.lowers N.the-type N′.the-laws N′.the-plain N′.lowers (S.struct .name) PackedStep
-    (λ r. r .packed) (λ r. r .reply) (λ d a. record { packed = d; reply = a }) (λ r. refl) (λ v. refl) (λ (p : Packed) (u : List ℕ) (a : ℕ) (bs : List ℕ). through (λ (d : Drive). surfaceOf d u a bs) p)
-    (λ (p : Packed) (u : List ℕ) (a : ℕ) (bs : List ℕ). throughBytes (λ (d : Drive). surfaceOf d u a bs) p u) 𝓤 H 𝓜 𝓖 𝓡 code.env key.name callee.name callee.routine code.calls-crossing·surface (code.unfolded 𝓤 H 𝓜 𝓡)
-    (callee-thm.met 𝓤 H 𝓜 𝓖 𝓡)
+-- src/lib.rt:44:9
+surface-requires : tie.Need-surface-requires
+surface-requires c κs = search needs
+
+-- src/lib.rt:45:5
+settle-requires : tie.Need-settle-requires
+settle-requires c κs = search needs
+
+-- src/lib.rt:40:1
+same-length : tie.Need-same-length
+same-length c = search needs
+
+-- src/lib.rt:40:1
+returns : tie.Need-returns
+returns c =
+    let c1 = c .before .before .before .before in
+    let c2 = c1 .before .before .before .before .before .before in
+    let a = c2 .args in
+    let w = now (a .drive) in
+    let x = c1 .surface .result in
+    shows w _ _ (stepOf (call.surface (a .a) (now (a .bytes))) (unpackOf w) (now (a .buf))) (handed (changed (x .change) (tableAt w) (now (a .bytes))) x) _ (c1 .surface .ensures .gives) (c .settle .ensures .0) (c .settle .ensures .1)
+
+pub bv-surface-spec : {M : Type 1} → statement M
+bv-surface-spec = tie.close (tie.spec surface-requires settle-requires same-length returns)

@@ -1,50 +1,46 @@
 -- `calls::reset` meets its contract.
-use mathlib.Core.Path.{sym, _∙_}
-use borrow.Author.Tests.{eq-eqb, ne-eqb}
 use denote.Ref.{now}
+use Rattle.calls.proofs.Guarded.{refused, given}
+use Rattle.calls.proofs.Keeping.{reset-keeps, reset-leaves}
+use Rattle.drive.specs.Calls.{stepOf, resetOf}
 use mathlib.Core.List.{[]}
-use Rattle.calls.proofs.Parts.{unsound, sound-so}
-use Rattle.calls.proofs.Asides.{reset-aside}
 use borrow.Author.Needs.{needs}
 use Rattle.calls.proofs.reset.Statement.{statement}
 use Rattle.calls.proofs.reset.Tie as tie
 
-sound-requires : tie.Need-sound-requires
-sound-requires c κs = search needs
+guard-requires : tie.Need-guard-requires
+guard-requires c κs = search needs
 
-refused-requires : tie.Need-refused-requires
-refused-requires c κs = search needs
+enum-known-g : tie.Need-enum-known-g
+enum-known-g c = search needs
 
-returns : tie.Need-returns
-returns c =
-    let e = unsound (c .before .before .sound .ensures) (c .before .if1 .taken) in
-    (rw (c .refused .ensures, e), rw e)
+refuse-requires : tie.Need-refuse-requires
+refuse-requires c κs = search needs
 
-refused-requires-2 : tie.Need-refused-requires-2
-refused-requires-2 c κs = search needs
-
-returns-2 : tie.Need-returns-2
-returns-2 c =
-    let e = sound-so (c .before .before .before .sound .ensures) (c .before .before .if1 .left) in
-    (rw (c .refused2 .ensures, e, ne-eqb _ _ (c .before .if2 .taken)), rw (e, ne-eqb _ _ (c .before .if2 .taken)))
+enum-told : tie.Need-enum-told
+enum-told c = search needs
 
 reset-requires : tie.Need-reset-requires
 reset-requires c κs = search needs
 
-returns-3 : tie.Need-returns-3
-returns-3 c =
-    let e = sound-so (c .before .before .before .sound .ensures) (c .before .before .if1 .left) in
-    let z = reset-aside (c .before .before .before .before .before .before .before .args .l .phase) (c .before .before .before .before .before .before .before .args .l) [] (now (c .before .before .before .before .before .before .before .args .buf)) in
-    (rw (e, eq-eqb _ _ (c .before .if2 .left)) (c .reset .ensures ∙ z .turn), rw (e, eq-eqb _ _ (c .before .if2 .left)) (sym (z .bytes)))
+returns : tie.Need-returns
+unfolding stepOf resetOf
+returns c = refused _ _ (c .before .before .before .before .guard .ensures) _ _ (c .before .before .g .given .1) (c .refuse .ensures)
+
+returns-2 : tie.Need-returns-2
+unfolding stepOf resetOf
+returns-2 c =
+    let u = now (c .before .before .before .before .before .before .before .args .buf) in
+    given _ u (c .before .before .before .guard .ensures) [] _ (c .before .enum-told .given .1) (c .reset .ensures) (reset-leaves _ _ _ [] u (c .reset .ensures)) (reset-keeps _ _)
 
 pub reset-spec : {M : Type 1} → statement M
 reset-spec =
     tie.close
     (tie.spec
-    sound-requires
-    refused-requires
-    returns
-    refused-requires-2
-    returns-2
+    guard-requires
+    enum-known-g
+    refuse-requires
+    enum-told
     reset-requires
-    returns-3)
+    returns
+    returns-2)

@@ -1,58 +1,81 @@
 -- `calls::surface` meets its contract.
-use mathlib.Core.Path.{ap, _∙_}
-use borrow.Author.Tests.{eq-eqb, ne-eqb}
 use denote.Ref.{now}
-use Rattle.calls.proofs.Parts.{unsound, sound-so, sound-of}
-use Rattle.accesses.proofs.Tables.{no-spares}
-use Rattle.records.specs.Turns.{turnOf}
-use Rattle.drive.specs.Results.{Result}
+use lib.ListN.{length}
+use Rattle.calls.proofs.Guarded.{sound, surface-refused, surface-given}
+use Rattle.calls.proofs.Keeping.{no-spares, answered-formed}
+use Rattle.drive.specs.Calls.{stepOf, surfaceOf}
+use mathlib.Core.Path.{ap, _∙_}
+use mathlib.Core.Bool.{Bool}
+use mathlib.Core.List.{[]}
+use Rattle.drive.specs.Access.{answered}
+use Rattle.records.specs.Turns.{lent}
 use borrow.Author.Needs.{needs}
 use Rattle.calls.proofs.surface.Statement.{statement}
 use Rattle.calls.proofs.surface.Tie as tie
 
-sound-requires : tie.Need-sound-requires
-sound-requires c κs = search needs
+guard-requires : tie.Need-guard-requires
+guard-requires c κs = search needs
 
-refused-requires : tie.Need-refused-requires
-refused-requires c κs = search needs
+enum-known-g : tie.Need-enum-known-g
+enum-known-g c = search needs
 
-returns : tie.Need-returns
-returns c =
-    let e = unsound (c .before .before .sound .ensures) (c .before .if1 .taken) in
-    (rw (c .refused .ensures, e), rw e)
+refuse-requires : tie.Need-refuse-requires
+refuse-requires c κs = search needs
 
-refused-requires-2 : tie.Need-refused-requires-2
-refused-requires-2 c κs = search needs
+enum-told : tie.Need-enum-told
+enum-told c = search needs
 
-returns-2 : tie.Need-returns-2
-returns-2 c =
-    let e = sound-so (c .before .before .before .sound .ensures) (c .before .before .if1 .left) in
-    (rw (c .refused2 .ensures, e, ne-eqb _ _ (c .before .if2 .taken)), rw (e, ne-eqb _ _ (c .before .if2 .taken)))
+equal-requires : tie.Need-equal-requires
+equal-requires c κs = sound _ (length (now (c .before .before .before .before .before .before .before .before .args .buf))) 536 (c .before .before .before .guard .ensures) (c .before .enum-told .given .1) .long
 
 surface-requires : tie.Need-surface-requires
 surface-requires c κs =
-    let a = c .before .before .before .before .before .before .before .before .args in
-    let s = sound-of (now (a .spares)) (now (a .bads)) (a .n) (a .m) (a .l) (sound-so (c .before .before .before .sound .ensures) (c .before .before .if1 .left)) in
-    (c .before .if2 .left, s .spares, s .line)
+    let u = now (c .before .before .before .before .before .before .before .before .before .args .buf) in
+    let z = sound _ (length u) 536 (c .before .before .before .before .guard .ensures) (c .before .before .enum-told .given .1) in
+    (z .spares, z .state)
+
+put-requires : tie.Need-put-requires
+put-requires c κs =
+    let p = c .before .before .before .before .before in
+    let u = now (c .before .before .before .before .before .before .before .before .before .before .before .before .args .buf) in
+    let z = sound _ (length u) 536 (p .before .before .guard .ensures) (p .enum-told .given .1) in
+    (z .long, z .spares, z .bads)
+
+returns : tie.Need-returns
+unfolding stepOf surfaceOf
+returns c =
+    record {
+      gives = surface-refused _ _ (c .before .before .before .before .guard .ensures) _ _ (c .before .before .g .given .1) (c .refuse .ensures);
+      formed = rw (c .refuse .ensures);
+    }
 
 same-length : tie.Need-same-length
 same-length c = search needs
 
-returns-3 : tie.Need-returns-3
-returns-3 c =
-    let e = sound-so (c .before .before .before .before .before .before .sound .ensures) (c .before .before .before .before .before .if1 .left) in
-    let n = no-spares (c .before .before .before .before .before .before .before .before .before .before .before .args .l .phase) (c .before .before .before .before .before .before .before .before .before .before .before .args .l) (now (c .before .before .before .before .before .before .before .before .before .before .before .args .spares)) (now (c .before .before .before .before .before .before .before .before .before .before .before .args .bads)) (c .before .before .before .before .before .before .before .before .before .before .before .args .n) (c .before .before .before .before .before .before .before .before .before .before .before .args .m) (now (c .before .before .before .before .before .before .before .before .before .before .before .args .buf)) (c .before .before .before .before .before .before .before .before .before .before .before .args .a) (now (c .before .before .before .before .before .before .before .before .before .before .before .args .bytes)) in
-    (rw (e, eq-eqb _ _ (c .before .before .before .before .if2 .left)) (c .before .before .surface .ensures .0 ∙ ap turnOf n), rw (e, eq-eqb _ _ (c .before .before .before .before .if2 .left)) (c .before .before .surface .ensures .1 ∙ ap (λ (r : Result). r .bytes) n))
+returns-2 : tie.Need-returns-2
+unfolding stepOf surfaceOf
+returns-2 c =
+    let p = c .before .before .before .before .before .before .before .before in
+    let a = p .before .before .before .before .before .before .before .args in
+    let t = lent (now (a .spares)) (a .n) (now (a .bads)) (a .m) in
+    let x = c .before .before .before .before .before .surface in
+    let k = x .ensures ∙ ap (λ (q : Bool). answered (a .l .phase) (a .l) (lent [] (a .n) (now (a .bads)) (a .m)) (a .a) (now (a .bytes)) q) (c .before .before .before .before .before .before .equal .ensures) ∙ no-spares (a .l .phase) (a .l) (now (a .spares)) (now (a .bads)) (a .n) (a .m) (a .a) (now (a .bytes)) _ in
+    record {
+      gives = surface-given _ _ (p .before .before .guard .ensures) _ _ (p .enum-told .given .1) k (c .before .before .put .ensures);
+      formed = rw k (answered-formed (now (a .bytes)) (a .l .phase) (a .l) t (a .a) _);
+    }
 
 pub surface-spec : {M : Type 1} → statement M
 surface-spec =
     tie.close
     (tie.spec
-    sound-requires
-    refused-requires
-    returns
-    refused-requires-2
-    returns-2
+    guard-requires
+    enum-known-g
+    refuse-requires
+    enum-told
+    equal-requires
     surface-requires
+    put-requires
+    returns
     same-length
-    returns-3)
+    returns-2)

@@ -1,59 +1,46 @@
--- `crossing::image` meets its contract.
+use mathlib.Core.Path.{ap, _∙_}
 use denote.Ref.{now}
 use Rattle.drive.specs.declared.Drive.{Drive}
+use Rattle.drive.specs.declared.Step.{Step}
 use Rattle.drive.specs.Calls.{imageOutOf}
-use Rattle.crossing.proofs.Crossed.{stopped, passes}
+use Rattle.crossing.specs.Crossing.{shown, replyOf}
 use borrow.Author.Needs.{needs}
 use Rattle.crossing.proofs.image.Statement.{statement}
 use Rattle.crossing.proofs.image.Tie as tie
+use Rattle.crossing.proofs.image.Reads as reads
+use Rattle.crossing.proofs.image.Lts as lts
+use Rattle.calls.proofs.Controller.image.Reads as image-reads
+use Rattle.crossing.proofs.record_at.Reads as record-at-reads
+use Rattle.crossing.proofs.reply_of.Reads as reply-of-reads
 
-is-packing-requires : tie.Need-is-packing-requires
-is-packing-requires c κs = search needs
+-- src/lib.rt:198:16
+record-at-requires : tie.Need-record-at-requires
+record-at-requires c κs = search needs
 
-said-requires : tie.Need-said-requires
-said-requires c κs = search needs
-
-returns : tie.Need-returns
-returns c =
-    let args = c .before .before .before .before .before .args in
-    let is-packing = c .before .before .is-packing in
-    stopped (λ (d : Drive). imageOutOf d (now (args .buf))) (args .p) (now (args .buf)) (is-packing .result) (is-packing .ensures) (c .before .if1 .taken) _ (c .said .ensures)
-
-unpack-requires : tie.Need-unpack-requires
-unpack-requires c κs = search needs
-
+-- src/lib.rt:198:9
 image-requires : tie.Need-image-requires
 image-requires c κs = search needs
 
-pack-requires : tie.Need-pack-requires
-pack-requires c κs = search needs
+-- src/lib.rt:200:5
+reply-of-requires : tie.Need-reply-of-requires
+reply-of-requires c κs = search needs
 
-spell-requires : tie.Need-spell-requires
-spell-requires c κs = search needs
-
+-- src/lib.rt:194:1
 same-length : tie.Need-same-length
 same-length c = search needs
 
-returns-2 : tie.Need-returns-2
-returns-2 c =
-    let args = c .before .before .before .before .before .before .before .before .before .before .before .before .args in
-    let is-packing = c .before .before .before .before .before .before .before .before .before .is-packing in
-    let unpack = c .before .before .before .before .before .before .before .unpack in
-    let image = c .before .before .before .before .before .image in
-    let pack = c .before .pack in
-    let spell = c .spell in
-    passes (λ (d : Drive). imageOutOf d (now (args .buf))) (args .p) (now (args .buf)) (is-packing .result) (is-packing .ensures) (c .before .before .before .before .before .before .before .before .if1 .left) (unpack .result) (unpack .ensures) (image .result) _ (image .ensures .0) (image .ensures .1) (pack .result) (pack .ensures) (spell .result) (spell .ensures)
+-- src/lib.rt:194:1
+returns : tie.Need-returns
+returns c =
+    let c1 = c .before .before .before in
+    let c2 = c1 .before .before in
+    let c3 = c2 .before .before .before in
+    let a = c3 .args in
+    let w = now (a .w) in
+    let u = now (a .buf) in
+    (λ i. shown ((c .reply-of .ensures ∙ ap (λ (s : Step). replyOf (s .answer)) (c1 .image .ensures .0)) i) w ((c1 .image .ensures .1) i))
+    ∙ ap (λ (d : Drive). shown (replyOf (imageOutOf d u .step .answer)) w (imageOutOf d u .bytes)) (c2 .record-at .ensures)
 
 pub image-spec : {M : Type 1} → statement M
 image-spec =
-    tie.close
-    (tie.spec
-    is-packing-requires
-    said-requires
-    returns
-    unpack-requires
-    image-requires
-    pack-requires
-    spell-requires
-    same-length
-    returns-2)
+    tie.close (tie.spec record-at-requires image-requires reply-of-requires same-length returns)

@@ -1,71 +1,80 @@
--- `crossing::raise` meets its contract.
 use denote.Ref.{now}
-use Rattle.drive.specs.declared.Drive.{Drive}
-use Rattle.drive.specs.declared.Line.{Line}
-use Rattle.drive.specs.Handshake.{raised}
-use Rattle.drive.specs.Calls.{raiseOf}
-use Rattle.controller.proofs.Keeping.{raise-stays}
-use Rattle.crossing.proofs.Crossed.{stopped, line-passes}
+use Rattle.table.specs.declared.Table.{Table}
+use Rattle.drive.specs.declared.State.{State}
+use Rattle.drive.specs.Calls as call
+use Rattle.calls.specs.Gives.{Gives}
+use Rattle.crossing.proofs.Crossed.{of-words}
 use borrow.Author.Needs.{needs}
 use Rattle.crossing.proofs.raise.Statement.{statement}
 use Rattle.crossing.proofs.raise.Tie as tie
+use Rattle.crossing.proofs.raise.Reads as reads
+use Rattle.crossing.proofs.raise.Lts as lts
+use Rattle.calls.proofs.raise.Reads as raise-reads
+use Rattle.packed.proofs.bads.Reads as bads-reads
+use Rattle.packed.proofs.number.Reads as number-reads
+use Rattle.packed.proofs.spares.Reads as spares-reads
+use Rattle.packed.proofs.state_at.Reads as state-at-reads
 
-is-packing-requires : tie.Need-is-packing-requires
-is-packing-requires c κs = search needs
+-- src/lib.rt:71:28
+shared-slice-read-number : tie.Need-shared-slice-read-number
+shared-slice-read-number c = search needs
 
-said-requires : tie.Need-said-requires
-said-requires c κs = search needs
+-- src/lib.rt:71:9
+number-requires : tie.Need-number-requires
+number-requires c κs = search needs
 
-returns : tie.Need-returns
-returns c =
-    let args = c .before .before .before .before .before .args in
-    let is-packing = c .before .before .is-packing in
-    stopped (λ (d : Drive). raiseOf d (now (args .buf))) (args .p) (now (args .buf)) (is-packing .result) (is-packing .ensures) (c .before .if1 .taken) _ (c .said .ensures)
+-- src/lib.rt:72:28
+shared-slice-read-number-2 : tie.Need-shared-slice-read-number-2
+shared-slice-read-number-2 c = search needs
 
-unpack-line-requires : tie.Need-unpack-line-requires
-unpack-line-requires c κs = search needs
+-- src/lib.rt:72:9
+number-requires-2 : tie.Need-number-requires-2
+number-requires-2 c κs = search needs
 
-slice-aggregate-raise : tie.Need-slice-aggregate-raise
-slice-aggregate-raise c = search needs
+-- src/lib.rt:73:9
+state-at-requires : tie.Need-state-at-requires
+state-at-requires c κs = search needs
 
-slice-aggregate-raise-2 : tie.Need-slice-aggregate-raise-2
-slice-aggregate-raise-2 c = search needs
+-- src/lib.rt:74:18
+spares-requires : tie.Need-spares-requires
+spares-requires c κs = search needs
 
+-- src/lib.rt:74:40
+bads-requires : tie.Need-bads-requires
+bads-requires c κs = search needs
+
+-- src/lib.rt:74:5
 raise-requires : tie.Need-raise-requires
 raise-requires c κs = search needs
 
-pack-line-requires : tie.Need-pack-line-requires
-pack-line-requires c κs = search needs
-
-spell-requires : tie.Need-spell-requires
-spell-requires c κs = search needs
-
+-- src/lib.rt:67:1
 same-length : tie.Need-same-length
 same-length c = search needs
 
-returns-2 : tie.Need-returns-2
-unfolding raiseOf
-returns-2 c =
-    let args = c .before .before .before .before .before .before .before .before .before .before .before .before .before .before .before .before .before .args in
-    let is-packing = c .before .before .before .before .before .before .before .before .before .before .before .before .before .before .is-packing in
-    let unpack-line = c .before .before .before .before .before .before .before .before .before .unpack-line in
-    let raise = c .before .before .before .before .before .raise in
-    let pack-line = c .before .pack-line in
-    let spell = c .spell in
-    line-passes (λ (l : Line). raised (l .phase) l (now (args .buf))) (args .p) (now (args .buf)) (is-packing .result) (is-packing .ensures) (λ (l : Line). raise-stays (l .phase) l (args .p .table) (now (args .buf))) (c .before .before .before .before .before .before .before .before .before .before .before .before .before .if1 .left) (unpack-line .result) (unpack-line .ensures) (raise .result) _ (raise .ensures .0) (raise .ensures .1) (pack-line .result) (pack-line .ensures) (spell .result) (spell .ensures)
+-- src/lib.rt:67:1
+returns : tie.Need-returns
+returns c =
+    let c1 = c .before .before in
+    let c2 = c1 .before .before in
+    let c3 = c2 .before in
+    let c4 = c3 .before in
+    let c5 = c4 .before in
+    let c6 = c5 .before .before in
+    let c7 = c6 .before .before .before .before in
+    let a = c7 .args in
+    of-words (now (a .w)) (λ (t : Table) (l : State). Gives call.raise t l (now (a .buf)) (c1 .raise .result) (c1 .raise .last .1 .1 .1 .1 .1 .0)) (c3 .spares .ensures) (c6 .number .ensures) (c2 .bads .ensures) (c5 .number2 .ensures) (c4 .state-at .ensures) (c1 .raise .ensures)
 
 pub raise-spec : {M : Type 1} → statement M
 raise-spec =
     tie.close
     (tie.spec
-    is-packing-requires
-    said-requires
-    returns
-    unpack-line-requires
-    slice-aggregate-raise
-    slice-aggregate-raise-2
+    shared-slice-read-number
+    number-requires
+    shared-slice-read-number-2
+    number-requires-2
+    state-at-requires
+    spares-requires
+    bads-requires
     raise-requires
-    pack-line-requires
-    spell-requires
     same-length
-    returns-2)
+    returns)

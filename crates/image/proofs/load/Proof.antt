@@ -1,10 +1,10 @@
 -- `image::load` meets its contract: the first k entries are stored already.
-use mathlib.Core.Path.{_≡_, refl, sym, ap, _∙_}
+use mathlib.Core.Path.{_≡_, refl}
 use mathlib.Core.List.{_++_}
-use Prim.Native.Nat.{ℕ, suc, _≤_, _-_, _+_, _*_}
+use Prim.Native.Nat.{_≤_, _-_, _*_}
 use native.Mathlib.Numerals.{add-one}
 use lib.ListN.{length, drop, length-set}
-use Rattle.image.proofs.Entries.{entries-length, entries-snoc, store-step}
+use Rattle.image.proofs.Entries.{entries-length, entry-drop, entries-snoc, store-step}
 use Rattle.image.specs.Images.{entriesFrom, entryAt}
 use borrow.Author.Needs.{needs}
 use native.Mathlib.Omega.{arith}
@@ -12,10 +12,10 @@ use Rattle.image.proofs.load.Statement.{statement}
 use Rattle.image.proofs.load.Tie as tie
 
 abbrev Inv-loop : tie.InvT-loop
-Inv-loop s n out₀ k₀ out k = (k ≤ n) × (length out ≡ length out₀) × (out ≡ entriesFrom k s ++ drop k out₀)
+Inv-loop s at n out₀ k₀ out k = (k ≤ n) × (length out ≡ length out₀) × (out ≡ entriesFrom k (drop at s) ++ drop k out₀)
 
 abbrev μ-loop : tie.MeasureT-loop
-μ-loop s n out₀ k₀ out k = n - k
+μ-loop s at n out₀ k₀ out k = n - k
 
 loop-holds : tie.Need-loop-holds Inv-loop μ-loop
 unfolding entriesFrom
@@ -23,6 +23,9 @@ loop-holds c = (omega arith, refl, refl)
 
 mul-entry-at : tie.Need-mul-entry-at Inv-loop μ-loop
 mul-entry-at c = search needs
+
+add-entry-at : tie.Need-add-entry-at Inv-loop μ-loop
+add-entry-at c = search needs
 
 entry-at-requires : tie.Need-entry-at-requires Inv-loop μ-loop
 entry-at-requires c κs = search needs
@@ -43,8 +46,13 @@ loop-again : tie.Need-loop-again Inv-loop μ-loop
 loop-again c =
     let b = c .before .before in
     let a = b .before .before .before .args in
-    let e = entries-length (b .loop .k) (a .s .now) in
-    (omega arith, simp length-set (b .loop .inv .1), rw (b .loop .inv .2, c .entry-at .ensures, add-one, entries-snoc (b .loop .k) (a .s .now)) (store-step (entriesFrom (b .loop .k) (a .s .now)) (a .out .now) (b .loop .k) (entryAt (a .s .now) (3 * b .loop .k)) e (omega arith)))
+    let k = b .loop .k in
+    let rest = drop (a .at) (a .s .now) in (
+      omega arith,
+      simp length-set (b .loop .inv .1),
+      rw (b .loop .inv .2, c .entry-at .ensures, ← entry-drop (a .at) (a .s .now) (3 * k), add-one, entries-snoc k rest)
+          (store-step (entriesFrom k rest) (a .out .now) k (entryAt rest (3 * k)) (entries-length k rest) (omega arith)),
+    )
 
 same-length : tie.Need-same-length Inv-loop μ-loop
 same-length c = search needs
@@ -63,6 +71,7 @@ load-spec =
     μ-loop
     loop-holds
     mul-entry-at
+    add-entry-at
     entry-at-requires
     mul-out
     slice-write-out

@@ -1,5 +1,5 @@
 -- `image::narrowed` meets its contract, test by test.
-use borrow.Author.Tests.{lt-ltb, le-ltb, eq-eqb, ne-eqb, le-leb, lt-leb}
+use borrow.Author.Tests.{lt-ltb, le-ltb, eq-eqb, ne-eqb}
 use Rattle.image.specs.Images.{narrow}
 use borrow.Author.Needs.{needs}
 use Rattle.image.proofs.narrowed.Statement.{statement}

@@ -1,13 +1,13 @@
--- `image::put_entries` meets its contract: the first k entries are laid already.
+-- `image::put_entries` meets its contract: the first k entries are written already.
 use mathlib.Core.Path.{_≡_, refl, sym, ap, _∙_}
-use Prim.Native.Nat.{ℕ, suc, _≤_, _-_, _+_, _*_}
+use Prim.Native.Nat.{_≤_, _-_, _+_}
 use native.Mathlib.Numerals.{add-one}
 use lib.ListN.{length, take}
 use lib.Seq.{take-all, length-take-le}
 use Rattle.buffer.specs.Runs.{over}
 use Rattle.buffer.proofs.Over.{over-none, over-length}
-use Rattle.image.proofs.Entries.{triples-length, laid-step}
-use Rattle.image.specs.Images.{triples, triple}
+use Rattle.image.proofs.Entries.{triples-length, written-step}
+use Rattle.image.specs.Images.{triples}
 use borrow.Author.Needs.{needs}
 use native.Mathlib.Omega.{arith}
 use Rattle.image.proofs.put_entries.Statement.{statement}
@@ -51,7 +51,7 @@ loop-again c =
     let k = b .loop .k in
     let p = c .before .before .put-entry .ensures in
     let e : c .before .before .put-entry .last .0 ≡ over (a .at) (triples (take (k + 1) (a .list .now))) (a .out .now) =
-    rw (p, b .loop .inv .2, add-one) (laid-step (a .at) (a .list .now) (a .out .now) k (omega arith) (omega (arith, b .before .before .before .pre))) in
+    rw (p, b .loop .inv .2, add-one) (written-step (a .at) (a .list .now) (a .out .now) k (omega arith) (omega (arith, b .before .before .before .pre))) in
     let t = triples-length (take (k + 1) (a .list .now)) in
     let n = length-take-le (k + 1) (a .list .now) (omega arith) in
     (omega arith, ap length e ∙ over-length (a .at) (triples (take (k + 1) (a .list .now))) (a .out .now) (omega (arith, t, n, b .before .before .before .pre)), e)

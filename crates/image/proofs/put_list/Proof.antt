@@ -1,5 +1,5 @@
 -- `image::put_list` meets its contract: the entries, then their mark.
-use Rattle.image.proofs.Writing.{list-laid}
+use Rattle.image.proofs.Writing.{list-written}
 use borrow.Author.Needs.{needs}
 use Rattle.image.proofs.put_list.Statement.{statement}
 use Rattle.image.proofs.put_list.Tie as tie
@@ -23,7 +23,7 @@ returns : tie.Need-returns
 returns c =
     let l = c .before .before .before .before .before .before in
     let a = l .before .before .before .before .args in
-    rw (c .before .before .fill .ensures, l .put-entries .ensures) (list-laid (a .at) (a .list .now) (a .out .now) (l .before .before .before .before .pre))
+    rw (c .before .before .fill .ensures, l .put-entries .ensures) (list-written (a .at) (a .list .now) (a .out .now) (l .before .before .before .before .pre))
 
 pub put-list-spec : {M : Type 1} → statement M
 put-list-spec =

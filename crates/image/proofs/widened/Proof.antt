@@ -1,5 +1,5 @@
 -- `image::widened` meets its contract.
-use borrow.Author.Tests.{lt-ltb, le-ltb, eq-eqb, ne-eqb, le-leb, lt-leb}
+use borrow.Author.Tests.{eq-eqb, ne-eqb}
 use Rattle.image.specs.Images.{wide}
 use Rattle.image.proofs.widened.Statement.{statement}
 use Rattle.image.proofs.widened.Tie as tie

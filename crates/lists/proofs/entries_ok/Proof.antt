@@ -11,11 +11,11 @@ returns c = rw (c .if1 .taken)
 cut-requires : tie.Need-cut-requires
 cut-requires c κs = search needs
 
-some-ok-requires : tie.Need-some-ok-requires
-some-ok-requires c κs = search needs
+list-ok-requires : tie.Need-list-ok-requires
+list-ok-requires c κs = search needs
 
 returns-2 : tie.Need-returns-2
-returns-2 c = rw (c .some-ok .ensures, c .before .cut .ensures)
+returns-2 c = rw (c .list-ok .ensures, c .before .cut .ensures)
 
 pub entries-ok-spec : {M : Type 1} → statement M
-entries-ok-spec = tie.close (tie.spec returns cut-requires some-ok-requires returns-2)
+entries-ok-spec = tie.close (tie.spec returns cut-requires list-ok-requires returns-2)

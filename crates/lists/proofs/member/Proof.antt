@@ -1,7 +1,7 @@
 -- `lists::member` meets its contract: hit gathers what was passed.
 use mathlib.Core.Path.{_≡_, refl, sym, _∙_}
 use mathlib.Core.Bool.{_||_}
-use Prim.Native.Nat.{_+_, _≤_, _-_, _<_}
+use Prim.Native.Nat.{_≤_, _-_}
 use lib.ListN.{length, drop}
 use Rattle.lists.specs.Lists.{memberOf}
 use Rattle.lists.proofs.Walk.{gathered, gathered-all}

@@ -1,9 +1,8 @@
 -- `table::removed_at` meets its contract: up to place i the array has its gap already.
-use mathlib.Core.Path.{_≡_, refl, sym, _∙_}
+use mathlib.Core.Path.{_≡_}
 use mathlib.Core.List.{_++_}
-use Prim.Native.Nat.{_+_, _≤_, _-_, _<_}
-use lib.ListN.{length, take, drop, length-set}
-use Rattle.table.specs.Tables.{removed}
+use Prim.Native.Nat.{_≤_, _-_}
+use lib.ListN.{length, take, drop}
 use Rattle.table.proofs.Arrays.{gap, gap-start, gap-step, gap-end}
 use borrow.Author.Needs.{needs}
 use native.Mathlib.Omega.{arith}

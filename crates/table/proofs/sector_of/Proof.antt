@@ -1,5 +1,4 @@
 -- `table::sector_of` meets its contract: a place below the length is a member.
-use mathlib.Core.Path.{sym, _∙_}
 use borrow.Author.Tests.{lt-ltb, le-ltb}
 use Rattle.lists.proofs.Laws.{member-index}
 use Rattle.table.specs.Tables.{sectorOf}

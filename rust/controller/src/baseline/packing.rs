@@ -2,40 +2,41 @@
 //! on records that no call returned.
 
 use super::{Drive, Phase, Read, Seen, Trial};
-use crate::raw::{self, kind};
+use crate::fields::{Fields, Flags, Stage};
+use crate::raw::kind;
 use crate::Offer;
 
 impl Drive {
-    /// Makes the record of these numbers, which must be a packing.
-    pub fn unpacked(numbers: &raw::Drive) -> Drive {
+    /// Makes the record of these numbers, whose phase and offer must be some.
+    pub fn unpacked(numbers: &Fields) -> Drive {
         let flags = numbers.flags;
         Drive {
             spares: numbers.spares,
             bads: numbers.bads,
-            nspares: numbers.nspares,
-            nbads: numbers.nbads,
-            known: flags.known == 1,
-            changed: flags.changed == 1,
-            latch: flags.latch == 1,
-            fresh: flags.fresh == 1,
+            nspares: numbers.nspares.into(),
+            nbads: numbers.nbads.into(),
+            known: flags.known != 0,
+            changed: flags.changed != 0,
+            latch: flags.latch != 0,
+            fresh: flags.fresh != 0,
             command: numbers.command,
-            count: numbers.count,
-            fed: numbers.fed,
+            count: numbers.count.into(),
+            fed: numbers.fed.into(),
             phase: phase(&numbers.stage),
         }
     }
 
     /// Gives the numbers of the record.
-    pub fn packed(&self) -> raw::Drive {
-        raw::Drive {
+    pub fn packed(&self) -> Fields {
+        Fields {
             spares: self.spares,
             bads: self.bads,
-            nspares: self.nspares,
-            nbads: self.nbads,
-            count: self.count,
-            fed: self.fed,
+            nspares: self.nspares as u16,
+            nbads: self.nbads as u16,
+            count: self.count as u16,
+            fed: self.fed as u16,
             stage: stage(&self.phase),
-            flags: raw::Flags {
+            flags: Flags {
                 known: self.known.into(),
                 changed: self.changed.into(),
                 latch: self.latch.into(),
@@ -46,28 +47,28 @@ impl Drive {
     }
 }
 
-fn phase(stage: &raw::Stage) -> Phase {
+fn phase(stage: &Stage) -> Phase {
     match stage.kind {
         kind::IDLE => Phase::Idle,
         kind::OFFER => Phase::Offered(offer(stage.detail)),
         kind::COMMAND => Phase::Command,
         kind::DATA => Phase::Data,
-        kind::START => Phase::Starting(stage.detail),
-        kind::STORE => Phase::Storing,
-        kind::READ => Phase::Reading(Read {
+        kind::START => Phase::Start(stage.detail),
+        kind::STORE => Phase::Store,
+        kind::READ => Phase::Read(Read {
             block: stage.block,
-            sector: stage.sector,
-            first: stage.first == 1,
+            sector: stage.sector.into(),
+            first: stage.first != 0,
             left: stage.left,
             spent: stage.spent,
             threshold: stage.threshold,
-            good: stage.good == 1,
+            good: stage.good != 0,
             seen: seen(stage),
         }),
-        kind::WRITE => Phase::Writing(stage.sector),
-        kind::ATTEMPT_WRITE => Phase::Trying(trial(stage)),
-        kind::ATTEMPT_READ => Phase::Checking(trial(stage)),
-        other => unreachable!("kind {other} is no packing"),
+        kind::WRITE => Phase::Write(stage.sector.into()),
+        kind::TRIAL_WRITE => Phase::TrialWrite(trial(stage)),
+        kind::TRIAL_READ => Phase::TrialRead(trial(stage)),
+        other => unreachable!("{other} is no phase"),
     }
 }
 
@@ -78,61 +79,61 @@ fn offer(byte: u8) -> Offer {
         0x03 => Offer::Write,
         0x04 => Offer::Verify,
         0x06 => Offer::Act,
-        other => unreachable!("offer {other} is no packing"),
+        other => unreachable!("{other} is no offer"),
     }
 }
 
-fn trial(stage: &raw::Stage) -> Trial {
+fn trial(stage: &Stage) -> Trial {
     Trial {
         block: stage.block,
-        sector: stage.sector,
-        spare: stage.spare == 1,
+        sector: stage.sector.into(),
+        spare: stage.spare != 0,
         attempts: stage.detail,
         seen: seen(stage),
     }
 }
 
-fn seen(stage: &raw::Stage) -> Seen {
+fn seen(stage: &Stage) -> Seen {
     Seen {
         errors: stage.errors,
-        crc: stage.crc == 1,
-        timeout: stage.timeout == 1,
+        crc: stage.crc != 0,
+        timeout: stage.timeout != 0,
     }
 }
 
-fn stage(phase: &Phase) -> raw::Stage {
-    let at = |kind| raw::Stage {
+fn stage(phase: &Phase) -> Stage {
+    let at = |kind| Stage {
         kind,
-        ..raw::Stage::default()
+        ..Stage::default()
     };
     match phase {
         Phase::Idle => at(kind::IDLE),
-        Phase::Offered(offer) => raw::Stage {
+        Phase::Offered(offer) => Stage {
             detail: offer.byte(),
             ..at(kind::OFFER)
         },
         Phase::Command => at(kind::COMMAND),
         Phase::Data => at(kind::DATA),
-        Phase::Starting(reads) => raw::Stage {
+        Phase::Start(reads) => Stage {
             detail: *reads,
             ..at(kind::START)
         },
-        Phase::Storing => at(kind::STORE),
-        Phase::Reading(read) => of_read(read),
-        Phase::Writing(sector) => raw::Stage {
-            sector: *sector,
+        Phase::Store => at(kind::STORE),
+        Phase::Read(read) => of_read(read),
+        Phase::Write(sector) => Stage {
+            sector: *sector as u16,
             ..at(kind::WRITE)
         },
-        Phase::Trying(trial) => of_trial(kind::ATTEMPT_WRITE, trial),
-        Phase::Checking(trial) => of_trial(kind::ATTEMPT_READ, trial),
+        Phase::TrialWrite(trial) => of_trial(kind::TRIAL_WRITE, trial),
+        Phase::TrialRead(trial) => of_trial(kind::TRIAL_READ, trial),
     }
 }
 
-fn of_read(read: &Read) -> raw::Stage {
-    raw::Stage {
+fn of_read(read: &Read) -> Stage {
+    Stage {
         kind: kind::READ,
         block: read.block,
-        sector: read.sector,
+        sector: read.sector as u16,
         first: read.first.into(),
         left: read.left,
         spent: read.spent,
@@ -142,22 +143,22 @@ fn of_read(read: &Read) -> raw::Stage {
     }
 }
 
-fn of_trial(kind: u8, trial: &Trial) -> raw::Stage {
-    raw::Stage {
+fn of_trial(kind: u8, trial: &Trial) -> Stage {
+    Stage {
         kind,
         detail: trial.attempts,
         block: trial.block,
-        sector: trial.sector,
+        sector: trial.sector as u16,
         spare: trial.spare.into(),
         ..of_seen(&trial.seen)
     }
 }
 
-fn of_seen(seen: &Seen) -> raw::Stage {
-    raw::Stage {
+fn of_seen(seen: &Seen) -> Stage {
+    Stage {
         errors: seen.errors,
         crc: seen.crc.into(),
         timeout: seen.timeout.into(),
-        ..raw::Stage::default()
+        ..Stage::default()
     }
 }

@@ -8,7 +8,7 @@ use std::process::ExitCode;
 use controller::compare::beside::{Beside, Fate, MOST_LENT};
 use controller::compare::trial::{self, length};
 use controller::compare::{bounds, clauses, damage};
-use controller::raw;
+use controller::fields::Fields;
 use reference::compare::Plan;
 use reference::controller::{Awaited, Offer, Phase};
 use reference::coverage;
@@ -105,7 +105,7 @@ struct Tally {
     lengths: u64,
     verifies: u64,
     records: u64,
-    no_packing: u64,
+    no_phase: u64,
     refused: u64,
     other_code: u64,
     taken: u64,
@@ -114,7 +114,7 @@ struct Tally {
 
 impl Tally {
     fn damaged(&self) -> u64 {
-        self.no_packing + self.refused + self.other_code + self.taken + self.unsettled
+        self.no_phase + self.refused + self.other_code + self.taken + self.unsettled
     }
 
     fn calls(&self) -> u64 {
@@ -137,11 +137,11 @@ impl Tally {
             self.verifies
         );
         println!(
-            "{} calls on {} damaged records: {} refused as no packing, {} with 1, \
+            "{} calls on {} damaged records: {} with no such phase, {} with 1, \
              {} with another code, {} taken alike, {} taken where document 01 is silent",
             self.damaged(),
             self.records,
-            self.no_packing,
+            self.no_phase,
             self.refused,
             self.other_code,
             self.taken,
@@ -171,7 +171,7 @@ fn list(seed: u64, calls: usize, tally: &mut Tally) -> Result<(), String> {
         }
         if rng.one_in(12) {
             let record = match rng.below(3) {
-                0 => damage::of(beside.record(), &mut rng),
+                0 => damage::of(&beside.record(), &mut rng),
                 _ => damage::record(&mut rng),
             };
             tried(&record, &mut rng, tally).map_err(|said| place("damaged record", said))?;
@@ -279,12 +279,12 @@ fn any(rng: &mut Rng) -> Call {
 }
 
 /// The seven calls on a damaged record; says whether code 1 refused it.
-fn tried(record: &raw::Drive, rng: &mut Rng, tally: &mut Tally) -> Result<bool, String> {
+fn tried(record: &Fields, rng: &mut Rng, tally: &mut Tally) -> Result<bool, String> {
     let tried = trial::all_calls(record, rng)?;
     tally.records += 1;
     for fate in tried.fates {
         *match fate {
-            Fate::NoPacking => &mut tally.no_packing,
+            Fate::NoPhase => &mut tally.no_phase,
             Fate::Refused => &mut tally.refused,
             Fate::OtherCode => &mut tally.other_code,
             Fate::Taken => &mut tally.taken,

@@ -10,7 +10,8 @@ use reference::image;
 
 use super::mapping::{alike, record_of, settled};
 use crate::baseline;
-use crate::{raw, Answer, Code, Drive, BUFFER, SECTOR_BYTES};
+use crate::fields::Fields;
+use crate::{Answer, Code, Drive, BUFFER, SECTOR_BYTES};
 
 /// The longest buffer that is lent.
 pub const MOST_LENT: usize = 600;
@@ -83,9 +84,9 @@ impl Beside {
         }
     }
 
-    /// The library's record.
-    pub fn record(&self) -> &raw::Drive {
-        self.library.record()
+    /// The numbers in the library's record.
+    pub fn record(&self) -> Fields {
+        Fields::of(self.library.record())
     }
 
     /// The buffer as the last call left it.
@@ -142,7 +143,7 @@ impl Beside {
         if matches!(answer, Answer::Refused(_)) && self.library != before {
             return Err(String::from("a refused call changed the record"));
         }
-        match record_of(self.library.record()) {
+        match packing_of(self.record()) {
             None => Err(String::from("the record left is no packing")),
             Some(record) if !alike(&record, &self.reference.record) => Err(format!(
                 "the records differ: {record:?}\nand {:?}",
@@ -254,8 +255,8 @@ fn told(answer: other::Answer) -> Answer {
 /// How a call on a damaged record went.
 #[derive(Clone, Copy, Debug, PartialEq, Eq)]
 pub enum Fate {
-    /// Refused with 1: the numbers are no packing.
-    NoPacking,
+    /// Refused with 1: the phase or the offer is none.
+    NoPhase,
     /// Refused with 1.
     Refused,
     /// Refused with another code.
@@ -269,25 +270,25 @@ pub enum Fate {
 impl Fate {
     /// True if code 1 was answered.
     pub fn is_code_1(self) -> bool {
-        matches!(self, Fate::NoPacking | Fate::Refused)
+        matches!(self, Fate::NoPhase | Fate::Refused)
     }
 }
 
 /// Makes one call on a record that no call returned, and says what is not as it
 /// must be.
-pub fn damaged(record: &raw::Drive, lent: &[u8], call: &Call) -> Result<Fate, String> {
+pub fn damaged(record: &Fields, lent: &[u8], call: &Call) -> Result<Fate, String> {
     let left = Left::by_library(record, lent, call)?;
     let packed = record_of(record);
     if packed.is_none() && *call != Call::Start {
         return match left.answer {
-            Answer::Refused(Code::Record) => Ok(Fate::NoPacking),
-            answer => Err(format!("no packing, and answered {answer:?}")),
+            Answer::Refused(Code::Record) => Ok(Fate::NoPhase),
+            answer => Err(format!("no phase, and answered {answer:?}")),
         };
     }
     // Start takes any numbers; the others begin there with a new record.
     let numbers = match packed {
         Some(_) => record,
-        None => &raw::Drive::NEW,
+        None => &Fields::NEW,
     };
     let sure = settled(record, call);
     let reference = Left::by_reference(packed.unwrap_or_default(), lent, call);
@@ -297,18 +298,26 @@ pub fn damaged(record: &raw::Drive, lent: &[u8], call: &Call) -> Result<Fate, St
     left.fate(sure)
 }
 
+/// The record that these numbers are the packing of, if of any: a call that is taken
+/// leaves no flag but 0 and 1, and 0 where its phase has nothing.
+fn packing_of(numbers: Fields) -> Option<other::Record> {
+    let record = record_of(&numbers)?;
+    let again = baseline::Drive::unpacked(&numbers).packed();
+    (again == numbers).then_some(record)
+}
+
 /// What a call left behind.
 struct Left {
     answer: Answer,
-    /// The record, if its numbers are the packing of one.
+    /// The record, if the numbers are its packing.
     record: Option<other::Record>,
     lent: Vec<u8>,
 }
 
 impl Left {
     /// Calls the library. A refusal must leave everything.
-    fn by_library(record: &raw::Drive, lent: &[u8], call: &Call) -> Result<Left, String> {
-        let before = Drive::from(*record);
+    fn by_library(record: &Fields, lent: &[u8], call: &Call) -> Result<Left, String> {
+        let before = Drive::from(record.record());
         let mut drive = before.clone();
         let mut buffer = Lent::new(lent, lent.len());
         let answer = on_library(&mut drive, buffer.bytes_mut(), call);
@@ -319,9 +328,17 @@ impl Left {
         if matches!(answer, Answer::Refused(_)) && !unchanged {
             return Err(format!("refused with {answer:?}, and changed"));
         }
+        if *call == Call::Image && drive != before {
+            return Err(String::from("an image call changed the record"));
+        }
+        let numbers = Fields::of(drive.record());
         Ok(Left {
             answer,
-            record: record_of(drive.record()),
+            // Image leaves what need be no packing.
+            record: match call {
+                Call::Image => record_of(&numbers),
+                _ => packing_of(numbers),
+            },
             lent: buffer.bytes().to_vec(),
         })
     }
@@ -337,7 +354,7 @@ impl Left {
         }
     }
 
-    fn by_baseline(numbers: &raw::Drive, lent: &[u8], call: &Call) -> Left {
+    fn by_baseline(numbers: &Fields, lent: &[u8], call: &Call) -> Left {
         let mut lent = lent.to_vec();
         let mut drive = baseline::Drive::unpacked(numbers);
         let answer = on_baseline(&mut drive, &mut lent, call);
@@ -370,7 +387,7 @@ impl Left {
         }
         match (&self.record, &other.record) {
             (Some(left), Some(wanted)) if alike(left, wanted) => Ok(()),
-            // A refused start left numbers that are no packing.
+            // What is refused is left, and need be no packing.
             (None, _) if self.refused() => Ok(()),
             (left, wanted) => Err(format!(
                 "the record is {left:?}\nand that of the {name} {wanted:?}"

@@ -4,16 +4,17 @@
 use std::vec::Vec;
 
 use super::damage;
-use crate::raw::{self, kind, BADS, DEAD, SPARES};
+use crate::fields::{Fields, BADS, DEAD, SPARES};
+use crate::raw::kind;
 
 /// The numbers after the last block and the last sector.
 const NO_BLOCK: u16 = 9728;
-const NO_SECTOR: u32 = 9792;
+const NO_SECTOR: u16 = 9792;
 
-const LAST_SPARE: u32 = 4959;
+const LAST_SPARE: u16 = 4959;
 
 /// Makes the records of every clause in every phase.
-pub fn records() -> Vec<raw::Drive> {
+pub fn records() -> Vec<Fields> {
     let mut records = Vec::new();
     for sound in damage::sound_ones().into_iter().map(full) {
         let mut made = Made { sound, records };
@@ -28,11 +29,11 @@ pub fn records() -> Vec<raw::Drive> {
 }
 
 /// Returns the record with its lists as long as they can be.
-fn full(mut drive: raw::Drive) -> raw::Drive {
-    drive.nbads = BADS;
-    drive.nspares = SPARES;
+fn full(mut drive: Fields) -> Fields {
+    drive.nbads = BADS as u16;
+    drive.nspares = SPARES as u16;
     if drive.stage.spare == 1 {
-        drive.nspares = SPARES - 1;
+        drive.nspares -= 1;
         drive.stage.sector = LAST_SPARE;
     }
     drive
@@ -40,20 +41,20 @@ fn full(mut drive: raw::Drive) -> raw::Drive {
 
 /// A sound record, and what was made of it and others.
 struct Made {
-    sound: raw::Drive,
-    records: Vec<raw::Drive>,
+    sound: Fields,
+    records: Vec<Fields>,
 }
 
 impl Made {
     /// Makes a record with a change.
-    fn with(&mut self, change: impl Fn(&mut raw::Drive)) {
+    fn with(&mut self, change: impl Fn(&mut Fields)) {
         let mut drive = self.sound;
         change(&mut drive);
         self.records.push(drive);
     }
 
     fn spare_list(&mut self) {
-        let last = self.sound.nspares - 1;
+        let last = usize::from(self.sound.nspares) - 1;
         for place in [0, last] {
             for entry in [NO_BLOCK - 1, NO_BLOCK, DEAD - 1, DEAD, DEAD + 1] {
                 self.with(|drive| drive.spares[place] = entry);
@@ -65,12 +66,12 @@ impl Made {
         self.with(|drive| drive.spares = [DEAD; SPARES]);
         for entry in [NO_BLOCK, self.sound.spares[0]] {
             self.with(|drive| {
-                drive.nspares = SPARES - 1;
+                drive.nspares = SPARES as u16 - 1;
                 drive.spares[SPARES - 1] = entry;
             });
         }
         if self.sound.stage.spare == 0 {
-            self.with(|drive| drive.nspares = SPARES + 1);
+            self.with(|drive| drive.nspares = SPARES as u16 + 1);
         }
     }
 
@@ -86,11 +87,11 @@ impl Made {
         }
         for entry in [NO_BLOCK, self.sound.bads[0]] {
             self.with(|drive| {
-                drive.nbads = last;
+                drive.nbads = last as u16;
                 drive.bads[last] = entry;
             });
         }
-        self.with(|drive| drive.nbads = BADS + 1);
+        self.with(|drive| drive.nbads = BADS as u16 + 1);
         self.with(|drive| drive.bads[0] = drive.spares[0]);
     }
 
@@ -117,7 +118,7 @@ impl Made {
                 self.sector();
             }
             kind::WRITE => self.sector(),
-            kind::ATTEMPT_WRITE | kind::ATTEMPT_READ => {
+            kind::TRIAL_WRITE | kind::TRIAL_READ => {
                 self.details([2, 3]);
                 self.with(|drive| drive.stage.errors = 255);
                 self.block();

@@ -10,7 +10,8 @@ use std::string::String;
 use std::vec::Vec;
 
 use super::mapping::record_of;
-use crate::raw::{self, kind, BADS, DEAD, SPARES};
+use crate::fields::{Fields, Stage, BADS, DEAD, SPARES};
+use crate::raw::kind;
 
 /// One side of a bound.
 struct Side {
@@ -18,7 +19,7 @@ struct Side {
     /// The phases in which its clause applies.
     phases: &'static [&'static str],
     /// Tells a record that is there, by the numbers of the clause alone.
-    holds: fn(&raw::Drive) -> bool,
+    holds: fn(&Fields) -> bool,
 }
 
 /// All phases, as the coverage names have them.
@@ -95,7 +96,7 @@ const START: &[&str] = &["starting"];
 const fn side(
     name: &'static str,
     phases: &'static [&'static str],
-    holds: fn(&raw::Drive) -> bool,
+    holds: fn(&Fields) -> bool,
 ) -> Side {
     Side {
         name,
@@ -206,12 +207,12 @@ const BEYOND: &[Side] = &[
 ];
 
 /// The entries in use; none if the count is more than there are places.
-fn spares(drive: &raw::Drive) -> &[u16] {
-    drive.spares.get(..drive.nspares).unwrap_or_default()
+fn spares(drive: &Fields) -> &[u16] {
+    drive.spare_list().unwrap_or_default()
 }
 
-fn bads(drive: &raw::Drive) -> &[u16] {
-    drive.bads.get(..drive.nbads).unwrap_or_default()
+fn bads(drive: &Fields) -> &[u16] {
+    drive.bad_list().unwrap_or_default()
 }
 
 fn first(list: &[u16]) -> Option<u16> {
@@ -219,22 +220,22 @@ fn first(list: &[u16]) -> Option<u16> {
 }
 
 /// The last entry of a full list. With a spare under trial one fewer is full.
-fn last_spare(drive: &raw::Drive) -> Option<u16> {
+fn last_spare(drive: &Fields) -> Option<u16> {
     let full = SPARES - usize::from(drive.stage.spare.min(1));
     spares(drive).get(full - 1).copied()
 }
 
-fn last_bad(drive: &raw::Drive) -> Option<u16> {
+fn last_bad(drive: &Fields) -> Option<u16> {
     bads(drive).get(BADS - 1).copied()
 }
 
 /// Returns the last place's number if only that place is unused.
-fn unused_spare(drive: &raw::Drive) -> Option<u16> {
-    (drive.nspares == SPARES - 1).then_some(drive.spares[SPARES - 1])
+fn unused_spare(drive: &Fields) -> Option<u16> {
+    (usize::from(drive.nspares) == SPARES - 1).then_some(drive.spares[SPARES - 1])
 }
 
-fn unused_bad(drive: &raw::Drive) -> Option<u16> {
-    (drive.nbads == BADS - 1).then_some(drive.bads[BADS - 1])
+fn unused_bad(drive: &Fields) -> Option<u16> {
+    (usize::from(drive.nbads) == BADS - 1).then_some(drive.bads[BADS - 1])
 }
 
 fn first_twice(list: &[u16]) -> bool {
@@ -255,17 +256,17 @@ fn same(one: u16, other: u16) -> bool {
 }
 
 /// E and the rereads left.
-fn rereads(drive: &raw::Drive) -> (u8, u8) {
+fn rereads(drive: &Fields) -> (u8, u8) {
     (drive.stage.errors, drive.stage.left)
 }
 
 /// True if this sector is under trial with so many spares listed.
-fn trial(drive: &raw::Drive, listed: usize, sector: u32) -> bool {
+fn trial(drive: &Fields, listed: u16, sector: u16) -> bool {
     (drive.nspares, drive.stage.sector) == (listed, sector)
 }
 
 /// The phase of a record. No clause is asked of other kinds.
-fn phase(stage: &raw::Stage) -> &'static str {
+fn phase(stage: &Stage) -> &'static str {
     match (stage.kind, stage.spare) {
         (kind::IDLE, _) => "idle",
         (kind::OFFER, _) => "offer",
@@ -277,10 +278,10 @@ fn phase(stage: &raw::Stage) -> &'static str {
         (kind::READ, _) if stage.left > 0 => "reread",
         (kind::READ, _) => "further-read",
         (kind::WRITE, _) => "plain-write",
-        (kind::ATTEMPT_WRITE, 0) => "present-write",
-        (kind::ATTEMPT_READ, 0) => "present-verify",
-        (kind::ATTEMPT_WRITE, _) => "spare-write",
-        (kind::ATTEMPT_READ, _) => "spare-verify",
+        (kind::TRIAL_WRITE, 0) => "present-write",
+        (kind::TRIAL_READ, 0) => "present-verify",
+        (kind::TRIAL_WRITE, _) => "spare-write",
+        (kind::TRIAL_READ, _) => "spare-verify",
         _ => "none",
     }
 }
@@ -302,7 +303,7 @@ pub fn names() -> Vec<String> {
 }
 
 /// The names of a record among these sides.
-fn names_of(which: &str, sides: &[Side], drive: &raw::Drive) -> Vec<String> {
+fn names_of(which: &str, sides: &[Side], drive: &Fields) -> Vec<String> {
     let phase = phase(&drive.stage);
     let there = |side: &&Side| side.phases.contains(&phase) && (side.holds)(drive);
     let found = sides.iter().filter(there);
@@ -319,9 +320,11 @@ impl Met {
     /// Counts the names of a record on which every call was made and all
     /// implementations agreed. One that is refused must be beyond exactly one
     /// bound, and one that is not beyond none.
-    pub fn count(&mut self, drive: &raw::Drive, refused: bool) -> Result<(), String> {
+    pub fn count(&mut self, drive: &Fields, refused: bool) -> Result<(), String> {
         if record_of(drive).is_none() {
-            return Err(String::from("no packing, so that no clause decides"));
+            return Err(String::from(
+                "a phase that is none, so that no clause decides",
+            ));
         }
         let beyond = names_of("beyond", BEYOND, drive);
         let met = match (refused, beyond.len()) {

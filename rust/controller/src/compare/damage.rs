@@ -1,14 +1,15 @@
-//! Records that no call returned: each field on both sides of each bound.
+//! Records that no call returned: each number on both sides of each bound.
 
 use std::vec::Vec;
 
 use reference::rng::Rng;
 
-use crate::raw::{self, kind};
+use crate::fields::{Fields, Flags, Stage, DEAD};
+use crate::raw::kind;
 
 /// A record of any kind with every number in or near its bounds, and then up to
 /// three fields changed.
-pub fn record(rng: &mut Rng) -> raw::Drive {
+pub fn record(rng: &mut Rng) -> Fields {
     let mut drive = sound(rng);
     for _ in 0..rng.pick(&[0, 0, 1, 1, 1, 2, 3]) {
         field(&mut drive, rng);
@@ -17,7 +18,7 @@ pub fn record(rng: &mut Rng) -> raw::Drive {
 }
 
 /// Another record with up to three fields changed.
-pub fn of(drive: &raw::Drive, rng: &mut Rng) -> raw::Drive {
+pub fn of(drive: &Fields, rng: &mut Rng) -> Fields {
     let mut drive = *drive;
     for _ in 0..rng.pick(&[1, 1, 1, 2, 3]) {
         field(&mut drive, rng);
@@ -26,8 +27,8 @@ pub fn of(drive: &raw::Drive, rng: &mut Rng) -> raw::Drive {
 }
 
 /// A record that code 1 lets pass, more often than not.
-fn sound(rng: &mut Rng) -> raw::Drive {
-    let mut drive = raw::Drive::NEW;
+fn sound(rng: &mut Rng) -> Fields {
+    let mut drive = Fields::NEW;
     drive.nspares = rng.pick(&[0, 0, 1, 5, 10, 31, 32]);
     drive.nbads = rng.pick(&[0, 0, 1, 5, 10, 99, 100]);
     // No list is long enough to come back to its first block; with a step of 512
@@ -41,7 +42,7 @@ fn sound(rng: &mut Rng) -> raw::Drive {
     for (place, spare) in drive.spares.iter_mut().enumerate() {
         *spare = block(place);
         if rng.one_in(6) {
-            *spare = raw::DEAD;
+            *spare = DEAD;
         }
     }
     for (place, bad) in drive.bads.iter_mut().enumerate() {
@@ -49,11 +50,11 @@ fn sound(rng: &mut Rng) -> raw::Drive {
     }
     drive.count = rng.pick(&[0, 3, 4, 5, 6, 6]);
     drive.fed = rng.pick(&[0, 0, 1, 531, 532, 533]);
-    let mark = |rng: &mut Rng| u8::from(rng.one_in(2));
-    drive.flags = raw::Flags {
-        known: u8::from(!rng.one_in(6)),
+    let mark = |rng: &mut Rng| u16::from(rng.one_in(2));
+    drive.flags = Flags {
+        known: u16::from(!rng.one_in(6)),
         changed: mark(rng),
-        latch: u8::from(rng.one_in(4)),
+        latch: u16::from(rng.one_in(4)),
         fresh: mark(rng),
     };
     drive.command = command(block(0), rng);
@@ -70,12 +71,12 @@ fn command(block: u16, rng: &mut Rng) -> [u8; 6] {
     [opcode, high, middle, low, rng.byte(), rng.byte()]
 }
 
-fn stage(drive: &raw::Drive, rng: &mut Rng) -> raw::Stage {
-    let mut stage = raw::Stage {
+fn stage(drive: &Fields, rng: &mut Rng) -> Stage {
+    let mut stage = Stage {
         kind: rng.below(10) as u8,
-        ..raw::Stage::default()
+        ..Stage::default()
     };
-    let mark = |rng: &mut Rng| u8::from(rng.one_in(2));
+    let mark = |rng: &mut Rng| u16::from(rng.one_in(2));
     match stage.kind {
         kind::OFFER => stage.detail = rng.pick(&[1, 2, 3, 4, 6]),
         kind::START => stage.detail = rng.pick(&[0, 1, 9, 10, 11]),
@@ -87,7 +88,7 @@ fn stage(drive: &raw::Drive, rng: &mut Rng) -> raw::Stage {
             stage.threshold = rng.pick(&[0, 1, 3, 255]);
             stage.good = mark(rng);
         }
-        kind::ATTEMPT_WRITE | kind::ATTEMPT_READ => {
+        kind::TRIAL_WRITE | kind::TRIAL_READ => {
             stage.detail = rng.pick(&[0, 1, 1, 2, 2, 3]);
             stage.spare = mark(rng);
         }
@@ -95,7 +96,7 @@ fn stage(drive: &raw::Drive, rng: &mut Rng) -> raw::Stage {
     }
     if matches!(
         stage.kind,
-        kind::READ | kind::ATTEMPT_WRITE | kind::ATTEMPT_READ
+        kind::READ | kind::TRIAL_WRITE | kind::TRIAL_READ
     ) {
         stage.block = rng.pick(&[0, 17, 4927, 4928, 9727, 9728]);
         stage.sector = sector(drive, rng);
@@ -107,8 +108,8 @@ fn stage(drive: &raw::Drive, rng: &mut Rng) -> raw::Stage {
 }
 
 /// A sector in or out of range, the next unused spare often.
-fn sector(drive: &raw::Drive, rng: &mut Rng) -> u32 {
-    let next = 4928 + drive.nspares.min(40) as u32;
+fn sector(drive: &Fields, rng: &mut Rng) -> u16 {
+    let next = 4928 + drive.nspares.min(40);
     rng.pick(&[
         0,
         17,
@@ -117,7 +118,7 @@ fn sector(drive: &raw::Drive, rng: &mut Rng) -> u32 {
         4928,
         4959,
         4960,
-        65_536,
+        65_535,
         next,
         next,
         next,
@@ -128,29 +129,16 @@ fn sector(drive: &raw::Drive, rng: &mut Rng) -> u32 {
 }
 
 /// Changes one field to a value at some bound, or to any.
-fn field(drive: &mut raw::Drive, rng: &mut Rng) {
-    const COUNTS: [usize; 15] = [
-        0,
-        1,
-        5,
-        6,
-        7,
-        31,
-        32,
-        33,
-        99,
-        100,
-        101,
-        533,
-        534,
-        1 << 32,
-        usize::MAX,
+fn field(drive: &mut Fields, rng: &mut Rng) {
+    const COUNTS: [u16; 15] = [
+        0, 1, 5, 6, 7, 31, 32, 33, 99, 100, 101, 533, 534, 256, 65_535,
     ];
-    const ENTRIES: [u16; 8] = [0, 17, 9727, 9728, 65_533, raw::DEAD, 65_535, 512];
+    const ENTRIES: [u16; 8] = [0, 17, 9727, 9728, 65_533, DEAD, 65_535, 512];
     let byte = match rng.below(12) {
         0 => rng.byte(),
         _ => rng.pick(&[0, 1, 2, 3, 6, 9, 10, 11, 89, 90, 255]),
     };
+    let mark = rng.pick(&[0, 1, 2, 255, 256, 65_535]);
     let stage = &mut drive.stage;
     let flags = &mut drive.flags;
     match rng.below(28) {
@@ -161,50 +149,41 @@ fn field(drive: &mut raw::Drive, rng: &mut Rng) {
         6 => drive.nspares = rng.pick(&COUNTS),
         7 => drive.nbads = rng.pick(&COUNTS),
         8 => drive.count = rng.pick(&COUNTS),
-        9 => drive.fed = rng.pick(&[0, 1, 531, 532, 533, 534, 535, 1 << 32, usize::MAX]),
+        9 => drive.fed = rng.pick(&[0, 1, 531, 532, 533, 534, 535, 65_535]),
         10 => {
             stage.sector = match rng.below(4) {
-                0 => rng.word() as u32,
-                _ => rng.pick(&[0, 1, 4927, 4928, 4959, 4960, 9791, 9792, 65_536, u32::MAX]),
+                0 => rng.word() as u16,
+                _ => rng.pick(&[0, 1, 4927, 4928, 4959, 4960, 9791, 9792, 65_535]),
             }
         }
         11 => stage.block = rng.pick(&ENTRIES),
         12 => stage.kind = rng.pick(&[0, 1, 2, 3, 4, 5, 6, 7, 8, 9, 10, 11, 255]),
         13 => stage.detail = byte,
-        14 => stage.first = byte,
+        14 => stage.first = mark,
         15 => stage.left = byte,
         16 => stage.spent = byte,
         17 => stage.threshold = byte,
-        18 => stage.good = byte,
-        19 => stage.spare = byte,
+        18 => stage.good = mark,
+        19 => stage.spare = mark,
         20 => stage.errors = byte,
-        21 => stage.crc = byte,
-        22 => stage.timeout = byte,
-        23 => flags.known = byte,
-        24 => flags.changed = byte,
-        25 => flags.latch = byte,
-        26 => flags.fresh = byte,
+        21 => stage.crc = mark,
+        22 => stage.timeout = mark,
+        23 => flags.known = mark,
+        24 => flags.changed = mark,
+        25 => flags.latch = mark,
+        26 => flags.fresh = mark,
         _ => drive.command[rng.place(6)] = byte,
     }
 }
 
-/// The fields of one byte.
-const BYTES: [fn(&mut raw::Drive) -> &mut u8; 21] = [
+/// The numbers of one byte.
+const BYTES: [fn(&mut Fields) -> &mut u8; 12] = [
     |drive| &mut drive.stage.kind,
     |drive| &mut drive.stage.detail,
-    |drive| &mut drive.stage.first,
     |drive| &mut drive.stage.left,
     |drive| &mut drive.stage.spent,
     |drive| &mut drive.stage.threshold,
-    |drive| &mut drive.stage.good,
-    |drive| &mut drive.stage.spare,
     |drive| &mut drive.stage.errors,
-    |drive| &mut drive.stage.crc,
-    |drive| &mut drive.stage.timeout,
-    |drive| &mut drive.flags.known,
-    |drive| &mut drive.flags.changed,
-    |drive| &mut drive.flags.latch,
-    |drive| &mut drive.flags.fresh,
     |drive| &mut drive.command[0],
     |drive| &mut drive.command[1],
     |drive| &mut drive.command[2],
@@ -213,8 +192,21 @@ const BYTES: [fn(&mut raw::Drive) -> &mut u8; 21] = [
     |drive| &mut drive.command[5],
 ];
 
+/// The flags.
+const FLAGS: [fn(&mut Fields) -> &mut u16; 9] = [
+    |drive| &mut drive.stage.first,
+    |drive| &mut drive.stage.good,
+    |drive| &mut drive.stage.spare,
+    |drive| &mut drive.stage.crc,
+    |drive| &mut drive.stage.timeout,
+    |drive| &mut drive.flags.known,
+    |drive| &mut drive.flags.changed,
+    |drive| &mut drive.flags.latch,
+    |drive| &mut drive.flags.fresh,
+];
+
 /// The counts.
-const COUNTS: [fn(&mut raw::Drive) -> &mut usize; 4] = [
+const COUNTS: [fn(&mut Fields) -> &mut u16; 4] = [
     |drive| &mut drive.nspares,
     |drive| &mut drive.nbads,
     |drive| &mut drive.count,
@@ -222,11 +214,11 @@ const COUNTS: [fn(&mut raw::Drive) -> &mut usize; 4] = [
 ];
 
 /// Sound records of each kind, and one at a read of FFFFFD, each with one field
-/// changed: a byte to each of its values, another number to each one near a bound.
-pub fn sweep() -> Vec<raw::Drive> {
+/// changed: a byte to each of its values, a flag and another number to some.
+pub fn sweep() -> Vec<Fields> {
     let mut records = Vec::new();
     for sound in sound_ones().into_iter().chain([health_read()]) {
-        let mut with = |change: &dyn Fn(&mut raw::Drive)| {
+        let mut with = |change: &dyn Fn(&mut Fields)| {
             let mut drive = sound;
             change(&mut drive);
             records.push(drive);
@@ -236,8 +228,13 @@ pub fn sweep() -> Vec<raw::Drive> {
                 with(&|drive| *byte(drive) = value);
             }
         }
+        for flag in FLAGS {
+            for value in (0..=3).chain([128, 255, 256, 32_768, 65_535]) {
+                with(&|drive| *flag(drive) = value);
+            }
+        }
         for count in COUNTS {
-            let wide = [1 << 8, 1 << 16, 1 << 32, usize::MAX - 1, usize::MAX];
+            let wide = [256, 512, 32_768, 65_534, 65_535];
             for value in (0..=110).chain(525..=540).chain(wide) {
                 with(&|drive| *count(drive) = value);
             }
@@ -251,7 +248,7 @@ pub fn sweep() -> Vec<raw::Drive> {
                 with(&|drive| drive.bads[place] = block);
             }
         }
-        let wide = [65_535, 65_536, 65_536 + 4931, u32::MAX];
+        let wide = [32_768, 65_534, 65_535];
         for sector in (0..5).chain(4920..=4970).chain(9785..=9800).chain(wide) {
             with(&|drive| drive.stage.sector = sector);
         }
@@ -260,17 +257,17 @@ pub fn sweep() -> Vec<raw::Drive> {
 }
 
 /// Sound records in every phase, with some entries in both lists.
-pub fn sound_ones() -> Vec<raw::Drive> {
+pub fn sound_ones() -> Vec<Fields> {
     let [_, mut further_read] = specimens(kind::READ);
     further_read.stage.left = 0;
-    let kinds = kind::IDLE..=kind::ATTEMPT_READ;
+    let kinds = kind::IDLE..=kind::TRIAL_READ;
     kinds.flat_map(specimens).chain([further_read]).collect()
 }
 
 /// At offer 02 of a read of FFFFFD, which shows counts and flags.
-fn health_read() -> raw::Drive {
+fn health_read() -> Fields {
     let [offer_02, _] = specimens(kind::OFFER);
-    raw::Drive {
+    Fields {
         command: [0, 0xFF, 0xFF, 0xFD, 2, 1],
         ..offer_02
     }
@@ -278,14 +275,14 @@ fn health_read() -> raw::Drive {
 
 /// Two sound records of a kind: for kinds with attempts on the present sector and
 /// on a spare, for reads with the first read and a reread awaited.
-fn specimens(kind: u8) -> [raw::Drive; 2] {
-    let mut drive = raw::Drive {
+fn specimens(kind: u8) -> [Fields; 2] {
+    let mut drive = Fields {
         nspares: 3,
         nbads: 5,
         count: 6,
         fed: 0,
         command: [0, 0, 0, 17, 2, 1],
-        ..raw::Drive::NEW
+        ..Fields::NEW
     };
     for place in 0..32 {
         drive.spares[place as usize] = 100 + place;
@@ -303,7 +300,7 @@ fn specimens(kind: u8) -> [raw::Drive; 2] {
             (drive.stage.first, drive.stage.left) = (1, 2);
             (other.stage.left, other.stage.errors) = (1, 1);
         }
-        kind::ATTEMPT_WRITE | kind::ATTEMPT_READ => {
+        kind::TRIAL_WRITE | kind::TRIAL_READ => {
             (drive.stage.detail, other.stage.detail) = (1, 2);
             (other.stage.spare, other.stage.sector) = (1, 4931);
         }
@@ -312,7 +309,7 @@ fn specimens(kind: u8) -> [raw::Drive; 2] {
     if kind == kind::OFFER {
         other.command[0] = 1;
     }
-    if matches!(kind, kind::READ | kind::ATTEMPT_WRITE | kind::ATTEMPT_READ) {
+    if matches!(kind, kind::READ | kind::TRIAL_WRITE | kind::TRIAL_READ) {
         (drive.stage.block, other.stage.block) = (17, 17);
         drive.stage.sector = 17;
     }

@@ -1,4 +1,4 @@
-//! From the library's record to the reference's.
+//! From the numbers in the library's record to the reference's record.
 
 use std::vec;
 use std::vec::Vec;
@@ -7,49 +7,55 @@ use reference::controller::{Job, Moving, Offer, Phase, Place, Reading, Record, S
 use reference::drive::Call;
 use reference::image::DEAD;
 
-use crate::raw::{self, kind};
+use crate::fields::{self, Fields};
+use crate::raw::kind;
 use crate::GO_ON;
 
 /// The first spare's sector, and how many there are.
 const FIRST_SPARE: u32 = 4928;
 const SPARES: u32 = 32;
 
-/// The record that these numbers are the packing of, if of any.
+/// The record that these numbers are unpacked to, unless the phase or the offer is
+/// none, which code 1 refuses.
 ///
 /// What the reference's record cannot hold becomes something that its own test
 /// refuses for the same clause of code 1.
-pub fn record_of(drive: &raw::Drive) -> Option<Record> {
-    let flags = drive.flags;
+pub fn record_of(numbers: &Fields) -> Option<Record> {
+    let flags = numbers.flags;
     Some(Record {
-        spares: list(&drive.spares, drive.nspares, |entry| match entry {
-            raw::DEAD => DEAD,
+        spares: list(numbers.spare_list(), fields::SPARES, |entry| match entry {
+            fields::DEAD => DEAD,
             block => u32::from(block),
         }),
-        bads: list(&drive.bads, drive.nbads, u32::from),
-        known: flag(flags.known)?,
-        changed: flag(flags.changed)?,
-        latch: flag(flags.latch)?,
-        fresh: flag(flags.fresh)?,
-        command: list(&drive.command, drive.count, |byte| byte),
-        data_count: drive.fed,
-        phase: phase(&drive.stage)?,
+        bads: list(numbers.bad_list(), fields::BADS, u32::from),
+        known: flag(flags.known),
+        changed: flag(flags.changed),
+        latch: flag(flags.latch),
+        fresh: flag(flags.fresh),
+        command: list(
+            numbers.command.get(..numbers.count.into()),
+            numbers.command.len(),
+            |byte| byte,
+        ),
+        data_count: numbers.fed.into(),
+        phase: phase(&numbers.stage)?,
     })
 }
 
-/// The first entries. A count beyond the array makes a list that is too long.
-fn list<S: Copy, T: Copy + Default>(array: &[S], count: usize, entry: impl Fn(S) -> T) -> Vec<T> {
-    match array.get(..count) {
+/// The entries in use. A count beyond the places makes a list that is too long.
+fn list<S: Copy, T: Copy + Default>(
+    used: Option<&[S]>,
+    places: usize,
+    entry: impl Fn(S) -> T,
+) -> Vec<T> {
+    match used {
         Some(used) => used.iter().copied().map(entry).collect(),
-        None => vec![T::default(); array.len() + 1],
+        None => vec![T::default(); places + 1],
     }
 }
 
-fn flag(number: u8) -> Option<bool> {
-    match number {
-        0 => Some(false),
-        1 => Some(true),
-        _ => None,
-    }
+fn flag(number: u16) -> bool {
+    number != 0
 }
 
 fn offer(byte: u8) -> Option<Offer> {
@@ -64,45 +70,24 @@ fn offer(byte: u8) -> Option<Offer> {
     .find(|offer| offer.byte() == byte)
 }
 
-fn phase(stage: &raw::Stage) -> Option<Phase> {
-    // What is left of the stage when the fields of its kind are taken out.
-    let mut rest = *stage;
-    rest.kind = 0;
-    let found = match stage.kind {
+fn phase(stage: &fields::Stage) -> Option<Phase> {
+    Some(match stage.kind {
         kind::IDLE => Phase::Idle,
-        kind::OFFER => {
-            rest.detail = 0;
-            Phase::Offered(offer(stage.detail)?)
-        }
+        kind::OFFER => Phase::Offered(offer(stage.detail)?),
         kind::COMMAND => Phase::Command,
         kind::DATA => Phase::Data,
-        kind::START => {
-            rest.detail = 0;
-            Phase::Starting {
-                reads: u32::from(stage.detail),
-            }
-        }
+        kind::START => Phase::Starting {
+            reads: u32::from(stage.detail),
+        },
         kind::STORE => Phase::Storing,
-        kind::READ => {
-            (rest.first, rest.left, rest.spent, rest.threshold, rest.good) = (0, 0, 0, 0, 0);
-            clear_job(&mut rest);
-            Phase::Reading(job(stage)?, reading(stage)?)
-        }
-        kind::WRITE => {
-            rest.sector = 0;
-            Phase::Writing {
-                job: NO_JOB,
-                sector: stage.sector,
-            }
-        }
-        kind::ATTEMPT_WRITE | kind::ATTEMPT_READ => {
-            (rest.detail, rest.spare) = (0, 0);
-            clear_job(&mut rest);
-            Phase::Moving(job(stage)?, moving(stage)?)
-        }
+        kind::READ => Phase::Reading(job(stage), reading(stage)),
+        kind::WRITE => Phase::Writing {
+            job: NO_JOB,
+            sector: stage.sector.into(),
+        },
+        kind::TRIAL_WRITE | kind::TRIAL_READ => Phase::Moving(job(stage), moving(stage)),
         _ => return None,
-    };
-    (rest == raw::Stage::default()).then_some(found)
+    })
 }
 
 /// The library keeps nothing of a plain write but its sector.
@@ -113,28 +98,23 @@ const NO_JOB: Job = Job {
     errors: 0,
 };
 
-fn clear_job(rest: &mut raw::Stage) {
-    (rest.sector, rest.block) = (0, 0);
-    (rest.errors, rest.crc, rest.timeout) = (0, 0, 0);
-}
-
-fn job(stage: &raw::Stage) -> Option<Job> {
-    Some(Job {
+fn job(stage: &fields::Stage) -> Job {
+    Job {
         block: u32::from(stage.block),
-        crc: flag(stage.crc)?,
-        timeout: flag(stage.timeout)?,
+        crc: flag(stage.crc),
+        timeout: flag(stage.timeout),
         errors: u32::from(stage.errors),
-    })
+    }
 }
 
-fn reading(stage: &raw::Stage) -> Option<Reading> {
-    let good = flag(stage.good)?;
+fn reading(stage: &fields::Stage) -> Reading {
+    let good = flag(stage.good);
     let spent = u32::from(stage.spent);
     let left = u32::from(stage.left);
-    Some(Reading {
-        sector: stage.sector,
+    Reading {
+        sector: stage.sector.into(),
         threshold: stage.threshold,
-        stage: match (flag(stage.first)?, left) {
+        stage: match (flag(stage.first), left) {
             // The reference has no cost beside rereads: too high a one is put
             // where it has.
             _ if spent > 89 => Stage::Further { spent },
@@ -145,13 +125,13 @@ fn reading(stage: &raw::Stage) -> Option<Reading> {
                 good,
             },
         },
-    })
+    }
 }
 
-fn moving(stage: &raw::Stage) -> Option<Moving> {
+fn moving(stage: &fields::Stage) -> Moving {
     let spares = FIRST_SPARE..FIRST_SPARE + SPARES;
-    Some(Moving {
-        place: match (flag(stage.spare)?, stage.sector) {
+    Moving {
+        place: match (flag(stage.spare), u32::from(stage.sector)) {
             (false, sector) => Place::Present(sector),
             (true, sector) if spares.contains(&sector) => {
                 Place::Spare((sector - FIRST_SPARE) as usize)
@@ -161,10 +141,10 @@ fn moving(stage: &raw::Stage) -> Option<Moving> {
         },
         attempt: u32::from(stage.detail),
         step: match stage.kind {
-            kind::ATTEMPT_WRITE => Step::Write,
+            kind::TRIAL_WRITE => Step::Write,
             _ => Step::Verify,
         },
-    })
+    }
 }
 
 /// Whether two records are the same to every later call: command bytes and the
@@ -194,15 +174,15 @@ pub fn alike(one: &Record, other: &Record) -> bool {
 /// Where document 01 is silent, as no call returns such a record, they may differ:
 /// in going on with command bytes or counts that do not go with the offer, and at
 /// a read's answer with marks that do not go with its stage.
-pub fn settled(drive: &raw::Drive, call: &Call) -> bool {
-    let (stage, opcode, count) = (&drive.stage, drive.command[0], drive.count);
+pub fn settled(numbers: &Fields, call: &Call) -> bool {
+    let (stage, opcode, count) = (&numbers.stage, numbers.command[0], numbers.count);
     match (call, stage.kind, stage.detail) {
         // Offer 01 drops the bytes, and offers 02, 03 and 04 begin the data count.
         (Call::Lower(GO_ON), kind::OFFER, 0x01) => count == 0,
-        (Call::Lower(GO_ON), kind::OFFER, 0x02) => opcode == 0 && count == 6 && drive.fed == 0,
+        (Call::Lower(GO_ON), kind::OFFER, 0x02) => opcode == 0 && count == 6 && numbers.fed == 0,
         (Call::Lower(GO_ON), kind::OFFER, 0x06) => matches!(opcode, 1 | 2) && count >= 4,
-        (Call::Lower(GO_ON), kind::OFFER, _) => drive.fed == 0,
-        (Call::Surface(..), kind::READ, _) if stage.first == 1 => {
+        (Call::Lower(GO_ON), kind::OFFER, _) => numbers.fed == 0,
+        (Call::Surface(..), kind::READ, _) if flag(stage.first) => {
             stage.good == 0 && stage.spent == 0
         }
         (Call::Surface(..), kind::READ, _) if stage.left > 0 => stage.spent == 0,
@@ -217,67 +197,70 @@ mod tests {
 
     #[test]
     fn a_new_record() {
-        let record = record_of(&raw::Drive::NEW).expect("a packing");
-        assert_eq!(record, Record::new());
+        assert_eq!(record_of(&Fields::NEW), Some(Record::new()));
     }
 
     #[test]
-    fn numbers_that_are_no_packing() {
-        let none = |change: fn(&mut raw::Drive)| {
-            let mut drive = raw::Drive::NEW;
-            change(&mut drive);
-            record_of(&drive).is_none()
+    fn phases_and_offers_that_are_none() {
+        let at = |kind, detail| Fields {
+            stage: fields::Stage {
+                kind,
+                detail,
+                ..fields::Stage::default()
+            },
+            ..Fields::NEW
         };
-        assert!(none(|drive| drive.stage.kind = 10));
-        assert!(none(|drive| drive.stage.detail = 1));
-        assert!(none(|drive| drive.stage.sector = 1));
-        assert!(none(|drive| drive.flags.fresh = 2));
-        assert!(none(|drive| (drive.stage.kind, drive.stage.detail) = (1, 5)));
-        assert!(!none(
-            |drive| (drive.stage.kind, drive.stage.detail) = (1, 6)
-        ));
-        assert!(none(|drive| (drive.stage.kind, drive.stage.block) = (7, 1)));
-        assert!(!none(
-            |drive| (drive.stage.kind, drive.stage.sector) = (7, 1)
-        ));
-        assert!(none(|drive| (drive.stage.kind, drive.stage.crc) = (6, 2)));
-        assert!(none(|drive| (drive.stage.kind, drive.stage.first) = (8, 1)));
-        assert!(!none(|drive| drive.command[5] = 255));
-        assert!(!none(|drive| drive.nspares = usize::MAX));
+        for kind in 0..=255 {
+            let none = record_of(&at(kind, 1)).is_none();
+            assert_eq!(none, kind > kind::TRIAL_READ, "{kind}");
+        }
+        for byte in 0..=255 {
+            let none = record_of(&at(kind::OFFER, byte)).is_none();
+            assert_eq!(none, !matches!(byte, 1..=4 | 6), "{byte}");
+        }
+    }
+
+    #[test]
+    fn a_flag_that_is_not_0_is_true() {
+        for number in [1, 2, 256, u16::MAX] {
+            let mut drive = Fields::NEW;
+            drive.flags.latch = number;
+            assert!(record_of(&drive).is_some_and(|record| record.latch));
+        }
     }
 
     #[test]
     fn what_the_reference_cannot_hold_it_refuses() {
-        let mut drive = raw::Drive::NEW;
+        let mut drive = Fields::NEW;
         drive.flags.known = 1;
-        let valid = |drive: &raw::Drive| record_of(drive).expect("a packing").valid();
+        let valid = |drive: &Fields| record_of(drive).is_some_and(|record| record.valid());
         assert!(valid(&drive));
-        for count in [33, 1 << 32, usize::MAX] {
-            assert!(!valid(&raw::Drive {
+        for count in [33, 1 << 8, u16::MAX] {
+            assert!(!valid(&Fields {
                 nspares: count,
                 ..drive
             }));
         }
-        assert!(!valid(&raw::Drive {
+        assert!(!valid(&Fields {
             nbads: 101,
             ..drive
         }));
-        assert!(!valid(&raw::Drive { count: 7, ..drive }));
-        assert!(!valid(&raw::Drive { fed: 534, ..drive }));
+        assert!(!valid(&Fields { count: 7, ..drive }));
+        assert!(!valid(&Fields { fed: 534, ..drive }));
         drive.stage.kind = kind::READ;
         drive.stage.first = 1;
         drive.stage.spent = 89;
         assert!(valid(&drive));
         drive.stage.spent = 90;
         assert!(!valid(&drive));
-        drive.stage = raw::Stage {
-            kind: kind::ATTEMPT_READ,
+        drive.stage = fields::Stage {
+            kind: kind::TRIAL_READ,
             spare: 1,
             sector: 4928,
-            ..raw::Stage::default()
+            ..fields::Stage::default()
         };
         assert!(valid(&drive));
-        for sector in [0, 4927, 4929, 4959, 4960, u32::MAX] {
+        for sector in [0, 4927, 4929, 4959, 4960, u16::MAX] {
             drive.stage.sector = sector;
             assert!(!valid(&drive), "{sector}");
         }

@@ -13,7 +13,8 @@ use reference::surface::{near_miss, plain_bytes};
 
 use super::beside::{self, Fate, MOST_LENT};
 use super::damage;
-use crate::raw::{self, kind};
+use crate::fields::Fields;
+use crate::raw::kind;
 use crate::{BUFFER, SECTOR_BYTES, STATUS};
 
 /// How the calls went.
@@ -26,7 +27,7 @@ pub struct Tried {
 /// Makes each call on the record, with any arguments, and says what is not as it
 /// must be. Code 1 looks at the record alone, so that all calls but start answer
 /// it or none does.
-pub fn all_calls(record: &raw::Drive, rng: &mut Rng) -> Result<Tried, String> {
+pub fn all_calls(record: &Fields, rng: &mut Rng) -> Result<Tried, String> {
     let filled = rng.byte();
     let mut fates = Vec::new();
     let mut refused = None;
@@ -90,7 +91,7 @@ fn surface(filled: u8, rng: &mut Rng) -> Call {
 pub fn every_place(rng: &mut Rng) -> Result<u64, String> {
     let mut calls = 0;
     let mut verifies = damage::sound_ones();
-    verifies.retain(|record| record.stage.kind == kind::ATTEMPT_READ);
+    verifies.retain(|record| record.stage.kind == kind::TRIAL_READ);
     for place in 0..SECTOR_BYTES {
         for record in &verifies {
             let lent: Vec<u8> = (0..BUFFER).map(|_| rng.byte()).collect();

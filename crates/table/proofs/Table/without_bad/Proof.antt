@@ -1,9 +1,7 @@
 -- `Table::without_bad` meets its contract: a place below the list's length is a member.
 use borrow.Author.Tests.{lt-ltb, le-ltb}
 use mathlib.Core.Path.{_≡_}
-use Prim.Native.Nat.{_<_, _≤_}
-use lib.ListN.{length, take, length-take}
-use Rattle.lists.specs.Lists.{indexOf}
+use lib.ListN.{length, length-take}
 use Rattle.lists.proofs.Laws.{member-index}
 use Rattle.table.specs.Tables.{withoutBad, badList}
 use borrow.Author.Needs.{needs}

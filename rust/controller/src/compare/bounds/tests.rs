@@ -12,7 +12,7 @@ use crate::compare::mapping::record_of;
 use crate::compare::trial;
 
 /// Counts the records that are wanted, each after its calls.
-fn met(wanted: fn(&raw::Drive) -> bool) -> Met {
+fn met(wanted: fn(&Fields) -> bool) -> Met {
     let mut met = Met::default();
     let mut rng = Rng::new(1);
     for record in records().iter().filter(|record| wanted(record)) {
@@ -44,7 +44,7 @@ fn what_is_not_tried_is_missed() {
 #[test]
 fn a_wrong_verdict_is_an_error() {
     for record in records() {
-        let refused = !record_of(&record).expect("a packing").valid();
+        let refused = !record_of(&record).expect("a phase").valid();
         assert!(Met::default().count(&record, refused).is_ok());
         assert!(Met::default().count(&record, !refused).is_err());
     }
@@ -58,7 +58,7 @@ fn beyond_two_bounds_is_no_name() {
     record.fed = 533;
     assert!(Met::default().count(&record, true).is_ok());
     // Nor is what no clause decides.
-    record.flags.known = 2;
+    record.stage.kind = 10;
     assert!(Met::default().count(&record, true).is_err());
 }
 

@@ -1,0 +1,91 @@
+-- `accesses::follow` meets its contract.
+use Rattle.drive.specs.Access.{follows}
+use Rattle.accesses.proofs.Answers.{reading-ok, read-bads}
+use mathlib.Core.List.{[]}
+use Rattle.drive.specs.Sparing.{tried, missed}
+use borrow.Author.Needs.{needs}
+use Rattle.accesses.proofs.follow.Statement.{statement}
+use Rattle.accesses.proofs.follow.Tie as tie
+
+enum-known-x : tie.Need-enum-known-x
+enum-known-x c = search needs
+
+start-requires : tie.Need-start-requires
+start-requires c κs = search needs
+
+enum-told : tie.Need-enum-told
+enum-told c = search needs
+
+store-requires : tie.Need-store-requires
+store-requires c κs = search needs
+
+enum-known-x-2 : tie.Need-enum-known-x-2
+enum-known-x-2 c = search needs
+
+read-requires : tie.Need-read-requires
+read-requires c κs = reading-ok _ _ _ (c .before .before .before .before .before .pre .1) _ (c .before .x2 .given .1)
+
+enum-told-2 : tie.Need-enum-told-2
+enum-told-2 c = search needs
+
+write-requires : tie.Need-write-requires
+write-requires c κs = search needs
+
+enum-known-x-3 : tie.Need-enum-known-x-3
+enum-known-x-3 c = search needs
+
+tried-requires : tie.Need-tried-requires
+tried-requires c κs = search needs
+
+enum-known-x-4 : tie.Need-enum-known-x-4
+enum-known-x-4 c = search needs
+
+checked-requires : tie.Need-checked-requires
+checked-requires c κs = search needs
+
+returns : tie.Need-returns
+unfolding follows
+returns c = rw (c .start .ensures, c .before .before .x .given .1)
+
+returns-2 : tie.Need-returns-2
+unfolding follows
+returns-2 c = rw (c .store .ensures, c .before .enum-told .given .1)
+
+returns-3 : tie.Need-returns-3
+unfolding follows
+returns-3 c = rw (c .read .ensures, c .before .before .x2 .given .1) (read-bads _ _ [] _ _ _ _)
+
+returns-4 : tie.Need-returns-4
+unfolding follows
+returns-4 c = rw (c .write .ensures, c .before .enum-told2 .given .1)
+
+returns-5 : tie.Need-returns-5
+unfolding follows tried missed
+returns-5 c = rw (c .tried .ensures, c .before .before .x3 .given .1)
+
+returns-6 : tie.Need-returns-6
+unfolding follows
+returns-6 c = rw (c .checked .ensures, c .before .before .x4 .given .1)
+
+pub follow-spec : {M : Type 1} → statement M
+follow-spec =
+    tie.close
+    (tie.spec
+    enum-known-x
+    start-requires
+    enum-told
+    store-requires
+    enum-known-x-2
+    read-requires
+    enum-told-2
+    write-requires
+    enum-known-x-3
+    tried-requires
+    enum-known-x-4
+    checked-requires
+    returns
+    returns-2
+    returns-3
+    returns-4
+    returns-5
+    returns-6)

@@ -1,0 +1,17 @@
+-- `accesses::with_table` meets its contract.
+use borrow.Author.Needs.{needs}
+use Rattle.accesses.proofs.with_table.Statement.{statement}
+use Rattle.accesses.proofs.with_table.Tie as tie
+
+with-marks-requires : tie.Need-with-marks-requires
+with-marks-requires c κs = search needs
+
+returns : tie.Need-returns
+returns c = rw (c .with-marks .ensures)
+
+pub with-table-spec : {M : Type 1} → statement M
+with-table-spec =
+    tie.close
+    (tie.spec
+    with-marks-requires
+    returns)

@@ -1,0 +1,22 @@
+-- `calls::Controller::lower` meets its contract.
+use mathlib.Core.Path.{_∙_}
+use Rattle.drive.specs.Calls.{stepOf}
+use borrow.Author.Needs.{needs}
+use Rattle.calls.proofs.Controller.lower.Statement.{statement}
+use Rattle.calls.proofs.Controller.lower.Tie as tie
+
+lower-requires : tie.Need-lower-requires
+lower-requires c κs = search needs
+
+hand-back-requires : tie.Need-hand-back-requires
+hand-back-requires c κs = search needs
+
+same-length : tie.Need-same-length
+same-length c = search needs
+
+returns : tie.Need-returns
+unfolding stepOf
+returns c = (c .hand-back .ensures ∙ c .before .before .before .lower .ensures .0, c .before .before .before .lower .ensures .1)
+
+pub lower-spec : {M : Type 1} → statement M
+lower-spec = tie.close (tie.spec lower-requires hand-back-requires same-length returns)

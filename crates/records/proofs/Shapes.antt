@@ -1,0 +1,102 @@
+-- THE SHAPES OF A TURN: a rule finishes, begins an attempt, or says something; only the start also loads a table. What holds of each
+-- shape holds of each rule.
+use mathlib.Core.Path.{_≡_, refl}
+use mathlib.Core.Bool.{Bool, true, false}
+use mathlib.Core.List.{List}
+use Prim.Native.Nat.{ℕ, _+_}
+use Rattle.logic.proofs.Bools.{clash}
+use Rattle.table.specs.declared.Table.{Table}
+use Rattle.drive.specs.declared.Access.{Access}
+use Rattle.drive.specs.declared.Access.the-variants as access
+use Rattle.drive.specs.declared.Answer.{Answer}
+use Rattle.drive.specs.declared.Change.{Change}
+use Rattle.drive.specs.declared.Change.the-variants as change
+use Rattle.drive.specs.declared.Ending.{Ending}
+use Rattle.drive.specs.declared.State.{State}
+use Rattle.drive.specs.declared.Order.{Order}
+use Rattle.drive.specs.declared.Outcome.{Outcome}
+use Rattle.drive.specs.declared.Outcome.the-variants as outcome
+use Rattle.drive.specs.declared.Part.{Part}
+use Rattle.drive.specs.declared.Seen.{Seen}
+use Rattle.drive.specs.declared.Status.the-variants as status
+use Rattle.drive.specs.declared.Trial.{Trial}
+use Rattle.drive.specs.declared.Turn.{Turn}
+use Rattle.drive.specs.Results.{finish}
+use Rattle.drive.specs.Handshake.{acted}
+use Rattle.drive.specs.Retries.{afterRead}
+use Rattle.drive.specs.Sparing.{attempt}
+use Rattle.drive.specs.Access.{withTable, storeAnswered, keptPart, reads, follows}
+use Rattle.drive.specs.Views.{ofAnswer}
+use Rattle.drive.specs.Over.{ofStart}
+use Rattle.records.specs.Turns.{isLoad}
+use Rattle.records.proofs.Ladders.{acted-cases, NextAttempt, Missed, Stopped, Verified, tried-cases, checked-cases, lost-cases, settled-cases, start-cases, write-cases}
+
+pub record Shapes (P : Turn → Type 0) (l : State) : Type 0 where
+  pub ends : (c : Change) (e : Ending) (s : Seen) (p : Part) → isLoad c ≡ false → P (finish l c e s p)
+  pub tries : (c : Change) (r : Trial) (p : Part) → isLoad c ≡ false → P (attempt l c r p)
+  pub says : (k : State) (a : Answer) (p : Part) → ofAnswer a .refused ≡ false → P (record { state = k; answer = a; change = change.Keep; leaves = record { status = status.Kept; part = p } })
+
+module _ (P : Turn → Type 0) (l : State) (z : Shapes P l) (t : Table) where
+  next-spare : (n : ℕ) (c : Change) (r : Trial) (s : Seen) → isLoad c ≡ false → NextAttempt P n l c r s
+  next-spare n c r s k = record { spare = λ e. z .tries c _ _ k; no-spare = λ e. z .ends c _ _ _ k }
+
+  misses : (r : Trial) (s : Seen) → Missed P l t r s
+  misses r s =
+      record {
+        again = λ e. z .tries change.Keep _ _ refl;
+        dead = λ e f. next-spare (t .nspares + 1) change.Kill r s refl;
+        left = λ e f. next-spare (t .nspares) change.Keep r s refl;
+      }
+
+  stops : (r : Trial) → Stopped P l r
+  stops r = record { dead = λ e. z .ends change.Kill _ _ _ refl; present = λ e. z .ends change.Keep _ _ _ refl }
+
+  verifies : (r : Trial) → Verified P l t r
+  verifies r =
+      record {
+        moved = λ e. z .ends (change.Move (r .block)) _ _ _ refl;
+        listed = λ e f. z .ends (change.Remove (r .block)) _ _ _ refl;
+        stays = λ e f. z .ends change.Keep _ _ _ refl;
+      }
+
+  pub reads-shape : (o : Outcome) (p : Part) → P (reads o l t p)
+  unfolding reads
+  reads-shape (outcome.Done r) p = z .ends change.Keep _ _ p refl
+  reads-shape (outcome.Again r) p = z .says _ _ p refl
+  reads-shape (outcome.Settle r) p =
+      settled-cases P l r p (record { below = λ e. z .ends change.Keep _ _ p refl; latched = λ e f. z .ends change.Keep _ _ p refl; tries = λ e f. z .tries change.Keep _ p refl })
+  reads-shape (outcome.Lost r) p =
+      lost-cases P l t r p
+      (record { listed = λ e. z .ends change.Keep _ _ p refl; entered = λ e f. z .ends (change.Enter (r .block)) _ _ p refl; full = λ e f. z .ends change.Keep _ _ p refl })
+  reads-shape (outcome.Stop r) p = z .ends change.Keep _ _ p refl
+
+  pub follows-shape : (x : Access) (a : ℕ) (bs : List ℕ) (q : Bool) → (ofStart x ≡ true → P (withTable l)) → P (follows x l t a bs q)
+  unfolding follows storeAnswered
+  follows-shape (access.Start k) a bs q n =
+      start-cases P k l a bs (record { table = λ e. n refl; stops = λ e f. z .says _ _ _ refl; again = λ e f. z .says _ _ _ refl; gives-up = λ e f. z .says _ _ _ refl })
+  follows-shape access.Store a bs q n = z .says _ _ _ refl
+  follows-shape (access.Read r) a bs q n = reads-shape (afterRead r a) (keptPart r a)
+  follows-shape (access.Write s) a bs q n =
+      write-cases P l a (record { done = λ e. z .ends change.Keep _ _ _ refl; stops = λ e f. z .ends change.Keep _ _ _ refl; fails = λ e f. z .ends change.Keep _ _ _ refl })
+  follows-shape (access.TrialWrite r) a bs q n = tried-cases P l t r a (record { done = λ e. z .says _ _ _ refl; stops = λ e. stops r; fails = λ e f. misses r _ })
+  follows-shape (access.TrialRead r) a bs q n = checked-cases P l t r a q (record { verifies = λ e. verifies r; stops = λ e f. stops r; fails = λ e f. misses r _ })
+
+  pub acted-shape : (o : Order) → P (acted o l t)
+  acted-shape o =
+      acted-cases P o l t
+      (record {
+        overrun = λ e. z .ends change.Keep _ _ _ refl;
+        no-block = λ e f. z .ends change.Keep _ _ _ refl;
+        buffer = λ e f. z .ends change.Keep _ _ _ refl;
+        no-table = λ e f. z .ends change.Keep _ _ _ refl;
+        table = λ e f. z .ends change.Keep _ _ _ refl;
+        health = λ e f. z .ends change.Keep _ _ _ refl;
+        read = λ b e. z .says _ _ _ refl;
+        latched = λ b e f. z .ends change.Keep _ _ _ refl;
+        plain = λ b e f g. z .says _ _ _ refl;
+        verify = λ b e f g. z .says _ _ _ refl;
+      })
+
+-- Only the start loads a table.
+pub no-load : (x : Access) (l : State) (t : Table) (a : ℕ) (bs : List ℕ) (q : Bool) → ofStart x ≡ false → isLoad (follows x l t a bs q .change) ≡ false
+no-load x l t a bs q n = follows-shape (λ (y : Turn). isLoad (y .change) ≡ false) l (record { ends = λ c e s p k. k; tries = λ c r p k. k; says = λ k a p n. refl }) t x a bs q (λ e. clash e n)

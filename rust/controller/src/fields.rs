@@ -1,0 +1,191 @@
+//! The numbers in a record's words, by name: as `crates/packed` puts them there. For
+//! tests and comparisons; a board needs none of it.
+
+use crate::raw::{self, WORDS};
+
+/// The most entries of the two lists.
+pub const SPARES: usize = 32;
+pub const BADS: usize = 100;
+
+/// The entry of a dead spare.
+pub const DEAD: u16 = 0xFFFE;
+
+/// Where the lists begin.
+const AT_SPARES: usize = 21;
+const AT_BADS: usize = 53;
+
+/// The numbers of a phase. What a phase does not have is 0. A flag is 0 or 1; what
+/// is not 0 is taken as 1.
+#[derive(Clone, Copy, Debug, Default, PartialEq, Eq)]
+pub struct Stage {
+    pub kind: u8,
+    pub detail: u8,
+    pub sector: u16,
+    pub block: u16,
+    pub left: u8,
+    pub errors: u8,
+    pub spent: u8,
+    pub threshold: u8,
+    pub first: u16,
+    pub good: u16,
+    pub spare: u16,
+    pub crc: u16,
+    pub timeout: u16,
+}
+
+/// The marks, each 0 or 1.
+#[derive(Clone, Copy, Debug, Default, PartialEq, Eq)]
+pub struct Flags {
+    pub known: u16,
+    pub changed: u16,
+    pub latch: u16,
+    pub fresh: u16,
+}
+
+/// All numbers of a record.
+#[derive(Clone, Copy, Debug, PartialEq, Eq)]
+pub struct Fields {
+    pub flags: Flags,
+    pub stage: Stage,
+    pub count: u16,
+    pub fed: u16,
+    pub command: [u8; 6],
+    pub nspares: u16,
+    pub nbads: u16,
+    pub spares: [u16; SPARES],
+    pub bads: [u16; BADS],
+}
+
+impl Fields {
+    /// Those of the record that was never started.
+    pub const NEW: Fields = Fields {
+        flags: Flags {
+            known: 0,
+            changed: 0,
+            latch: 0,
+            fresh: 0,
+        },
+        stage: Stage {
+            kind: 0,
+            detail: 0,
+            sector: 0,
+            block: 0,
+            left: 0,
+            errors: 0,
+            spent: 0,
+            threshold: 0,
+            first: 0,
+            good: 0,
+            spare: 0,
+            crc: 0,
+            timeout: 0,
+        },
+        count: 0,
+        fed: 0,
+        command: [0; 6],
+        nspares: 0,
+        nbads: 0,
+        spares: [0; SPARES],
+        bads: [0; BADS],
+    };
+
+    /// Reads them off a record.
+    pub fn of(drive: &raw::Drive) -> Fields {
+        let words = &drive.words;
+        let [kind, detail] = words[4].to_le_bytes();
+        let [left, errors] = words[7].to_le_bytes();
+        let [spent, threshold] = words[8].to_le_bytes();
+        let mut command = [0; 6];
+        for (pair, word) in command.chunks_mut(2).zip(&words[16..]) {
+            pair.copy_from_slice(&word.to_le_bytes());
+        }
+        Fields {
+            flags: Flags {
+                known: words[0],
+                changed: words[1],
+                latch: words[2],
+                fresh: words[3],
+            },
+            stage: Stage {
+                kind,
+                detail,
+                sector: words[5],
+                block: words[6],
+                left,
+                errors,
+                spent,
+                threshold,
+                first: words[9],
+                good: words[10],
+                spare: words[11],
+                crc: words[12],
+                timeout: words[13],
+            },
+            count: words[14],
+            fed: words[15],
+            command,
+            nspares: words[19],
+            nbads: words[20],
+            spares: core::array::from_fn(|place| words[AT_SPARES + place]),
+            bads: core::array::from_fn(|place| words[AT_BADS + place]),
+        }
+    }
+
+    /// Makes the record of these numbers.
+    pub fn record(&self) -> raw::Drive {
+        let (flags, stage) = (&self.flags, &self.stage);
+        let pair = |low, high| u16::from_le_bytes([low, high]);
+        let mut words = [0; WORDS];
+        words[..AT_SPARES].copy_from_slice(&[
+            flags.known,
+            flags.changed,
+            flags.latch,
+            flags.fresh,
+            pair(stage.kind, stage.detail),
+            stage.sector,
+            stage.block,
+            pair(stage.left, stage.errors),
+            pair(stage.spent, stage.threshold),
+            stage.first,
+            stage.good,
+            stage.spare,
+            stage.crc,
+            stage.timeout,
+            self.count,
+            self.fed,
+            pair(self.command[0], self.command[1]),
+            pair(self.command[2], self.command[3]),
+            pair(self.command[4], self.command[5]),
+            self.nspares,
+            self.nbads,
+        ]);
+        words[AT_SPARES..AT_BADS].copy_from_slice(&self.spares);
+        words[AT_BADS..].copy_from_slice(&self.bads);
+        raw::Drive { words }
+    }
+
+    /// The spare list; none if the count is more than there are places.
+    pub fn spare_list(&self) -> Option<&[u16]> {
+        self.spares.get(..self.nspares.into())
+    }
+
+    /// The bad list, likewise.
+    pub fn bad_list(&self) -> Option<&[u16]> {
+        self.bads.get(..self.nbads.into())
+    }
+}
+
+#[cfg(test)]
+mod tests {
+    use super::*;
+
+    /// Each word with another number.
+    #[test]
+    fn every_word_has_a_name() {
+        let words = core::array::from_fn(|place| (place as u16 + 1) * 257);
+        let drive = raw::Drive { words };
+        assert_eq!(Fields::of(&drive).record(), drive);
+        assert_eq!(Fields::NEW.record(), raw::Drive::NEW);
+        assert_eq!(Fields::of(&raw::Drive::NEW), Fields::NEW);
+    }
+}

@@ -1,0 +1,349 @@
+/* The record in write-protected memory, through the library.
+ *
+ * Drives in every phase, sound ones and such as differ from them in one word, get calls with arguments of every
+ * kind, each first where record and buffer may be written. A refused call is made again with both
+ * write-protected: whatever it writes, were it the same bytes, ends the test. A call that is taken must leave
+ * what the same call leaves of a record that lies between pages without access. Last, bv_start must write
+ * BV_DRIVE_BYTES bytes: all of them, and not one more.
+ *
+ * It prints how often each code was met. */
+#define _DEFAULT_SOURCE
+#include <signal.h>
+#include <stdio.h>
+#include <stdlib.h>
+#include <string.h>
+#include <sys/mman.h>
+#include <unistd.h>
+
+#include "bumivondra.h"
+
+#define EXPECT(fact) ((fact) ? (void)0 : failed(#fact, __LINE__))
+
+/* What is being tried, for the message. */
+static const char *trying = "";
+
+static _Noreturn void failed(const char *fact, int line)
+{
+    fprintf(stderr, "tests/record.c:%d: not so: %s (%s)\n", line, fact, trying);
+    exit(1);
+}
+
+static void forbidden(int signal)
+{
+    static const char words[] = "tests/record.c: memory was touched that may not be: ";
+    (void)signal;
+    if (write(2, words, sizeof words - 1) < 0 || write(2, trying, strlen(trying)) < 0 || write(2, "\n", 1) < 0)
+        _exit(2);
+    _exit(1);
+}
+
+/* MEMORY: pages with bytes at their end, so that the byte behind them has no access, or at their start. */
+
+static size_t page;
+
+struct fence {
+    uint8_t *bytes; /* those of one page */
+    uint8_t *at;    /* the first that is used */
+};
+
+/* Makes a page between two without access, of which n bytes are used: the last, or the first. */
+static struct fence fence(size_t n, int last)
+{
+    uint8_t *pages = mmap(NULL, 3 * page, PROT_NONE, MAP_PRIVATE | MAP_ANONYMOUS, -1, 0);
+    EXPECT(pages != MAP_FAILED && n <= page);
+    struct fence made = {pages + page, last ? pages + 2 * page - n : pages + page};
+    EXPECT(mprotect(made.bytes, page, PROT_READ | PROT_WRITE) == 0);
+    return made;
+}
+
+static void protect(struct fence made, int access)
+{
+    EXPECT(mprotect(made.bytes, page, access) == 0);
+}
+
+/* CALLS */
+
+enum call_kind { START, RAISE, LOWER, FEED, SURFACE, RESET, IMAGE };
+
+struct call {
+    enum call_kind kind;
+    uint8_t byte; /* LOWER, SURFACE */
+    size_t n;     /* FEED, SURFACE */
+    size_t len;
+};
+
+static const char *const words[] = {"start", "raise", "lower", "feed", "surface", "reset", "image"};
+static uint8_t bytes[600];
+
+static struct bv_reply make(struct bv_drive *drive, uint8_t *buf, const struct call *call)
+{
+    switch (call->kind) {
+    case START:
+        return bv_start(drive, buf, call->len);
+    case RAISE:
+        return bv_raise(drive, buf, call->len);
+    case LOWER:
+        return bv_lower(drive, buf, call->len, call->byte);
+    case FEED:
+        return bv_feed(drive, buf, call->len, bytes, call->n);
+    case SURFACE:
+        return bv_surface(drive, buf, call->len, call->byte, bytes, call->n);
+    case RESET:
+        return bv_reset(drive, buf, call->len);
+    default:
+        return bv_image(drive, buf, call->len);
+    }
+}
+
+enum { B = BV_BUFFER_BYTES, S = BV_SECTOR_BYTES };
+
+static const struct call calls[] = {
+    {RAISE, 0, 0, B},      {LOWER, BV_GO_ON, 0, B}, {LOWER, 0xAA, 0, B}, {FEED, 0, 0, B},
+    {FEED, 0, 6, B},       {FEED, 0, 600, B},       {SURFACE, 0, 0, B},  {SURFACE, 0, S, B},
+    {SURFACE, 1, 0, B},    {SURFACE, 1, S, B},      {SURFACE, 2, 0, B},  {SURFACE, 2, 1, B},
+    {SURFACE, 3, 0, B},    {SURFACE, 3, S, B},      {SURFACE, 4, 0, B},  {SURFACE, 255, S, B},
+    {SURFACE, 0, S - 1, B}, {RESET, 0, 0, B},       {IMAGE, 0, 0, S},    {START, 0, 0, B},
+    {RAISE, 0, 0, B - 1},  {LOWER, BV_GO_ON, 0, 0}, {FEED, 0, 6, S},     {SURFACE, 0, S, B + 1},
+    {RESET, 0, 0, 0},      {IMAGE, 0, 0, B},        {START, 0, 0, B - 1},
+};
+
+enum { CALLS = sizeof calls / sizeof calls[0] };
+
+/* THE TRIAL */
+
+static struct fence drives, buffers, far_drives;
+static unsigned long codes[6], taken;
+
+/* Makes one call on a record and a buffer of these contents. Returns what was replied. */
+static struct bv_reply try_call(const struct bv_drive *drive, const uint8_t *content, const struct call *call)
+{
+    static uint8_t buffer[600], left[600];
+    struct bv_drive copy = *drive;
+    struct bv_drive *lent = (struct bv_drive *)(void *)drives.at;
+    trying = words[call->kind];
+    memcpy(buffer, content, sizeof buffer);
+    struct bv_reply reply = make(&copy, buffer, call);
+    EXPECT(reply.kind <= BV_REFUSED);
+    if (reply.kind == BV_REFUSED) {
+        EXPECT(1 <= reply.value && reply.value <= 5);
+        EXPECT(memcmp(&copy, drive, sizeof copy) == 0 && memcmp(buffer, content, sizeof buffer) == 0);
+        codes[reply.value]++;
+        memcpy(lent, drive, sizeof copy);
+        memcpy(buffers.at, content, sizeof buffer);
+        protect(drives, PROT_READ);
+        protect(buffers, PROT_READ);
+        struct bv_reply again = make(lent, buffers.at, call);
+        EXPECT(again.kind == reply.kind && again.value == reply.value);
+        protect(drives, PROT_READ | PROT_WRITE);
+        protect(buffers, PROT_READ | PROT_WRITE);
+        return reply;
+    }
+    taken++;
+    struct bv_drive *far = (struct bv_drive *)(void *)far_drives.at;
+    memcpy(far, drive, sizeof copy);
+    memcpy(left, content, sizeof left);
+    if (call->kind == IMAGE)
+        protect(far_drives, PROT_READ);
+    struct bv_reply again = make(far, left, call);
+    protect(far_drives, PROT_READ | PROT_WRITE);
+    EXPECT(again.kind == reply.kind && again.value == reply.value);
+    EXPECT(memcmp(far, &copy, sizeof copy) == 0 && memcmp(left, buffer, sizeof left) == 0);
+    return reply;
+}
+
+static void try_calls(const struct bv_drive *drive, const uint8_t *content)
+{
+    for (size_t k = 0; k < CALLS; k++)
+        try_call(drive, content, &calls[k]);
+}
+
+/* Tries a record with one word changed, to numbers at and beyond every bound. */
+static void try_damaged(const struct bv_drive *drive, const uint8_t *content)
+{
+    static const uint16_t numbers[] = {0,    1,    2,    3,    6,    7,      10,     11,     32,     33,
+                                       90,   100,  101,  255,  256,  533,    534,    1536,   4928,   9727,
+                                       9728, 9791, 9792, 0x0501, 0x0B04, 0x8000, 0xFFFE, 0xFFFF};
+    for (size_t word = 0; word < BV_DRIVE_BYTES / 2; word++) {
+        for (size_t k = 0; k < sizeof numbers / sizeof numbers[0]; k++) {
+            struct bv_drive damaged = *drive;
+            damaged.words[word] = numbers[k];
+            for (size_t c = (word + k) % 5; c < CALLS; c += 5)
+                try_call(&damaged, content, &calls[c]);
+        }
+    }
+}
+
+/* Every phase and every offer that is none: code 1, but for bv_start. */
+static void try_phases(const struct bv_drive *drive, const uint8_t *content)
+{
+    for (unsigned low = 0; low < 256; low++) {
+        for (unsigned high = 0; high < 256; high += low == BV_AT_OFFER ? 1 : 85) {
+            int offer = (high >= 1 && high <= 4) || high == 6;
+            struct bv_drive damaged = *drive;
+            damaged.words[4] = low | high << 8;
+            if (low <= BV_AT_TRIAL_READ && (low != BV_AT_OFFER || offer))
+                continue;
+            for (size_t k = 0; k < CALLS; k++) {
+                struct bv_reply reply = try_call(&damaged, content, &calls[k]);
+                EXPECT(calls[k].kind == START || (reply.kind == BV_REFUSED && reply.value == BV_BAD_RECORD));
+            }
+        }
+    }
+}
+
+/* DRIVES IN EVERY PHASE */
+
+static struct bv_drive drive;
+static uint8_t buffer[600];
+static unsigned phases;
+
+/* The drive has come to a phase: tries what it is. */
+static void here(unsigned phase)
+{
+    EXPECT(bv_phase(&drive) == phase);
+    phases |= 1u << phase;
+    try_calls(&drive, buffer);
+    try_damaged(&drive, buffer);
+}
+
+static void up(uint32_t offer)
+{
+    struct bv_reply reply = bv_raise(&drive, buffer, B);
+    EXPECT(reply.kind == BV_OFFER && reply.value == offer);
+}
+
+static void go_on(uint32_t kind)
+{
+    EXPECT(bv_lower(&drive, buffer, B, BV_GO_ON).kind == kind);
+}
+
+static void surface(uint8_t answer, const uint8_t *brought, size_t n, uint32_t kind)
+{
+    EXPECT(bv_surface(&drive, buffer, B, answer, brought, n).kind == kind);
+}
+
+/* From idle to the offer after a command for block 17. */
+static void command(uint8_t opcode, uint32_t offer)
+{
+    const uint8_t said[BV_COMMAND_BYTES] = {opcode, 0, 0, 17, 2, 1};
+    up(BV_OFFER_COMMAND);
+    go_on(BV_WAIT);
+    EXPECT(bv_feed(&drive, buffer, B, said, sizeof said).kind == BV_WAIT);
+    up(offer);
+}
+
+/* From idle to the first access of a write or write/verify. */
+static void write_block(uint8_t opcode, uint32_t offer)
+{
+    command(opcode, offer);
+    go_on(BV_WAIT);
+    EXPECT(bv_feed(&drive, buffer, B, bytes, S).kind == BV_WAIT);
+    up(BV_OFFER_ACT);
+    go_on(BV_WRITE);
+}
+
+/* Starts with two spares and a bad block in the table. */
+static void start(void)
+{
+    static const uint8_t fixed[] =
+        "PROFILE      \0\0\0\x03\x90\0\x26\0\x02\x14\x20\x02\x01\0\0\x05\xFF\xFF\xFE\xFF\xFF\xFF\0\0\x07\xFF\xFF\xFF";
+    uint8_t image[S] = {0};
+    memcpy(image, fixed, sizeof fixed - 1);
+    EXPECT(bv_start(&drive, buffer, B).kind == BV_READ);
+    here(BV_AT_START);
+    EXPECT(!bv_has_table(&drive));
+    surface(BV_SURFACE_GOOD, image, S, BV_WAIT);
+    EXPECT(bv_has_table(&drive) && !bv_has_unstored(&drive) && !bv_is_latched(&drive));
+}
+
+/* Goes through every phase. */
+static void travel(void)
+{
+    static const uint8_t lost[S] = {0};
+    here(BV_AT_IDLE); /* never started */
+    start();
+    here(BV_AT_IDLE);
+    up(BV_OFFER_COMMAND);
+    here(BV_AT_OFFER);
+    try_phases(&drive, buffer);
+    go_on(BV_WAIT);
+    here(BV_AT_COMMAND);
+    EXPECT(bv_reset(&drive, buffer, B).kind == BV_WAIT);
+    command(BV_OP_READ, BV_OFFER_READ);
+    go_on(BV_READ);
+    here(BV_AT_READ);
+    surface(BV_SURFACE_CRC, lost, S, BV_READ);
+    here(BV_AT_READ);
+    surface(BV_SURFACE_GOOD, bytes, S, BV_READ);
+    surface(BV_SURFACE_GOOD, bytes, S, BV_FINISHED);
+    write_block(BV_OP_WRITE, BV_OFFER_WRITE);
+    here(BV_AT_WRITE);
+    surface(BV_SURFACE_GOOD, lost, 0, BV_FINISHED);
+    command(BV_OP_WRITE_VERIFY, BV_OFFER_VERIFY);
+    go_on(BV_WAIT);
+    here(BV_AT_DATA);
+    EXPECT(bv_feed(&drive, buffer, B, bytes, S).kind == BV_WAIT);
+    up(BV_OFFER_ACT);
+    here(BV_AT_OFFER);
+    go_on(BV_WRITE);
+    here(BV_AT_TRIAL_WRITE);
+    surface(BV_SURFACE_GOOD, lost, 0, BV_READ);
+    here(BV_AT_TRIAL_READ);
+    surface(BV_SURFACE_TIMEOUT, lost, 0, BV_WRITE);
+    surface(BV_SURFACE_TIMEOUT, lost, 0, BV_WRITE);
+    here(BV_AT_TRIAL_WRITE); /* on a spare */
+    surface(BV_SURFACE_GOOD, lost, 0, BV_READ);
+    surface(BV_SURFACE_GOOD, bytes, S, BV_FINISHED);
+    EXPECT(bv_has_unstored(&drive));
+    EXPECT(bv_raise(&drive, buffer, B).kind == BV_STORE);
+    here(BV_AT_STORE);
+    surface(BV_SURFACE_GOOD, lost, 0, BV_OFFER);
+    EXPECT(!bv_has_unstored(&drive));
+    EXPECT(bv_reset(&drive, buffer, B).kind == BV_WAIT);
+    write_block(BV_OP_WRITE, BV_OFFER_WRITE);
+    surface(BV_SURFACE_NO_SETTLE, lost, 0, BV_FINISHED);
+    EXPECT(bv_is_latched(&drive));
+    here(BV_AT_IDLE);
+    EXPECT(phases == (1u << (BV_AT_TRIAL_READ + 1)) - 1);
+}
+
+/* bv_start writes every byte of the record, wherever it lies, and none beside it. */
+static void start_writes_all(void)
+{
+    trying = "every byte";
+    for (int last = 0; last < 2; last++) {
+        struct fence one = fence(BV_DRIVE_BYTES, last), other = fence(BV_DRIVE_BYTES, last);
+        struct bv_drive *zeros = (struct bv_drive *)(void *)one.at, *ones = (struct bv_drive *)(void *)other.at;
+        EXPECT((size_t)one.at % BV_DRIVE_ALIGN == 0);
+        memset(one.bytes, 0x00, page);
+        memset(other.bytes, 0xFF, page);
+        EXPECT(bv_start(zeros, buffer, B).kind == BV_READ);
+        EXPECT(bv_start(ones, buffer, B).kind == BV_READ);
+        EXPECT(memcmp(zeros, ones, BV_DRIVE_BYTES) == 0);
+        for (size_t k = 0; k < page; k++) {
+            int within = one.bytes + k >= one.at && one.bytes + k < one.at + BV_DRIVE_BYTES;
+            EXPECT(within || (one.bytes[k] == 0x00 && other.bytes[k] == 0xFF));
+        }
+    }
+}
+
+int main(void)
+{
+    page = sysconf(_SC_PAGESIZE);
+    struct sigaction action;
+    memset(&action, 0, sizeof action);
+    action.sa_handler = forbidden;
+    EXPECT(sigaction(SIGSEGV, &action, NULL) == 0 && sigaction(SIGBUS, &action, NULL) == 0);
+    drives = fence(BV_DRIVE_BYTES, 1);
+    buffers = fence(sizeof buffer, 1);
+    far_drives = fence(BV_DRIVE_BYTES, 0);
+    memset(bytes, 0x5A, sizeof bytes);
+    travel();
+    start_writes_all();
+    for (int code = 1; code <= 5; code++)
+        EXPECT(codes[code] > 0);
+    printf("refused and written nothing: %lu with code 1, %lu with 2, %lu with 3, %lu with 4, %lu with 5; taken: %lu\n",
+           codes[1], codes[2], codes[3], codes[4], codes[5], taken);
+    printf("bv_start writes each of the %d bytes, and none beside them\n", BV_DRIVE_BYTES);
+    return 0;
+}
