@@ -14,9 +14,9 @@ abbrev pub attempts : ℕ → List Call
 attempts zero = []
 attempts (suc n) = surface 0 [] ∷ crc ∷ attempts n
 
--- Makes the longest read: 345 CRC errors, one good read, 66 attempts.
+-- Makes the longest read: 256 timeouts, which bring no bytes, 89 CRC errors, one good read, 66 attempts.
 abbrev pub longest : List Call
-longest = replicate 345 crc ++ (good ∷ attempts 66)
+longest = replicate 256 timeout ++ (replicate 89 crc ++ (good ∷ attempts 66))
 
 -- Begins the command, with R 255 and T 1.
 abbrev pub begun : Out
@@ -27,7 +27,7 @@ unfolding computed accesses
 reached = refl
 
 -- There it ends: failed, no spare unused, E 255.
-pub reached-end : Ended (run (begun .step .drive) (begun .bytes) longest) (0x09 ∷ 0x40 ∷ 0x00 ∷ 0xFF ∷ [])
+pub reached-end : Ended (run (begun .step .drive) (begun .bytes) longest) (0x0D ∷ 0x40 ∷ 0x00 ∷ 0xFF ∷ [])
 unfolding computed
 reached-end = (refl, refl)
 
