@@ -1,6 +1,6 @@
 /* A board's whole loop over the library. What a board has at its pins is a stub here: the bus is a short
  * script of events, the disk is an array of sectors with a few planned faults. One line is printed for
- * each event, with the accesses that it led to.
+ * each event, with the accesses that it led to, the same ones in a row counted.
  *
  *   gcc -std=c11 -Wall -Wextra -Werror -O2 -Iinclude examples/board_loop.c \
  *       target/staticlib/libbumivondra.a -o target/board_loop
@@ -29,7 +29,7 @@ struct fault {
 static struct fault faults[] = {
     {BV_TABLE_SECTOR, 0, 0, 1, BV_SURFACE_CRC},     /* the start has to read the table twice */
     {17, 0, 1, -1, BV_SURFACE_CRC},                 /* sector 17 is read once, then never again */
-    {BV_FIRST_SPARE, 1, 0, 2, BV_SURFACE_TIMEOUT},  /* spare 0 cannot be written */
+    {BV_FIRST_SPARE, 1, 0, 1, BV_SURFACE_TIMEOUT},  /* spare 0 cannot be written */
     {BV_TABLE_SECTOR, 1, 0, 1, BV_SURFACE_TIMEOUT}, /* the first store does not reach the disk */
     {300, 0, 0, 1, BV_SURFACE_TIMEOUT},             /* sector 300 needs a reread */
 };
@@ -102,7 +102,8 @@ static const struct event bus[] = {
     UP, GO, SAY(BV_OP_READ, 17, 10, 3), UP, GO,
     /* A read that needs a reread stays below its threshold. */
     UP, GO, SAY(BV_OP_READ, 300, 2, 1), UP, GO,
-    /* Write/verify block 17: its sector fails now, and so does spare 0; spare 1 takes it. */
+    /* Write/verify block 17: its first verify fails, then the trial of its sector; spare 0 cannot be written,
+     * spare 1 takes it. */
     UP, GO, SAY(BV_OP_WRITE_VERIFY, 17, 0, 0), UP, GO, SEND("SUMMER SALE, part 2"), UP, GO,
     /* The raise stores the table first; the store fails, so the next raise stores it again. */
     UP, GO, SAY(BV_OP_READ, 17, 10, 3), UP, GO,
@@ -129,10 +130,35 @@ static const struct event *next_event(void)
 static struct bv_drive drive;
 static uint8_t buffer[BV_BUFFER_BYTES];
 
+/* The last access, and how often it was made in a row. */
+static char last[40];
+static unsigned times;
+
+/* Prints the last access. */
+static void show_access(void)
+{
+    if (times > 1)
+        printf(" %s %u times,", last, times);
+    else if (times == 1)
+        printf(" %s,", last);
+    times = 0;
+}
+
+/* Takes note of an access: what was done to which sector, and how it went. */
+static void note(const char *done, uint32_t sector, uint8_t answer)
+{
+    static const char *const words[] = {"good", "crc", "timeout", "no settle"};
+    char text[sizeof last];
+    snprintf(text, sizeof text, "%s %u %s", done, sector, words[answer]);
+    if (strcmp(text, last) != 0)
+        show_access();
+    memcpy(last, text, sizeof last);
+    times++;
+}
+
 /* Does the access that a reply asks for, and tells the library how it went. */
 static struct bv_reply access_disk(struct bv_reply reply)
 {
-    static const char *const words[] = {"good", "crc", "timeout", "no settle"};
     uint8_t bytes[BV_SECTOR_BYTES];
     uint8_t answer;
     size_t brought = 0;
@@ -141,17 +167,17 @@ static struct bv_reply access_disk(struct bv_reply reply)
         answer = read_sector(reply.value, bytes);
         if (answer == BV_SURFACE_GOOD || answer == BV_SURFACE_CRC)
             brought = BV_SECTOR_BYTES;
-        printf(" read %u %s,", reply.value, words[answer]);
+        note("read", reply.value, answer);
         break;
     case BV_WRITE:
         answer = write_sector(reply.value, buffer + BV_DATA);
-        printf(" write %u %s,", reply.value, words[answer]);
+        note("write", reply.value, answer);
         break;
     default: /* BV_STORE: the image is made in bytes of its own, since the buffer is the host's */
         if (bv_image(&drive, bytes, sizeof bytes).kind != BV_WAIT)
             abort();
         answer = write_sector(BV_TABLE_SECTOR, bytes);
-        printf(" store %s,", words[answer]);
+        note("store", BV_TABLE_SECTOR, answer);
         break;
     }
     return bv_surface(&drive, buffer, sizeof buffer, answer, bytes, brought);
@@ -199,6 +225,7 @@ static int text_length(void)
 /* Shows the host what became of its event. */
 static void show(struct bv_reply reply)
 {
+    show_access();
     switch (reply.kind) {
     case BV_WAIT:
         printf(" wait\n");

@@ -7,7 +7,7 @@
  * answers. docs/BOARD.md has the loop, examples/board_loop.c is one. Usable from C11 and from C++11.
  *
  * WHAT IS PROMISED. For every record, every buffer and every argument a call answers as document 01 with
- * requests 1 to 3 of document 02 defines it, changes the record and the buffer as it defines, reads and
+ * requests 1 to 4 of document 02 defines it, changes the record and the buffer as it defines, reads and
  * writes nothing else, and ends. A refused call writes nothing at all, so that record and buffer may be
  * write-protected during it. No call waits, allocates, or keeps a pointer.
  *
@@ -47,7 +47,7 @@ enum {
     BV_SPARES = 32,         /* the most entries of the spare list */
     BV_BADS = 100,          /* the most entries of the bad list */
     BV_TABLE_SECTOR = 4960, /* the sector of the table */
-    BV_MOST_ACCESSES = 478  /* a command is over after at most so many accesses */
+    BV_MOST_ACCESSES = 3679 /* a command is over after at most so many accesses */
 };
 
 /* ON THE HOST'S BUS */
@@ -152,9 +152,10 @@ enum {
     BV_AT_START = 4,       /* the start's read is awaited */
     BV_AT_STORE = 5,       /* the store is awaited */
     BV_AT_READ = 6,        /* a read command's read is awaited */
-    BV_AT_WRITE = 7,       /* a plain write is awaited */
-    BV_AT_TRIAL_WRITE = 8, /* the write of a trial is awaited */
-    BV_AT_TRIAL_READ = 9   /* the read of a trial is awaited */
+    BV_AT_WRITE = 7,       /* a write command's write is awaited */
+    BV_AT_VERIFY = 8,      /* the read that verifies it is awaited */
+    BV_AT_TRIAL_WRITE = 9, /* the write of a sector trial is awaited */
+    BV_AT_TRIAL_READ = 10  /* a reread of a sector trial is awaited */
 };
 
 /* Returns where the drive is. */
@@ -179,6 +180,18 @@ static inline int bv_has_unstored(const struct bv_drive *drive)
 static inline int bv_is_latched(const struct bv_drive *drive)
 {
     return drive->words[2] != 0;
+}
+
+/* Returns how many rereads of the sector under trial were answered, 0 where no reread is awaited. */
+static inline unsigned bv_rereads(const struct bv_drive *drive)
+{
+    return bv_phase(drive) == BV_AT_TRIAL_READ ? drive->words[4] >> 8 : 0;
+}
+
+/* Returns how many of them failed. With more than 30 of its 100 rereads failed the sector is given up. */
+static inline unsigned bv_failures(const struct bv_drive *drive)
+{
+    return bv_phase(drive) == BV_AT_TRIAL_READ ? drive->words[8] & 0xFF : 0;
 }
 
 BV_STATIC_ASSERT(sizeof(size_t) == 8, "the library is one of 64 bits");
@@ -223,7 +236,7 @@ struct bv_reply bv_feed(struct bv_drive *drive, uint8_t *buf, size_t len, const 
  * access, BV_OFFER after the store, BV_WAIT at the end of the start, or BV_FINISHED with the status bytes
  * set and, for a good read, the block in the data part. A command is over after at most
  * BV_MOST_ACCESSES. With no access awaited BV_BAD_PLACE. Bytes of a read that is no good are in the data
- * part only until good ones come; bytes of a verify never are. */
+ * part only until good ones come; bytes of a verify or of a reread of a sector trial never are. */
 struct bv_reply bv_surface(struct bv_drive *drive, uint8_t *buf, size_t len, uint8_t answer,
                            const uint8_t *bytes, size_t n);
 

@@ -162,7 +162,7 @@ static void try_damaged(const struct bv_drive *drive, const uint8_t *content)
 {
     static const uint16_t numbers[] = {0,    1,    2,    3,    6,    7,      10,     11,     32,     33,
                                        90,   100,  101,  255,  256,  533,    534,    1536,   4928,   9727,
-                                       9728, 9791, 9792, 0x0501, 0x0B04, 0x8000, 0xFFFE, 0xFFFF};
+                                       9728, 9791, 9792, 0x0501, 0x0B04, 0x640A, 0x650A, 0x8000, 0xFFFE, 0xFFFF};
     for (size_t word = 0; word < BV_DRIVE_BYTES / 2; word++) {
         for (size_t k = 0; k < sizeof numbers / sizeof numbers[0]; k++) {
             struct bv_drive damaged = *drive;
@@ -242,6 +242,24 @@ static void write_block(uint8_t opcode, uint32_t offer)
     go_on(BV_WRITE);
 }
 
+/* The trial of a sector, from its write on, with so many failures. The last reread is answered with `kind`. */
+static void trial(unsigned failures, uint32_t kind)
+{
+    surface(BV_SURFACE_GOOD, bytes, 0, BV_READ);
+    here(BV_AT_TRIAL_READ);
+    for (unsigned reread = 1; reread < 100; reread++) {
+        if (reread <= failures)
+            surface(BV_SURFACE_TIMEOUT, bytes, 0, BV_READ);
+        else
+            surface(BV_SURFACE_GOOD, bytes, S, BV_READ);
+        EXPECT(bv_rereads(&drive) == reread);
+        EXPECT(bv_failures(&drive) == (reread < failures ? reread : failures));
+    }
+    here(BV_AT_TRIAL_READ);
+    surface(BV_SURFACE_GOOD, bytes, S, kind);
+    EXPECT(bv_rereads(&drive) == 0 && bv_failures(&drive) == 0);
+}
+
 /* Starts with two spares and a bad block in the table. */
 static void start(void)
 {
@@ -286,14 +304,14 @@ static void travel(void)
     up(BV_OFFER_ACT);
     here(BV_AT_OFFER);
     go_on(BV_WRITE);
+    here(BV_AT_WRITE); /* which is read back */
+    surface(BV_SURFACE_GOOD, lost, 0, BV_READ);
+    here(BV_AT_VERIFY);
+    surface(BV_SURFACE_GOOD, lost, S, BV_WRITE);
     here(BV_AT_TRIAL_WRITE);
-    surface(BV_SURFACE_GOOD, lost, 0, BV_READ);
-    here(BV_AT_TRIAL_READ);
-    surface(BV_SURFACE_TIMEOUT, lost, 0, BV_WRITE);
-    surface(BV_SURFACE_TIMEOUT, lost, 0, BV_WRITE);
+    trial(31, BV_WRITE);
     here(BV_AT_TRIAL_WRITE); /* on a spare */
-    surface(BV_SURFACE_GOOD, lost, 0, BV_READ);
-    surface(BV_SURFACE_GOOD, bytes, S, BV_FINISHED);
+    trial(30, BV_FINISHED);
     EXPECT(bv_has_unstored(&drive));
     EXPECT(bv_raise(&drive, buffer, B).kind == BV_STORE);
     here(BV_AT_STORE);

@@ -15,7 +15,8 @@ use Rattle.drive.specs.declared.Outcome.the-variants as outcome
 use Rattle.drive.specs.declared.Part.{Part}
 use Rattle.drive.specs.declared.Phase.the-variants as phase
 use Rattle.drive.specs.declared.Retry.{Retry}
-use Rattle.drive.specs.Records.{retryOk, accessOk, phaseOk, stateOk}
+use Rattle.drive.specs.declared.Trial.{Trial}
+use Rattle.drive.specs.Records.{retryOk, trialOk, accessOk, phaseOk, stateOk}
 use Rattle.drive.specs.Access.{lost, reads}
 use Rattle.records.specs.Turns.{lent}
 
@@ -27,6 +28,10 @@ awaited-ok n l x e h = ap (phaseOk n (l .marks .known)) (sym e) ∙ and-right (l
 -- A read that passes code 1 has numbers that fit.
 pub reading-ok : (n : ℕ) (known : Bool) (x : Access) → accessOk n known x ≡ true → (r : Retry) → x ≡ access.Read r → retryOk r ≡ true
 reading-ok n known x h r e = and-right known (retryOk r) (ap (accessOk n known) (sym e) ∙ h)
+
+-- So has a trial.
+pub reread-ok : (n : ℕ) (known : Bool) (x : Access) → accessOk n known x ≡ true → (r : Trial) → x ≡ access.TrialRead r → trialOk n r ≡ true
+reread-ok n known x h r e = and-right known (trialOk n r) (ap (accessOk n known) (sym e) ∙ h)
 
 -- The reader finds a table exactly in a well-formed image.
 found-formed : (i : List ℕ) → isTable (readOf i .found) ≡ wellFormed i

@@ -1,5 +1,5 @@
-// The surface's answers: to the start's reads, the store, a read command, a write and an attempt of the
-// move routine; document 01's codes 4 and 5 first.
+// The surface's answers: to the start's reads, the store, a read command, a write and its verify, and a
+// sector trial; document 01's codes 4 and 5 first.
 ghost use mathlib.Core.Path.{_≡_};
 ghost use mathlib.Core.Bool.{true};
 ghost use mathlib.Core.List.{[]};
@@ -8,8 +8,8 @@ ghost use Rattle.drive.specs.declared.Phase.the-variants as phase;
 ghost use Rattle.drive.specs.declared.Answer.the-variants as answer;
 ghost use Rattle.drive.specs.Records.{accessOk, stateOk};
 ghost use Rattle.drive.specs.Results.{say, inPhase};
-ghost use Rattle.drive.specs.Access.{asksRead, answerFits, bytesFit, isTrialRead, verifies, withTable, startAnswered, storeAnswered};
-ghost use Rattle.drive.specs.Access.{writeAnswered, follows, answered};
+ghost use Rattle.drive.specs.Access.{asksRead, answerFits, bytesFit, isCompared, verifies, withTable, startAnswered, storeAnswered};
+ghost use Rattle.drive.specs.Access.{written, writeAnswered, verifyAnswered, follows, answered};
 ghost use Rattle.records.specs.Turns.{lent};
 use drive::Access;
 use drive::Answer;
@@ -23,6 +23,7 @@ use drive::Phase;
 use drive::Refusal;
 use drive::State;
 use drive::Status;
+use drive::Target;
 use drive::Turn;
 use image::Found;
 
@@ -35,20 +36,22 @@ fn asks_read(x: Access) -> bool
         Access::Store => false,
         Access::Read(_) => true,
         Access::Write(_) => false,
+        Access::Verify(_) => true,
         Access::TrialWrite(_) => false,
         Access::TrialRead(_) => true,
     }
 }
 
-// Says whether an access is a trial's read.
-fn is_trial_read(x: Access) -> bool
-    ensures { λ r. ⌜ r ≡ isTrialRead x ⌝ }
+// Says whether what an access brings is compared with the data part.
+fn is_compared(x: Access) -> bool
+    ensures { λ r. ⌜ r ≡ isCompared x ⌝ }
 {
     match x {
         Access::Start(_) => false,
         Access::Store => false,
         Access::Read(_) => false,
         Access::Write(_) => false,
+        Access::Verify(_) => true,
         Access::TrialWrite(_) => false,
         Access::TrialRead(_) => true,
     }
@@ -63,7 +66,7 @@ pub fn verifies(p: Phase, a: u8) -> bool
         Phase::Offered(_) => false,
         Phase::Command => false,
         Phase::Data => false,
-        Phase::Awaiting(x) => is_trial_read(x) & (a == 0),
+        Phase::Awaiting(x) => is_compared(x) & (a == 0),
     }
 }
 
@@ -156,22 +159,52 @@ fn store(l: State, a: u8) -> Turn
     records::offer(records::with_marks(l, k, Phase::Idle), Offer::Command, 0)
 }
 
-// Returns what answer a to a plain write leads to.
-fn write(l: State, a: u8) -> Turn
-    ensures { λ x. ⌜ x ≡ writeAnswered l a ⌝ }
+// Goes on after a write that was done: a write/verify reads it back.
+fn written(l: State, w: Target) -> Turn
+    ensures { λ x. ⌜ x ≡ written l w ⌝ }
 {
+    let s = w.sector;
+    if w.verify {
+        return records::say(
+            records::in_phase(l, Phase::Awaiting(Access::Verify(w))),
+            Answer::Read(s),
+        );
+    }
+    records::finish(l, Change::Keep, Ending::Good, records::clean(), Part::Kept)
+}
+
+// Returns what answer a to a write command's write leads to, with n spares listed: a timeout goes to the
+// next spare.
+fn write(l: State, n: usize, w: Target, a: u8) -> Turn
+    ensures { λ x. ⌜ x ≡ writeAnswered l (lent [] n [] 0) w a ⌝ }
+{
+    let b = w.block;
     let s = records::clean();
     if a == 0 {
-        return records::finish(l, Change::Keep, Ending::Good, s, Part::Kept);
+        return written(l, w);
     }
     if a == 3 {
         return records::finish(l, Change::Keep, Ending::Latched, s, Part::Kept);
     }
-    records::finish(
+    sparing::next_spare(n, l, Change::Keep, b, records::met(a, s))
+}
+
+// Returns what answer a to its verify leads to. equal: it is 0, with the bytes of the data part.
+fn verify(l: State, w: Target, a: u8, equal: bool) -> Turn
+    ensures { λ x. ⌜ x ≡ verifyAnswered l w a equal ⌝ }
+{
+    let s = records::clean();
+    if a == 3 {
+        return records::finish(l, Change::Keep, Ending::Latched, s, Part::Kept);
+    }
+    if equal {
+        return records::finish(l, Change::Keep, Ending::Good, s, Part::Kept);
+    }
+    let seen = records::met(sparing::fault(a, equal), s);
+    sparing::begin(
         l,
         Change::Keep,
-        Ending::Failed,
-        records::met(a, s),
+        records::on_present(w.block, w.sector, seen),
         Part::Kept,
     )
 }
@@ -194,7 +227,8 @@ fn follow(
         Access::Start(k) => start(k, l, a, bytes),
         Access::Store => store(l, a),
         Access::Read(r) => reading::read(l, bads, m, r, a),
-        Access::Write(_) => write(l, a),
+        Access::Write(w) => write(l, n, w, a),
+        Access::Verify(w) => verify(l, w, a, equal),
         Access::TrialWrite(r) => sparing::tried(l, n, r, a),
         Access::TrialRead(r) => sparing::checked(l, n, bads, m, r, a, equal),
     }

@@ -1,9 +1,9 @@
-// Acts on a command (document 01, "Acting on a command", with the health block of document 02, request 3).
+// Acts on a command (document 01, "Acting on a command", with requests 3 and 4 of document 02).
 ghost use mathlib.Core.Path.{_≡_};
 ghost use Prim.Native.Nat.{_≤_, _<_};
 ghost use lib.ListN.{length};
 ghost use Rattle.drive.specs.Words.{blockOf};
-ghost use Rattle.drive.specs.Handshake.{ends, firstRead, plainWrite, firstAttempt, writes, asksBuffer, asksTable, asksHealth, noNumber, health, acted};
+ghost use Rattle.drive.specs.Handshake.{ends, firstRead, firstWrite, firstTrial, writes, asksBuffer, asksTable, asksHealth, noNumber, health, acted};
 ghost use Rattle.records.specs.Turns.{lent};
 use drive::Access;
 use drive::Answer;
@@ -17,6 +17,7 @@ use drive::Part;
 use drive::Phase;
 use drive::Retry;
 use drive::State;
+use drive::Target;
 use drive::Turn;
 use geometry::Block;
 
@@ -98,42 +99,45 @@ fn first_read(o: Order, l: State, spares: &[u16]) -> Turn
     )
 }
 
-// Asks for the one write of a write with no verify.
-fn plain_write(o: Order, l: State, spares: &[u16]) -> Turn
+// Asks for a write command's write; a write/verify reads it back.
+fn first_write(o: Order, l: State, spares: &[u16]) -> Turn
     requires { ⌜ (o .number < 9728) × (length (now spares) ≤ 32) ⌝ }
-    ensures { λ x. ⌜ x ≡ plainWrite o l (now (spares .entry)) ⌝ }
+    ensures { λ x. ⌜ x ≡ firstWrite o l (now (spares .entry)) ⌝ }
 {
-    let s = table::sector_of(spares, block_of(o));
+    let b = block_of(o);
+    let s = table::sector_of(spares, b);
+    let k = o.kind;
+    let w = Target {
+        block: b,
+        sector: s,
+        verify: !records::is_write(k),
+    };
     records::say(
-        records::in_phase(l, Phase::Awaiting(Access::Write(s))),
+        records::in_phase(l, Phase::Awaiting(Access::Write(w))),
         Answer::Write(s),
     )
 }
 
-// Asks for the write of the move routine's first attempt, on the present sector.
-fn first_attempt(o: Order, l: State, spares: &[u16]) -> Turn
+// Begins with the trial of the present sector.
+fn first_trial(o: Order, l: State, spares: &[u16]) -> Turn
     requires { ⌜ (o .number < 9728) × (length (now spares) ≤ 32) ⌝ }
-    ensures { λ x. ⌜ x ≡ firstAttempt o l (now (spares .entry)) ⌝ }
+    ensures { λ x. ⌜ x ≡ firstTrial o l (now (spares .entry)) ⌝ }
 {
     let b = block_of(o);
     let s = table::sector_of(spares, b);
     let r = records::on_present(b, s, records::clean());
-    records::say(
-        records::in_phase(l, Phase::Awaiting(Access::TrialWrite(r))),
-        Answer::Write(s),
-    )
+    sparing::begin(l, Change::Keep, r, Part::Kept)
 }
 
-// Writes a block: for a listed bad block a write is write/verify.
+// Writes a block: any write to a listed bad block begins with a trial.
 fn write<'a>(o: Order, l: State, spares: &'a [u16], n: usize, bads: &'a [u16], m: usize) -> Turn
     requires { ⌜ (o .number < 9728) × (n ≤ 32) ⌝ }
     ensures { λ x. ⌜ x ≡ writes o l (lent (now (spares .entry)) n (now (bads .entry)) m) ⌝ }
 {
-    let k = o.kind;
-    if records::is_write(k) & !table::listed_bad(lists::cut(bads, m), block_of(o)) {
-        return plain_write(o, l, lists::cut(spares, n));
+    if table::listed_bad(lists::cut(bads, m), block_of(o)) {
+        return first_trial(o, l, lists::cut(spares, n));
     }
-    first_attempt(o, l, lists::cut(spares, n))
+    first_write(o, l, lists::cut(spares, n))
 }
 
 // Acts on a command, by the first rule that applies. The first n of spares and the first m of bads are

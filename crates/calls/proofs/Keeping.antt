@@ -22,8 +22,8 @@ use Rattle.drive.specs.Words.{orderOf}
 use Rattle.drive.specs.Results.{partLeft, statusLeft, leave}
 use Rattle.drive.specs.Handshake.{raised, acted, goesOn, lowered, fedTo, rested}
 use Rattle.drive.specs.Retries.{afterRead}
-use Rattle.drive.specs.Sparing.{tried, checked, missed, verified}
-use Rattle.drive.specs.Access.{asksRead, fitting, keptPart, follows, answered}
+use Rattle.drive.specs.Sparing.{tried, judged, checked, missed, verified}
+use Rattle.drive.specs.Access.{asksRead, fitting, keptPart, writeAnswered, follows, answered}
 use Rattle.records.specs.Turns.{lent}
 use Rattle.records.proofs.Ladders.{raised-idle-cases, acted-cases, lowered-cases, fitting-cases, start-cases}
 use Rattle.records.proofs.Shapes.{no-load}
@@ -54,8 +54,8 @@ act-keeps o l t =
       health = λ e f. refl;
       read = λ b e. refl;
       latched = λ b e f. refl;
-      plain = λ b e f g. refl;
-      verify = λ b e f g. refl;
+      listed = λ b e f g. refl;
+      write = λ b e f g. refl;
     })
 
 go-keeps : (o : Offer) (l : State) (t : Table) → Keeps (goesOn o l t)
@@ -113,7 +113,8 @@ module _ (bs : List ℕ) where
       start-cases Loads k l a bs (record { table = λ e. and-right (eqb a 0) (wellFormed bs) e; stops = λ e f. refl; again = λ e f. refl; gives-up = λ e f. refl })
   follow-formed access.Store l t a q = rw (no-load access.Store l t a bs q refl)
   follow-formed (access.Read r) l t a q = rw (no-load (access.Read r) l t a bs q refl)
-  follow-formed (access.Write s) l t a q = rw (no-load (access.Write s) l t a bs q refl)
+  follow-formed (access.Write w) l t a q = rw (no-load (access.Write w) l t a bs q refl)
+  follow-formed (access.Verify w) l t a q = rw (no-load (access.Verify w) l t a bs q refl)
   follow-formed (access.TrialWrite r) l t a q = rw (no-load (access.TrialWrite r) l t a bs q refl)
   follow-formed (access.TrialRead r) l t a q = rw (no-load (access.TrialRead r) l t a bs q refl)
 
@@ -128,7 +129,7 @@ module _ (bs : List ℕ) where
 
 -- Of the table an answer needs no more than the number of spares and the bad list.
 pub no-spares : (p : Phase) (l : State) (s b : List ℕ) (n m a : ℕ) (bs : List ℕ) (q : Bool) → answered p l (lent [] n b m) a bs q ≡ answered p l (lent s n b m) a bs q
-unfolding answered follows tried checked missed verified
+unfolding answered follows writeAnswered tried checked judged missed verified
 no-spares phase.Idle l s b n m a bs q = refl
 no-spares (phase.Offered o) l s b n m a bs q = refl
 no-spares phase.Command l s b n m a bs q = refl
@@ -137,6 +138,7 @@ no-spares (phase.Awaiting (access.Start k)) l s b n m a bs q = refl
 no-spares (phase.Awaiting access.Store) l s b n m a bs q = refl
 no-spares (phase.Awaiting (access.Read r)) l s b n m a bs q =
     ap (fitting true l a (length bs)) (sym (read-bads (afterRead r a) l [] b n m (keptPart r a)) ∙ read-bads (afterRead r a) l s b n m (keptPart r a))
-no-spares (phase.Awaiting (access.Write k)) l s b n m a bs q = refl
+no-spares (phase.Awaiting (access.Write w)) l s b n m a bs q = refl
+no-spares (phase.Awaiting (access.Verify w)) l s b n m a bs q = refl
 no-spares (phase.Awaiting (access.TrialWrite r)) l s b n m a bs q = refl
 no-spares (phase.Awaiting (access.TrialRead r)) l s b n m a bs q = refl

@@ -24,7 +24,7 @@ use Rattle.drive.specs.declared.Ending.{Ending}
 use Rattle.drive.specs.declared.Ending.the-variants as ending
 use Rattle.drive.specs.Words.{response, dataOf, numberOf, kindOf, blockOf, isRead, orderOf}
 use Rattle.drive.specs.Results.{partLeft, statusLeft, outOf, clean}
-use Rattle.drive.specs.Handshake.{ends, firstRead, plainWrite, firstAttempt, acted}
+use Rattle.drive.specs.Handshake.{ends, firstRead, firstWrite, firstTrial, acted}
 use Rattle.drive.specs.Calls.{lower}
 use Rattle.drive.specs.History.{Sectors, Entry, History, padded, next, heard, learns, acts, underway, touches, touchesFirst, reports, moves, good, hasWritten}
 use Rattle.drive.specs.Run.{entryOf}
@@ -90,18 +90,18 @@ module _ (start σ : Sectors) (t : Table) (mk : Marks) (pl : Block → Where) (c
         )
 
     abbrev write₁ : Turn
-    write₁ = plainWrite (orderOf c) l₀ (spareList t)
+    write₁ = firstWrite (orderOf c) l₀ (spareList t)
 
     go-write : isRead (kindOf c) ≡ false → G₀ write₁
     unfolding partLeft statusLeft next heard learns acts underway touches reports
     go-write op =
         λ ok. (
           fits-first _ _ (rw go) block-h first-at,
-          rw go (at-work lc kn i (cm .number) (ap isRead (cm .kind) ∙ op) (writing refl refl refl (dw op) (entry-none H₀ (o₀ write₁) start refl (rw go) kb))),
+          rw go (at-work lc kn i (cm .number) (ap isRead (cm .kind) ∙ op) (writing refl refl refl refl refl (dw op) (entry-none H₀ (o₀ write₁) start refl (rw go) kb))),
         )
 
     abbrev try₁ : Turn
-    try₁ = firstAttempt (orderOf c) l₀ (spareList t)
+    try₁ = firstTrial (orderOf c) l₀ (spareList t)
 
     go-try : isRead (kindOf c) ≡ false → G₀ try₁
     unfolding partLeft statusLeft next heard learns acts underway touches reports
@@ -132,6 +132,6 @@ module _ (start σ : Sectors) (t : Table) (mk : Marks) (pl : Block → Where) (c
         health = λ e f. end-no-block (not-block 0xFFFFFD refl f) ending.Good _;
         read = λ b e. go-read (known b) (on-block b) e;
         latched = λ b e f. end-failed ending.Latched refl refl;
-        plain = λ b e f g. go-write (known b) (on-block b) e;
-        verify = λ b e f g. go-try (known b) (on-block b) e;
+        listed = λ b e f g. go-try (known b) (on-block b) e;
+        write = λ b e f g. go-write (known b) (on-block b) e;
       })

@@ -16,7 +16,7 @@ use Rattle.drive.specs.Words.{dataOf}
 use Rattle.drive.specs.Records.{recordOk, awaits}
 use Rattle.drive.specs.Results.{outOf, guarded}
 use Rattle.drive.specs.Handshake.{raised, lowered, fedTo, rested}
-use Rattle.drive.specs.Access.{asksRead, answerFits, bytesFit, isTrialRead, verifies, follows, answered}
+use Rattle.drive.specs.Access.{asksRead, answerFits, bytesFit, isCompared, verifies, follows, answered}
 use Rattle.drive.specs.Calls.{Call, raise, lower, feed, surface, reset, raiseOf, lowerOf, feedOf, surfaceOf, resetOf, stepOf}
 use Rattle.drive.specs.Views.{ofAnswer}
 use Rattle.records.proofs.Ladders.{guarded-cases, fitting-cases}
@@ -39,7 +39,7 @@ awaited P f h (phase.Awaiting x) e = h x e
 
 -- Returns what a surface call's own rule gives for an access.
 abbrev pub followed : Access → Drive → List ℕ → ℕ → List ℕ → Turn
-followed x d u a bs = follows x (d .state) (d .table) a bs (isTrialRead x && eqb a 0 && same bs (dataOf u))
+followed x d u a bs = follows x (d .state) (d .table) a bs (isCompared x && eqb a 0 && same bs (dataOf u))
 
 -- Says that a surface call answered an access that was awaited, that the codes 1, 2, 4 and 5 let it pass, and what it gave.
 pub record Accepted (d : Drive) (u : List ℕ) (a : ℕ) (bs : List ℕ) : Type 0 where

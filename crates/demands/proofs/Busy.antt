@@ -19,6 +19,7 @@ use Rattle.drive.specs.declared.State.{State}
 use Rattle.drive.specs.declared.Marks.{Marks}
 use Rattle.drive.specs.declared.Seen.{Seen}
 use Rattle.drive.specs.declared.Retry.{Retry}
+use Rattle.drive.specs.declared.Target.{Target}
 use Rattle.drive.specs.declared.Trial.{Trial}
 use Rattle.drive.specs.declared.Access.the-variants as access
 use Rattle.drive.specs.declared.Part.{Part}
@@ -36,16 +37,16 @@ use Rattle.drive.specs.declared.Change.the-variants as change
 use Rattle.drive.specs.declared.Outcome.{Outcome}
 use Rattle.drive.specs.Words.{dataOf, numberOf, kindOf, blockOf, isRead, orderOf}
 use Rattle.drive.specs.Results.{partLeft, statusLeft, changed, outOf, inPhase, finish, onPresent}
-use Rattle.drive.specs.Sparing.{attempt, onSpare, once}
+use Rattle.drive.specs.Sparing.{begin, onSpare}
 use Rattle.drive.specs.Access.{reads}
 use Rattle.drive.specs.Calls.{surface}
 use Rattle.drive.specs.History.{held, Sectors, Entry, History, In, put, padded, isTableSector, next, heard, acts, underway, touches, touchesFirst, reports, moves, good, hasWritten, bytesOf, order}
 use Rattle.drive.specs.Surface.{target, sent, landed, brings}
 use Rattle.drive.specs.Run.{Event, entryOf}
 use Rattle.drive.specs.Views.{Bytes, Where, at, ofAnswer}
-use Rattle.records.proofs.Ladders.{NextAttempt, Missed, Stopped, Verified, Settled, settled-cases, Lost, lost-cases, GoesOnReading}
+use Rattle.records.proofs.Ladders.{NextSpare, Missed, Stopped, Verified, Settled, settled-cases, Lost, lost-cases, GoesOnReading}
 use Rattle.demands.proofs.Statuses.{fails, isMove, good-is, moves-is, data-ended}
-use Rattle.demands.proofs.Sim.{Ln, W, Hs, Blocky, placeOf, Books, Quiet, Own, Ground, resting, Bound, Spot, rereads, trying, checking, at-rest, at-work, Good, ev}
+use Rattle.demands.proofs.Sim.{Ln, W, Hs, Blocky, placeOf, Books, Quiet, Own, Ground, resting, Bound, Spot, Sole, rereads, verifying, trying, checking, at-rest, at-work, Good, ev}
 use Rattle.demands.proofs.Books.{same-block, held-inj, books-table, books-weaken, books-only, books-more, books-in, books-dead, books-moved}
 use Rattle.demands.proofs.Entries.{fits-silent, fits-failed, fits-good, entry-none, entry-failed, candidates-kept, no-learn, entry-good, entry-moved, entry-added}
 
@@ -225,40 +226,48 @@ module _ {A : Answer} (j : Job A) where
       λ ok. (fits-silent _ _ refl refl, at-work lc kn i num isr (rereads eb refl es op (g ok) (entry-none H₂ o start (no-learn H₂ o nl) refl k)))
 
   pub goes-trying : (ch : Change) (r : Trial) (v : Part) → r .block ≡ b → Spot (changed ch t bs) b r → (R₂ → Bound ca b rd (B v) (padded fd))
-      → (R₂ → Books (changed ch t bs) σ₂ pl ca (Own b (D v))) → G₂ (attempt l₂ ch r v)
+      → (R₂ → Books (changed ch t bs) σ₂ pl ca (Own b (D v))) → G₂ (begin l₂ ch r v)
   unfolding statusLeft next heard acts underway touches touchesFirst reports
   goes-trying ch r v eb st bd k =
-      let o : Entry = o₂ (attempt l₂ ch r v) in
+      let o : Entry = o₂ (begin l₂ ch r v) in
       λ ok. (
         fits-silent _ _ refl refl,
         at-work lc kn i num isr (trying refl eb refl st (bound-as (candidates-kept H₂ o start (no-learn H₂ o nl) refl) (bd ok)) (entry-none H₂ o start (no-learn H₂ o nl) refl (k ok))),
       )
 
-  pub goes-checking : wr ≡ true → (r : Trial) (v : Part) → r .block ≡ b → Spot t b r → Bound ca b rd (B v) (padded fd) → Books t σ₂ pl ca (Own b (D v))
+  pub goes-verifying : wr ≡ true → (w : Target) (v : Part) → w .block ≡ b → w .sector ≡ placeOf t b → rd ≡ false → D v ≡ padded fd → Sole σ₂ (w .sector) (B v) → Books t σ₂ pl ca (Own b (D v))
+      → G₂ (asks (phase.Awaiting (access.Verify w)) (answer.Read (w .sector)) v)
+  unfolding statusLeft next heard acts underway touches touchesFirst reports
+  goes-verifying wt w v eb es op ed so k =
+      let o : Entry = o₂ (asks (phase.Awaiting (access.Verify w)) (answer.Read (w .sector)) v) in
+      λ ok. (fits-silent _ _ refl refl, at-work lc kn i num isr (verifying wt refl eb refl es op ed so (entry-none H₂ o start (no-learn H₂ o nl) refl k)))
+
+  pub goes-checking : wr ≡ true → (r : Trial) (v : Part) → r .block ≡ b → Spot t b r → Bound ca b rd (B v) (padded fd) → Sole σ₂ (r .sector) (B v) → Books t σ₂ pl ca (Own b (D v))
       → G₂ (asks (phase.Awaiting (access.TrialRead r)) (answer.Read (r .sector)) v)
   unfolding statusLeft next heard acts underway touches touchesFirst reports
-  goes-checking wt r v eb st bd k =
+  goes-checking wt r v eb st bd so k =
       let o : Entry = o₂ (asks (phase.Awaiting (access.TrialRead r)) (answer.Read (r .sector)) v) in
       λ ok. (
         fits-silent _ _ refl refl,
-        at-work lc kn i num isr (checking wt refl eb refl st (bound-as (candidates-kept H₂ o start (no-learn H₂ o nl) refl) bd) (entry-none H₂ o start (no-learn H₂ o nl) refl k)),
+        at-work lc kn i num isr (checking wt refl eb refl st (bound-as (candidates-kept H₂ o start (no-learn H₂ o nl) refl) bd) so (entry-none H₂ o start (no-learn H₂ o nl) refl k)),
       )
 
-  -- SPARING: an attempt that failed
-  module _ (wt : wr ≡ true) (r : Trial) (eb : r .block ≡ b) (st : Spot t b r) (bd : Bound ca b rd (B part.Kept) (padded fd)) (k : R₂ → Books t σ₂ pl ca (Own b (D part.Kept))) where
-    next-spare : (ch : Change) (m : ℕ) (s : Seen) → changed ch t bs .nspares ≡ m → (R₂ → Books (changed ch t bs) σ₂ pl ca (Own b (D part.Kept))) → NextAttempt G₂ m l₂ ch r s
-    next-spare ch m s em k' =
-        record {
-          spare = λ e. goes-trying ch (onSpare m r s) part.Kept eb (record { present = λ x. clash (sym x) refl; aside = λ x. (rw em (ltb-true m 32 e), ap spareOf (sym em)) }) (λ ok. bd) k';
-          no-spare = λ e. ends-failed wt ch ending.NoSpare s part.Kept refl refl bd k';
-        }
+  -- SPARING: a sector that failed gives way to the next spare,
+  pub next-spare : wr ≡ true → (ch : Change) (m : ℕ) (x : Block) (s : Seen) → x ≡ b → Bound ca b rd (B part.Kept) (padded fd) → changed ch t bs .nspares ≡ m
+      → (R₂ → Books (changed ch t bs) σ₂ pl ca (Own b (D part.Kept))) → NextSpare G₂ m l₂ ch x s
+  next-spare wt ch m x s eb bd em k =
+      record {
+        spare = λ e. goes-trying ch (onSpare m x s) part.Kept eb (record { present = λ z. clash (sym z) refl; aside = λ z. (rw em (ltb-true m 32 e), ap spareOf (sym em)) }) (λ ok. bd) k;
+        no-spare = λ e. ends-failed wt ch ending.NoSpare s part.Kept refl refl bd k;
+      }
 
+  -- and a trial ends.
+  module _ (wt : wr ≡ true) (r : Trial) (eb : r .block ≡ b) (st : Spot t b r) (bd : Bound ca b rd (B part.Kept) (padded fd)) (k : R₂ → Books t σ₂ pl ca (Own b (D part.Kept))) where
     pub misses : (s : Seen) → Missed G₂ l₂ t r s
     misses s =
         record {
-          again = λ e. goes-trying change.Keep (once r s) part.Kept eb (record { present = st .present; aside = st .aside }) (λ ok. bd) k;
-          dead = λ e z. next-spare change.Kill (t .nspares + 1) s (killed-count t (st .aside z .0)) (λ ok. books-dead (st .aside z .0) (k ok));
-          left = λ e z. next-spare change.Keep (t .nspares) s refl k;
+          dead = λ z. next-spare wt change.Kill (t .nspares + 1) (r .block) s eb bd (killed-count t (st .aside z .0)) (λ ok. books-dead (st .aside z .0) (k ok));
+          left = λ z. next-spare wt change.Keep (t .nspares) (r .block) s eb bd refl k;
         }
 
     -- At answer 3 a spare under trial becomes dead.
@@ -269,9 +278,9 @@ module _ {A : Answer} (j : Job A) where
           present = λ z. ends-failed wt change.Keep ending.Latched (r .seen) part.Kept refl refl bd k;
         }
 
-    -- If it verifies, what was written is what the sector holds.
-    pub verifies : lr ≡ at (r .sector) → (R₂ → σ₂ (r .sector) ≡ held (D part.Kept)) → Verified G₂ l₂ t r
-    verifies el here =
+    -- If it passed, the sector holds what was written, or is unreadable.
+    pub passes : lr ≡ at (r .sector) → Sole σ₂ (r .sector) (B part.Kept) → Verified G₂ l₂ t r
+    passes el so =
         record {
           moved = λ z. ends-moved (r .sector) el (change.Move (r .block)) (r .seen) part.Kept (bd .as-write) (λ ok. bd .as-read) (λ ok. there z ok);
           listed = λ z y. ends-fine (change.Remove (r .block)) (r .seen) part.Kept (bd .as-write) (λ ok. bd .as-read)
@@ -280,12 +289,12 @@ module _ {A : Answer} (j : Job A) where
         }
       where
         sole : r .spare ≡ false → R₂ → Books t σ₂ pl (put ca b (D part.Kept ∷ [])) Quiet
-        sole z ok = books-only b (D part.Kept) i (λ y e. held-inj (sym e ∙ rw (← st .present z) (here ok))) (k ok)
+        sole z ok = books-only b (D part.Kept) i (λ y e. so y (rw (st .present z) e)) (k ok)
 
         moved-books : r .spare ≡ true → R₂ → Books (listed t b) σ₂ (put pl b (at (r .sector))) (put ca b (D part.Kept ∷ [])) Quiet
         moved-books z ok =
             let es = st .aside z .1 in
-            rw es (books-moved b (D part.Kept) i tk (st .aside z .0) (rw es at (here ok)) (k ok))
+            rw es (books-moved b (D part.Kept) i tk (st .aside z .0) (λ y e. so y (rw es e)) (k ok))
 
         there : r .spare ≡ true → R₂ → Books (withoutBad (listed t (r .block)) (r .block)) σ₂ (put pl b (at (r .sector))) (put ca b (D part.Kept ∷ [])) Quiet
         there z ok =

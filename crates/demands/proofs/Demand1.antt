@@ -1,4 +1,4 @@
--- DEMAND 1's bound: what a command may still cost falls with each access, and is at most 478.
+-- DEMAND 1's bound: what a command may still cost falls with each access, and is at most 3,679.
 use mathlib.Core.Path.{_≡_, refl, sym, subst, subst₂, ap}
 use mathlib.Core.Bool.{Bool, true, false, cond, not, _&&_, _||_}
 use mathlib.Core.List.{List, [], _∷_}
@@ -6,6 +6,7 @@ use Prim.Native.Nat.{ℕ, suc, _+_, _-_, _*_, _≤_, _<_}
 use native.Mathlib.Omega.{arith}
 use lib.Dec.{eqb, ltb, leb}
 use borrow.Author.Tests.{ltb-true, lt-ltb}
+use Rattle.geometry.specs.declared.Block.{Block}
 use Rattle.logic.proofs.Bools.{clash, and-right}
 use Rattle.table.specs.declared.Table.{Table}
 use Rattle.table.specs.Tables.{tableOk}
@@ -26,12 +27,12 @@ use Rattle.drive.specs.declared.Turn.{Turn}
 use Rattle.drive.specs.Records.{retryOk, trialOk, accessOk, phaseOk, stateOk, recordOk}
 use Rattle.drive.specs.Results.{Out, changed}
 use Rattle.drive.specs.Retries.{passed, failed, afterRead}
-use Rattle.drive.specs.Sparing.{tried, checked}
+use Rattle.drive.specs.Sparing.{tried, counted, checked}
 use Rattle.drive.specs.Access.{reads, follows}
 use Rattle.drive.specs.Calls.{Call, surfaceOf, stepOf}
-use Rattle.drive.specs.Bound.{ofCommand, isCommand, accesses, Demand1Bound}
+use Rattle.drive.specs.Bound.{ofCommand, isCommand, accesses, most, Demand1Bound}
 use Rattle.drive.specs.Views.{ofAnswer}
-use Rattle.records.proofs.Ladders.{NextAttempt, Missed, Stopped, tried-cases, checked-cases, lost-cases, settled-cases, GoesOnReading, after-read-cases, write-cases}
+use Rattle.records.proofs.Ladders.{NextSpare, Missed, Stopped, tried-cases, checked-cases, lost-cases, settled-cases, GoesOnReading, after-read-cases, write-cases, verify-cases}
 use Rattle.demands.proofs.Awaited.{ofPhase, accepted, by-surface}
 use Rattle.demands.proofs.Busy.{killed-count}
 use Rattle.demands.proofs.Refusals.{refused-unchanged}
@@ -72,18 +73,27 @@ some-left p left spent h = go p (ltb 0 left)
     go false true = omega arith
     go false false = omega arith
 
--- Returns what the attempts that may follow cost: on this sector, and two on each spare that is then unused, with n listed now.
+-- Returns how many rereads a trial may still ask for, the awaited one included.
+abbrev rereadsLeft : Trial → ℕ
+rereadsLeft r = 99 - r .rereads + 1
+
+-- Returns what the trials of the unused spares cost, with n listed: each a write and a hundred rereads.
+abbrev sparesLeft : ℕ → ℕ
+sparesLeft n = 101 * (32 - n)
+
+-- Returns what those cost that are unused after the sector under trial.
 abbrev triesLeft : ℕ → Trial → ℕ
-triesLeft n r = 2 * (2 - r .attempts) + 4 * (32 - cond (r .spare) (n + 1) n)
+triesLeft n r = sparesLeft (cond (r .spare) (n + 1) n)
 
 -- Returns how many accesses a command may still ask for, the awaited one included, with n spares listed.
 abbrev owed : ℕ → Access → ℕ
 owed n (access.Start k) = 0
 owed n access.Store = 0
-owed n (access.Read r) = readsLeft r + 4 + 4 * (32 - n)
-owed n (access.Write s) = 1
-owed n (access.TrialWrite r) = 2 + triesLeft n r
-owed n (access.TrialRead r) = 1 + triesLeft n r
+owed n (access.Read r) = readsLeft r + 101 + sparesLeft n
+owed n (access.Write w) = 2 + 101 + sparesLeft n
+owed n (access.Verify w) = 1 + 101 + sparesLeft n
+owed n (access.TrialWrite r) = 101 + triesLeft n r
+owed n (access.TrialRead r) = rereadsLeft r + triesLeft n r
 
 abbrev cost : ℕ → Phase → ℕ
 cost n p = ofPhase 0 (owed n) p
@@ -93,43 +103,58 @@ module _ (t : Table) (l : State) (bs : List ℕ) (k : ℕ) (pos : 0 < k) where
   abbrev Falls : Turn → Type 0
   Falls x = cost (changed (x .change) t bs .nspares) (x .state .phase) < k
 
-  nexts : (n : ℕ) (c : Change) (r : Trial) (s : Seen) → changed c t bs .nspares ≡ n → 4 * (32 - n) < k → NextAttempt Falls n l c r s
-  nexts n c r s e h = record { spare = λ q. let p = ltb-true n 32 q in omega (arith, p, e, h); no-spare = λ q. pos }
+  nexts : (n : ℕ) (c : Change) (b : Block) (s : Seen) → changed c t bs .nspares ≡ n → sparesLeft n < k → NextSpare Falls n l c b s
+  nexts n c b s e h = record { spare = λ q. let p = ltb-true n 32 q in omega (arith, p, e, h); no-spare = λ q. pos }
 
-  module _ (r : Trial) (w : TrialFacts (t .nspares) r) (low : 1 + triesLeft (t .nspares) r ≤ k) where
+  module _ (r : Trial) (room : r .spare ≡ true → t .nspares < 32) (low : triesLeft (t .nspares) r < k) where
     misses : (s : Seen) → Missed Falls l t r s
     misses s =
         record {
-          again = λ e. omega (arith, ltb-true (r .attempts) 2 e, low);
-          dead = λ e f. let n = on-spare (t .nspares) r w f in let g = rw f at low in nexts (t .nspares + 1) change.Kill r s (killed-count t n) (omega (arith, g, n));
-          left = λ e f. let g = rw f at low in nexts (t .nspares) change.Keep r s refl (omega (arith, g));
+          dead = λ e. let n = room e in let g = rw e at low in nexts (t .nspares + 1) change.Kill (r .block) s (killed-count t n) g;
+          left = λ e. let g = rw e at low in nexts (t .nspares) change.Keep (r .block) s refl g;
         }
 
     stops : Stopped Falls l r
     stops = record { dead = λ e. pos; present = λ e. pos }
 
-    checks : (a : ℕ) (equal : Bool) → Falls (checked l t r a equal)
-    checks a equal =
+  module _ (r : Trial) (w : TrialFacts (t .nspares) r) where
+    room : r .spare ≡ true → t .nspares < 32
+    room = on-spare (t .nspares) r w
+
+    -- A trial's write leaves its rereads, and a reread fewer of them, or either ends the trial.
+    tries : 101 + triesLeft (t .nspares) r ≤ k → (a : ℕ) → Falls (tried l t r a)
+    tries top a =
+        let low : triesLeft (t .nspares) r < k = omega (arith, top) in
+        tried-cases Falls l t r a (record { done = λ e. omega (arith, top); stops = λ e. stops r room low; fails = λ e f. misses r room low _ })
+
+    checks : rereadsLeft r + triesLeft (t .nspares) r ≤ k → (a : ℕ) (equal : Bool) → Falls (checked l t r a equal)
+    checks top a equal =
+        let x : Trial = counted r a equal in
+        let low : triesLeft (t .nspares) r < k = omega (arith, top) in
         checked-cases Falls l t r a equal
-        (record { verifies = λ e. record { moved = λ f. pos; listed = λ f g. pos; stays = λ f g. pos }; stops = λ e f. stops; fails = λ e f. misses _ })
+        (record {
+          stops = λ e. stops r room low;
+          counts = λ e. record {
+            again = λ f. omega (arith, top, ltb-true (x .rereads) 100 f);
+            passes = λ f g. record { moved = λ i. pos; listed = λ i j. pos; stays = λ i j. pos };
+            fails = λ f g. misses x room low _;
+          };
+        })
 
-    tries : 2 + triesLeft (t .nspares) r ≤ k → (a : ℕ) → Falls (tried l t r a)
-    tries top a = tried-cases Falls l t r a (record { done = λ e. omega (arith, top); stops = λ e. stops; fails = λ e f. misses _ })
-
-  -- A read leaves fewer reads, or begins the first attempt in place of them.
-  module _ (p : Part) (r : Retry) (w : RetryFacts r) (top : readsLeft r + 4 + 4 * (32 - t .nspares) ≤ k) where
+  -- A read leaves fewer reads, or begins the trial of its sector in place of them.
+  module _ (p : Part) (r : Retry) (w : RetryFacts r) (top : readsLeft r + 101 + sparesLeft (t .nspares) ≤ k) where
     abbrev Fo : Outcome → Type 0
     Fo x = Falls (reads x l t p)
 
-    room : 4 + 4 * (32 - t .nspares) < k
-    room = omega (arith, top, some-left (r .first) (r .left) (r .spent) (w .spent))
+    begins : 101 + sparesLeft (t .nspares) < k
+    begins = omega (arith, top, some-left (r .first) (r .left) (r .spent) (w .spent))
 
     goes-on : (x : Retry) → (ltb 0 (x .left) ≡ true → readsLeft x < readsLeft r) → (x .good ≡ false → readsLeft x < readsLeft r) → GoesOnReading Fo x
     unfolding reads
     goes-on x f g =
         record {
           reread = λ e. let z = f e in omega (arith, z, top);
-          settles = λ e i. settled-cases Falls l x p (record { below = λ b. pos; latched = λ b c. pos; tries = λ b c. omega (arith, room) });
+          settles = λ e i. settled-cases Falls l x p (record { below = λ b. pos; latched = λ b c. pos; tries = λ b c. begins });
           further = λ e i j. let z = g i in omega (arith, z, top);
           loses = λ e i j. lost-cases Falls l t x p (record { listed = λ b. pos; entered = λ b c. pos; full = λ b c. pos });
         }
@@ -157,16 +182,19 @@ module _ (t : Table) (l : State) (a : ℕ) (bs : List ℕ) (known : Bool) where
   lowered (access.Start k) c h equal = clash c refl
   lowered access.Store c h equal = clash c refl
   lowered (access.Read r) c h equal = reads-on t l bs _ (omega arith) _ r (retry-facts r (and-right known (retryOk r) h)) (omega arith) a
-  lowered (access.Write s) c h equal =
-      write-cases (Falls t l bs 1 (omega arith)) l a (record { done = λ e. omega arith; stops = λ e f. omega arith; fails = λ e f. omega arith })
-  lowered (access.TrialWrite r) c h equal = tries t l bs _ (omega arith) r (trial-facts (t .nspares) r (and-right known (trialOk (t .nspares) r) h)) (omega arith) (omega arith) a
+  lowered (access.Write w) c h equal =
+      write-cases (Falls t l bs (owed (t .nspares) (access.Write w)) (omega arith)) l t w a
+      (record { verifies = λ e f. omega arith; done = λ e f. omega arith; stops = λ e f. omega arith; moves = λ e f. nexts t l bs _ (omega arith) (t .nspares) change.Keep (w .block) _ refl (omega arith) })
+  lowered (access.Verify w) c h equal =
+      verify-cases (Falls t l bs (owed (t .nspares) (access.Verify w)) (omega arith)) l w a equal (record { stops = λ e. omega arith; done = λ e f. omega arith; fails = λ e f. omega arith })
+  lowered (access.TrialWrite r) c h equal = tries t l bs _ (omega arith) r (trial-facts (t .nspares) r (and-right known (trialOk (t .nspares) r) h)) (omega arith) a
   lowered (access.TrialRead r) c h equal = checks t l bs _ (omega arith) r (trial-facts (t .nspares) r (and-right known (trialOk (t .nspares) r) h)) (omega arith) a equal
 
 -- Returns the cost of a record.
 abbrev costOf : Drive → ℕ
 costOf d = cost (d .table .nspares) (d .state .phase)
 
-phase-of : (d : Drive) → recordOk d ≡ true → phaseOk (d .table .nspares) (d .state .marks .known) (d .state .phase) ≡ true
+pub phase-of : (d : Drive) → recordOk d ≡ true → phaseOk (d .table .nspares) (d .state .marks .known) (d .state .phase) ≡ true
 unfolding recordOk stateOk
 phase-of d h =
     and-right (leb (d .state .count) 6 && leb (d .state .fed) 533) (phaseOk (d .table .nspares) (d .state .marks .known) (d .state .phase))
@@ -201,8 +229,8 @@ within (c ∷ cs) d u =
     go true e false r ih = omega (arith, lowers d u e c r, ih)
     go false e q r ih = omega arith
 
--- AND IT IS AT MOST 478.
-at-most : (n : ℕ) (known : Bool) (x : Access) → accessOk n known x ≡ true → owed n x ≤ 478
+-- AND IT IS AT MOST 3,679.
+at-most : (n : ℕ) (known : Bool) (x : Access) → accessOk n known x ≡ true → owed n x ≤ most
 at-most n known (access.Start k) h = omega arith
 at-most n known access.Store h = omega arith
 at-most n known (access.Read r) h =
@@ -213,11 +241,12 @@ at-most n known (access.Read r) h =
     few true q = omega arith
     few false true = omega arith
     few false false = omega arith
-at-most n known (access.Write s) h = omega arith
+at-most n known (access.Write w) h = omega arith
+at-most n known (access.Verify w) h = omega arith
 at-most n known (access.TrialWrite r) h = omega arith
 at-most n known (access.TrialRead r) h = omega arith
 
-in-phase : (n : ℕ) (known : Bool) (p : Phase) → phaseOk n known p ≡ true → cost n p ≤ 478
+in-phase : (n : ℕ) (known : Bool) (p : Phase) → phaseOk n known p ≡ true → cost n p ≤ most
 in-phase n known phase.Idle h = omega arith
 in-phase n known (phase.Offered o) h = omega arith
 in-phase n known phase.Command h = omega arith

@@ -17,11 +17,9 @@ use Rattle.table.specs.declared.Table.{Table}
 use Rattle.table.specs.Tables.{spareList, tableOk}
 use Rattle.table.proofs.Placing.{not-table, unused-spare}
 use Rattle.image.specs.Images.{wellFormed}
-use Rattle.buffer.specs.Runs.{same}
-use Rattle.buffer.proofs.Compare.{same-equal}
 use Rattle.drive.specs.declared.Marks.{Marks}
-use Rattle.drive.specs.declared.Seen.{Seen}
 use Rattle.drive.specs.declared.Retry.{Retry}
+use Rattle.drive.specs.declared.Target.{Target}
 use Rattle.drive.specs.declared.Trial.{Trial}
 use Rattle.drive.specs.declared.Access.{Access}
 use Rattle.drive.specs.declared.Access.the-variants as access
@@ -32,28 +30,26 @@ use Rattle.drive.specs.declared.Phase.the-variants as phase
 use Rattle.drive.specs.declared.Answer.{Answer}
 use Rattle.drive.specs.declared.Answer.the-variants as answer
 use Rattle.drive.specs.declared.Refusal.the-variants as refusal
-use Rattle.drive.specs.declared.Ending.{Ending}
 use Rattle.drive.specs.declared.Ending.the-variants as ending
 use Rattle.drive.specs.declared.Change.the-variants as change
 use Rattle.drive.specs.Words.{dataOf, numberOf, kindOf, isRead}
 use Rattle.drive.specs.Records.{recordOk, stateOk}
-use Rattle.drive.specs.Results.{partLeft, statusLeft, outOf, guarded, finish, clean}
+use Rattle.drive.specs.Results.{partLeft, statusLeft, outOf, guarded, clean, onPresent}
 use Rattle.drive.specs.Retries.{met, passed, failed, afterRead}
-use Rattle.drive.specs.Sparing.{tried, checked}
-use Rattle.drive.specs.Access.{keptPart, follows, startAnswered, reads, writeAnswered}
+use Rattle.drive.specs.Sparing.{tried, counted, checked}
+use Rattle.drive.specs.Access.{keptPart, follows, startAnswered, reads, writeAnswered, verifyAnswered}
 use Rattle.drive.specs.Calls.{Call, raise, lower, feed, surface, reset, raiseOf, lowerOf, feedOf, surfaceOf, resetOf, stepOf, startOf}
 use Rattle.drive.specs.History.{held, unreadable, Sectors, History, padded, isTableSector, next, heard, learns, acts, underway, touches, touchesFirst, reports, placeNext, candidatesNext, Allows}
 use Rattle.drive.specs.Surface.{putSector}
 use Rattle.drive.specs.Run.{Event, World, made, Lawful, entries, Demand3}
 use Rattle.drive.specs.Views.{Bytes, Where, nowhere, at, ofAnswer}
-use Rattle.records.proofs.Ladders.{guarded-cases, after-read-cases, write-cases, tried-cases, checked-cases, start-cases}
+use Rattle.records.proofs.Ladders.{guarded-cases, after-read-cases, write-cases, verify-cases, tried-cases, checked-cases, start-cases}
 use Rattle.demands.proofs.Parts.{data-with, data-put}
-use Rattle.demands.proofs.Statuses.{fails, isMove}
-use Rattle.demands.proofs.Sim.{Ln, W, Hs, Blocky, placeOf, Books, Quiet, Own, Ground, resting, Bound, Spot, Work, rereads, writing, trying, checking, Sim, at-start, at-rest, at-work, Good, ev, declined, sim-apart}
+use Rattle.demands.proofs.Sim.{Ln, W, Hs, Blocky, placeOf, Books, Quiet, Own, Ground, resting, Bound, Spot, Sole, Work, rereads, writing, verifying, trying, checking, Sim, at-start, at-rest, at-work, Good, ev, declined, sim-apart}
 use Rattle.demands.proofs.Books.{same-sector, held-inj, putSector-same, books-write, books-aside, books-weaken, books-only, books-learn}
 use Rattle.demands.proofs.Entries.{fits-silent}
 use Rattle.demands.proofs.Rest.{ruled, loads, Keeps, awaiting, rests}
-use Rattle.demands.proofs.Busy.{Job, l₂, G₂, D, R₂, ends-fine, ends-failed, goes-checking, misses, stops, verifies, Gr, goes-on, reads-stopped, reads-fine}
+use Rattle.demands.proofs.Busy.{Job, l₂, G₂, D, R₂, ends-fine, ends-failed, goes-trying, goes-verifying, goes-checking, next-spare, misses, stops, passes, Gr, goes-on, reads-stopped, reads-fine}
 
 -- A write done leaves its bytes, or nothing that can be read.
 not-unreadable : {y x : Bytes} → unreadable ≡ held y → y ≡ x
@@ -67,7 +63,7 @@ left-is true x y e = not-unreadable e
 left-is false x y e = sym (held-inj e)
 
 -- No access of a command is at the table.
-off-table : (s : Sector) → (s ≡ tableSector → ⊥) → eqb (s .0) (tableSector .0) ≡ false
+pub off-table : (s : Sector) → (s ≡ tableSector → ⊥) → eqb (s .0) (tableSector .0) ≡ false
 off-table s n = ne-eqb (s .0) (tableSector .0) (λ z. n (same-sector s tableSector z))
 
 pub not-at-table : (t : Table) (b : Block) (r : Trial) → length (spareList t) ≤ 32 → Spot t b r → eqb (r .sector .0) (tableSector .0) ≡ false
@@ -126,24 +122,30 @@ module _ {s : Sector} (j : Job (answer.Read s)) (r : Retry) (eb : r .block ≡ j
         fails = λ q z. goes-on j op k v (failed r a) eb (er ∙ es) after-bad;
       })
 
--- A WRITE ANSWERED: the one of a plain write,
+-- What was written to a sector is all that it can hold.
+landed-sole : (σ : Sectors) (s : Sector) (sp : Bool) (u : Bytes) → Sole (putSector σ s (cond sp unreadable (held (dataOf u)))) s u
+landed-sole σ s sp u y e = left-is sp (dataOf u) y (rw putSector-same at e)
+
+-- A WRITE ANSWERED: the one to the block's sector,
 module _ {s : Sector} (j : Job (answer.Write s)) where
   open Job j using (sectors as σ, table as t, buffer as u, place as pl, candidates as ca, given as fd, wrote as wr, block as b, reads as rd, number as a, spoils as sp, blocky as i)
 
-  write-answered : s ≡ placeOf t b → wr ≡ true → rd ≡ false → dataOf u ≡ padded fd → Books t σ pl ca Quiet → G₂ j (writeAnswered (l₂ j) a)
+  write-answered : (w : Target) → w .block ≡ b → w .sector ≡ s → s ≡ placeOf t b → wr ≡ true → rd ≡ false → dataOf u ≡ padded fd → Books t σ pl ca Quiet → G₂ j (writeAnswered (l₂ j) t w a)
   unfolding partLeft
-  write-answered es wt op ed k =
-      write-cases (G₂ j) (l₂ j) a
+  write-answered w eb er es wt op ed k =
+      write-cases (G₂ j) (l₂ j) t w a
       (record {
-        done = λ q. ends-fine j change.Keep clean part.Kept (λ e. ed) (λ ok e. clash e op)
-            (λ ok. rw (q, es)
-            (books-only b (dataOf u) i (λ y e. left-is sp (dataOf u) y (rw putSector-same at e)) (books-write b (dataOf u) (cond sp unreadable (held (dataOf u))) i (λ x y e. absurd e) (left-is sp (dataOf u)) k)));
-        stops = λ q z. bad ending.Latched clean refl refl q;
-        fails = λ q z. bad ending.Failed (met a clean) refl refl q;
+        verifies = λ q z. goes-verifying j wt w part.Kept eb (er ∙ es) op ed (rw (q, er) (landed-sole σ s sp u)) (rw (q, es) own);
+        done = λ q z. ends-fine j change.Keep clean part.Kept (λ e. ed) (λ ok e. clash e op) (λ ok. rw (q, es) (books-only b (dataOf u) i (landed-sole σ (placeOf t b) sp u) own));
+        stops = λ q z. ends-failed j wt change.Keep ending.Latched clean part.Kept refl refl bd (λ ok. rw q (books-weaken b (dataOf u) k));
+        moves = λ q z. next-spare j wt change.Keep (t .nspares) (w .block) (met a clean) eb bd refl (λ ok. rw q (books-weaken b (dataOf u) k));
       })
     where
-      bad : (e : Ending) (x : Seen) → fails e ≡ true → isMove e ≡ false → eqb a 0 ≡ false → G₂ j (finish (l₂ j) change.Keep e x part.Kept)
-      bad e x ef em q = ends-failed j wt change.Keep e x part.Kept ef em (record { as-read = λ z. clash z op; as-write = λ z. ed }) (λ ok. rw q (books-weaken b (dataOf u) k))
+      own : Books t (putSector σ (placeOf t b) (cond sp unreadable (held (dataOf u)))) pl ca (Own b (dataOf u))
+      own = books-write b (dataOf u) (cond sp unreadable (held (dataOf u))) i (λ x y e. absurd e) (left-is sp (dataOf u)) k
+
+      bd : Bound ca b rd u (padded fd)
+      bd = record { as-read = λ z. clash z op; as-write = λ z. ed }
 
   -- and a trial's.
   try-answered : (r : Trial) → r .block ≡ b → r .sector ≡ s → wr ≡ true → Spot t b r → Bound ca b rd u (padded fd) → Books t σ pl ca (Own b (dataOf u)) → G₂ j (tried (l₂ j) t r a)
@@ -151,30 +153,44 @@ module _ {s : Sector} (j : Job (answer.Write s)) where
   try-answered r eb er wt st bd k =
       tried-cases (G₂ j) (l₂ j) t r a
       (record {
-        done = λ q. goes-checking j wt r part.Kept eb st bd (rw (q, ← er) (after-try t σ pl ca b (dataOf u) sp r i st k));
+        done = λ q. goes-checking j wt r part.Kept eb st bd (rw (q, er) (landed-sole σ s sp u)) (rw (q, ← er) (after-try t σ pl ca b (dataOf u) sp r i st k));
         stops = λ z. let q : eqb a 0 ≡ false = rw (eqb-true a 3 z) in stops j wt r eb st bd (λ ok. rw q k);
         fails = λ q z. misses j wt r eb st bd (λ ok. rw q k) (met a (r .seen));
       })
 
--- A TRIAL'S READ ANSWERED.
+-- A VERIFY ANSWERED, and a trial's reread. They leave the sector as the write left it.
 module _ {s : Sector} (j : Job (answer.Read s)) where
-  open Job j using (sectors as σ, table as t, buffer as u, place as pl, candidates as ca, given as fd, wrote as wr, lastRead as lr, block as b, reads as rd, number as a, bytes as bs)
+  open Job j using (sectors as σ, table as t, buffer as u, place as pl, candidates as ca, given as fd, wrote as wr, lastRead as lr, block as b, reads as rd, number as a, blocky as i)
 
-  found : (r : Trial) → r .sector ≡ s → (eqb a 0 && same bs (dataOf u)) ≡ true → R₂ j → σ (r .sector) ≡ held (dataOf u)
-  found r er q ok =
-      let z = and-left (eqb a 0) (same bs (dataOf u)) q in
-      let e = same-equal bs (dataOf u) (and-right (eqb a 0) (same bs (dataOf u)) q) in
-      rw (er, ← e) (rw z at ok)
-
-  check-answered : (r : Trial) → r .block ≡ b → r .sector ≡ s → wr ≡ true → lr ≡ at s → Spot t b r → Bound ca b rd u (padded fd) → Books t σ pl ca (Own b (dataOf u))
-      → G₂ j (checked (l₂ j) t r a (eqb a 0 && same bs (dataOf u)))
+  verify-answered : (w : Target) → w .block ≡ b → w .sector ≡ s → s ≡ placeOf t b → wr ≡ true → rd ≡ false → dataOf u ≡ padded fd → Sole σ s u → Books t σ pl ca (Own b (dataOf u))
+      → (equal : Bool) → G₂ j (verifyAnswered (l₂ j) w a equal)
   unfolding partLeft
-  check-answered r eb er wt el st bd k =
-      checked-cases (G₂ j) (l₂ j) t r a (eqb a 0 && same bs (dataOf u))
+  verify-answered w eb er es wt op ed so k equal =
+      verify-cases (G₂ j) (l₂ j) w a equal
       (record {
-        verifies = λ q. verifies j wt r eb st bd (λ ok. k) (el ∙ ap at (sym er)) (found r er q);
-        stops = λ q z. stops j wt r eb st bd (λ ok. k);
-        fails = λ q z. misses j wt r eb st bd (λ ok. k) (met (cond (eqb a 0) 1 a) (r .seen));
+        stops = λ q. ends-failed j wt change.Keep ending.Latched clean part.Kept refl refl bd (λ ok. k);
+        done = λ q z. ends-fine j change.Keep clean part.Kept (λ e. ed) (λ ok e. clash e op) (λ ok. books-only b (dataOf u) i (λ y e. so y (rw es e)) k);
+        fails = λ q z. goes-trying j change.Keep (onPresent (w .block) (w .sector) _) part.Kept eb (record { present = λ x. er ∙ es; aside = λ x. clash x refl }) (λ ok. bd) (λ ok. k);
+      })
+    where
+      bd : Bound ca b rd u (padded fd)
+      bd = record { as-read = λ z. clash z op; as-write = λ z. ed }
+
+  check-answered : (r : Trial) → r .block ≡ b → r .sector ≡ s → wr ≡ true → lr ≡ at s → Spot t b r → Bound ca b rd u (padded fd) → Sole σ s u → Books t σ pl ca (Own b (dataOf u))
+      → (equal : Bool) → G₂ j (checked (l₂ j) t r a equal)
+  unfolding partLeft
+  check-answered r eb er wt el st bd so k equal =
+      let r' : Trial = counted r a equal in
+      let st' : Spot t b r' = record { present = st .present; aside = st .aside } in
+      let so' : Sole σ (r .sector) u = rw er so in
+      checked-cases (G₂ j) (l₂ j) t r a equal
+      (record {
+        stops = λ q. stops j wt r eb st bd (λ ok. k);
+        counts = λ q. record {
+          again = λ z. goes-checking j wt r' part.Kept eb st' bd so' k;
+          passes = λ z y. passes j wt r' eb st' bd (λ ok. k) (el ∙ ap at (sym er)) so';
+          fails = λ z y. misses j wt r' eb st' bd (λ ok. k) _;
+        };
       })
 
 -- EVERY CALL WHILE A COMMAND IS UNDER WAY.
@@ -219,11 +235,14 @@ module _ (start σ : Sectors) (t : Table) (mk : Marks) (pl : Block → Where) (c
   works (rereads {r = r} {s = s} eb er es op g k) m =
       let nl = off-table s (λ y. not-table (spareList t) b (k .short) (sym es ∙ y)) in
       awaiting m (λ a bs sp z. read-answered (job (access.Read r) (answer.Read s) nl a bs sp) r eb er es op g k (eqb-true (length bs) (cond (leb a 1) 532 0) z))
-  works (writing {s = s} wt es op ed k) m = awaiting m (λ a bs sp z. write-answered (job (access.Write s) (answer.Write s) refl a bs sp) es wt op ed k)
+  works (writing {w = w} {s = s} wt eb er es op ed k) m = awaiting m (λ a bs sp z. write-answered (job (access.Write w) (answer.Write s) refl a bs sp) w eb er es wt op ed k)
+  works (verifying {w = w} {s = s} wt el eb er es op ed so k) m =
+      let nl = off-table s (λ y. not-table (spareList t) b (k .short) (sym es ∙ y)) in
+      awaiting m (λ a bs sp z. verify-answered (job (access.Verify w) (answer.Read s) nl a bs sp) w eb er es wt op ed so k _)
   works (trying {r = r} {s = s} wt eb er st bd k) m = awaiting m (λ a bs sp z. try-answered (job (access.TrialWrite r) (answer.Write s) refl a bs sp) r eb er wt st bd k)
-  works (checking {r = r} {s = s} wt el eb er st bd k) m =
+  works (checking {r = r} {s = s} wt el eb er st bd so k) m =
       let nl = rw er at (not-at-table t b r (k .short) st) in
-      awaiting m (λ a bs sp z. check-answered (job (access.TrialRead r) (answer.Read s) nl a bs sp) r eb er wt el st bd k)
+      awaiting m (λ a bs sp z. check-answered (job (access.TrialRead r) (answer.Read s) nl a bs sp) r eb er wt el st bd so k _)
 
 -- THE START'S READS.
 module _ (start : Sectors) (t : Table) (mk : Marks) (c : Bytes) (n f j : ℕ) (u : Bytes) (pl : Block → Where) (ca : Block → List Bytes) (h fd : Bytes) (to' wr : Bool) (lr : Where)

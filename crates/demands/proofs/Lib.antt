@@ -19,5 +19,6 @@ pub mod Over
 pub mod Status4
 pub mod Told
 pub mod ShutOut
+pub mod Trials
 pub mod Made
 pub mod Allowed

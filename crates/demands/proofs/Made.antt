@@ -1,17 +1,22 @@
--- A WRITE REPORTED GOOD WAS MADE: while a trial's read is awaited its write has gone to its sector, and a plain write is good by
--- its one write's answer.
+-- A WRITE REPORTED GOOD WAS MADE: while a verify or a reread is awaited its write has gone to its sector, and each reread of a
+-- trial but its failures brought the command's bytes; a plain write is good by its one write's answer.
 use mathlib.Core.Path.{_≡_, refl, sym, ap, _∙_}
 use mathlib.Core.Bool.{Bool, true, false, cond, not, _&&_}
 use mathlib.Core.List.{List, [], _∷_}
-use Prim.Native.Nat.{ℕ}
+use Prim.Native.Nat.{ℕ, suc, _+_}
+use native.Mathlib.Omega.{arith}
 use lib.Dec.{eqb}
 use lib.ListN.{length, getD}
-use borrow.Author.Tests.{eq-eqb, not-true}
+use borrow.Author.Tests.{eq-eqb, eqb-true, ltb-false, leb-true, not-true}
 use Rattle.geometry.specs.Geometry.{isBlock}
 use Rattle.geometry.specs.declared.Block.{Block}
 use Rattle.geometry.specs.declared.Sector.{Sector}
 use Rattle.logic.proofs.Bools.{clash, and-left, and-right, and-true, and-false}
 use Rattle.table.specs.declared.Table.{Table}
+use Rattle.table.specs.Tables.{spareList}
+use Rattle.table.proofs.Placing.{not-table}
+use Rattle.buffer.specs.Runs.{same}
+use Rattle.buffer.proofs.Compare.{same-refl}
 use Rattle.drive.specs.declared.Access.{Access}
 use Rattle.drive.specs.declared.Access.the-variants as access
 use Rattle.drive.specs.declared.Answer.{Answer}
@@ -32,38 +37,65 @@ use Rattle.drive.specs.declared.Refusal.{Refusal}
 use Rattle.drive.specs.declared.Refusal.the-variants as refusal
 use Rattle.drive.specs.declared.Seen.{Seen}
 use Rattle.drive.specs.declared.State.{State}
+use Rattle.drive.specs.declared.Target.{Target}
 use Rattle.drive.specs.declared.Trial.{Trial}
 use Rattle.drive.specs.declared.Turn.{Turn}
-use Rattle.drive.specs.Words.{kindOf, numberOf, blockOf, isRead, orderOf}
-use Rattle.drive.specs.Records.{recordOk, awaits}
+use Rattle.drive.specs.Words.{dataOf, kindOf, numberOf, blockOf, isRead, orderOf}
+use Rattle.drive.specs.Records.{recordOk}
 use Rattle.drive.specs.Results.{outOf, partLeft, statusLeft, inPhase, refuse, say, finish, clean, guarded}
 use Rattle.drive.specs.Handshake.{raised, acted, goesOn, brokenOff, lowered, fedTo, rested}
 use Rattle.drive.specs.Retries.{afterRead}
-use Rattle.drive.specs.Sparing.{tried, checked}
-use Rattle.drive.specs.Access.{asksRead, isTrialRead, startAnswered, storeAnswered, reads, writeAnswered, follows, answered}
+use Rattle.drive.specs.Sparing.{tried, counted, hasReread, isSound, checked}
+use Rattle.drive.specs.Access.{asksRead, verifies, startAnswered, storeAnswered, reads, writeAnswered, verifyAnswered, follows, answered}
 use Rattle.drive.specs.Calls.{Call, raise, lower, feed, surface, reset, raiseOf, lowerOf, feedOf, surfaceOf, resetOf, stepOf, startOf}
-use Rattle.drive.specs.History.{Sectors, Entry, History, orElse, isTableSector, padded, acts, underway, reports, bit, good, moves, heard, next, order}
+use Rattle.drive.specs.History.{Sectors, Entry, History, isTableSector, padded, acts, underway, reports, bit, good, moves, heard, next, order}
 use Rattle.drive.specs.Run.{Event, World, made, entryOf, Lawful, entries}
-use Rattle.drive.specs.Made.{wentNext, goodWrite, IsMade, Made, WritesMade}
-use Rattle.drive.specs.Views.{Bytes, Where, nowhere, at, ofCall, ofAnswer}
-use Rattle.records.proofs.Ladders.{guarded-cases, fitting-cases, raised-idle-cases, lowered-cases, tried-cases, checked-cases, start-cases, lost-cases, settled-cases, write-cases}
-use Rattle.demands.proofs.Statuses.{moves-is}
-use Rattle.demands.proofs.Sim.{Hs, Blocky, Shake, storing, resting, offer1, heads, offer2, offer3, offer4, takes, offer6, Work, rereads, writing, trying, checking, Sim, at-start, at-rest, at-work, ev}
+use Rattle.drive.specs.Made.{sameSector, Wrote, unwritten, wroteNext, goodWrite, IsMade, Made, WritesMade}
+use Rattle.drive.specs.Views.{Bytes, Where, at, ofCall, ofAnswer}
+use Rattle.records.proofs.Ladders.{guarded-cases, fitting-cases, raised-idle-cases, lowered-cases, tried-cases, checked-cases, start-cases, lost-cases, settled-cases, write-cases, verify-cases}
+use Rattle.demands.proofs.Awaited.{ofPhase}
+use Rattle.demands.proofs.Statuses.{moves-is, data-ended}
+use Rattle.demands.proofs.Sim.{Hs, Blocky, Shake, storing, resting, offer1, heads, offer2, offer3, offer4, takes, offer6, Work, rereads, writing, verifying, trying, checking, Sim, at-start, at-rest, at-work, ev}
 use Rattle.demands.proofs.Books.{same-block}
 use Rattle.demands.proofs.Entries.{no-learn, place-kept, place-moved}
 use Rattle.demands.proofs.Rest.{ruled, loads}
-use Rattle.demands.proofs.Demand3.{not-at-table, step}
-use Rattle.demands.proofs.ShutOut.{Bad, bad-finish, acts-first, Fails, misses, stops}
+use Rattle.demands.proofs.Demand3.{off-table, not-at-table, step}
+use Rattle.demands.proofs.ShutOut.{unread, Bad, acts-first, Fails, ended as ends, nexts, misses, stops}
 
--- THE INVARIANT: while a trial's read is awaited, its write went to its sector.
-abbrev Ready : Phase → Where → Type 0
-Ready p went = (r : Trial) → p ≡ phase.Awaiting (access.TrialRead r) → went ≡ at (r .sector)
+-- THE INVARIANT
 
-unchecked : (p : Phase) (went : Where) → awaits isTrialRead p ≡ false → Ready p went
-unchecked p went e r h = clash (ap (awaits isTrialRead) h) e
+-- Says that a trial's write went to its sector, and that each of its rereads but the failures was equal.
+record Confirmed (r : Trial) (wrote : Wrote) : Type 0 where
+  there : wrote .went ≡ at (r .sector)
+  count : wrote .same + r .failures ≡ r .rereads
 
-same-trial : {r s : Trial} → phase.Awaiting (access.TrialRead r) ≡ phase.Awaiting (access.TrialRead s) → r ≡ s
-same-trial e = cc
+-- Says so of what is awaited. A trial's write comes before its first reread. A read's trial is of no command's bytes.
+abbrev ReadyAccess : Access → History → Wrote → Type 0
+ReadyAccess (access.Start k) H wrote = Unit {0}
+ReadyAccess access.Store H wrote = Unit {0}
+ReadyAccess (access.Read r) H wrote = Unit {0}
+ReadyAccess (access.Write x) H wrote = Unit {0}
+ReadyAccess (access.Verify x) H wrote = wrote .went ≡ at (x .sector)
+ReadyAccess (access.TrialWrite r) H wrote = (r .rereads ≡ 0) × (r .failures ≡ 0)
+ReadyAccess (access.TrialRead r) H wrote = isRead (order H .kind) ≡ false → Confirmed r wrote
+
+abbrev Ready : Phase → History → Wrote → Type 0
+Ready p H wrote = ofPhase (Unit {0}) (λ x. ReadyAccess x H wrote) p
+
+-- Before any verify nothing is to be said.
+still-ready : (p : Phase) (H : History) (wrote : Wrote) → unread p ≡ true → Ready p H wrote
+still-ready phase.Idle H wrote e = tt
+still-ready (phase.Offered o) H wrote e = tt
+still-ready phase.Command H wrote e = tt
+still-ready phase.Data H wrote e = tt
+still-ready (phase.Awaiting (access.Start k)) H wrote e = tt
+still-ready (phase.Awaiting access.Store) H wrote e = tt
+still-ready (phase.Awaiting (access.Read r)) H wrote e = tt
+still-ready (phase.Awaiting (access.Write x)) H wrote e = tt
+still-ready (phase.Awaiting (access.Verify x)) H wrote e = clash e refl
+still-ready (phase.Awaiting (access.TrialWrite r)) H wrote e =
+    (eqb-true (r .rereads) 0 (and-left (eqb (r .rereads) 0) (eqb (r .failures) 0) e), eqb-true (r .failures) 0 (and-right (eqb (r .rereads) 0) (eqb (r .failures) 0) e))
+still-ready (phase.Awaiting (access.TrialRead r)) H wrote e = clash e refl
 
 -- WHAT THE HISTORY KNOWS in each phase, of all that the invariant of demand 3 says.
 abbrev KnownOffer : Offer → Bytes → History → Type 0
@@ -77,33 +109,47 @@ record Offering (o : Offer) (c : Bytes) (H : History) : Type 0 where
   resting : H .acting ≡ false
   number : KnownOffer o c H
 
-record Written (s : Sector) (H : History) : Type 0 where
-  asked : H .last ≡ answer.Write s
-  place : H .place (blockOf (order H)) ≡ at s
+-- Of a write command's write, its verify, a trial's write and a reread: what was asked for, where the block is, and that the data
+-- part is the command's bytes.
+record Writing (x : Target) (u : Bytes) (H : History) : Type 0 where
+  asked : H .last ≡ answer.Write (x .sector)
+  place : H .place (blockOf (order H)) ≡ at (x .sector)
+  bytes : dataOf u ≡ padded (H .fed)
 
-record Checked (r : Trial) (H : History) : Type 0 where
+record Verifying (x : Target) (H : History) : Type 0 where
+  asked : H .last ≡ answer.Read (x .sector)
+  sector : isTableSector (at (x .sector)) ≡ false
+  place : H .place (blockOf (order H)) ≡ at (x .sector)
+
+record Trying (r : Trial) (u : Bytes) (H : History) : Type 0 where
+  asked : H .last ≡ answer.Write (r .sector)
+  bytes : isRead (order H .kind) ≡ false → dataOf u ≡ padded (H .fed)
+
+record Checking (r : Trial) (u : Bytes) (H : History) : Type 0 where
   asked : H .last ≡ answer.Read (r .sector)
   sector : isTableSector (at (r .sector)) ≡ false
   read : H .lastRead ≡ at (r .sector)
   place : r .spare ≡ false → H .place (blockOf (order H)) ≡ at (r .sector)
+  bytes : isRead (order H .kind) ≡ false → dataOf u ≡ padded (H .fed)
 
-abbrev KnownAccess : Access → History → Type 0
-KnownAccess (access.Start k) H = Unit {0}
-KnownAccess access.Store H = Unit {0}
-KnownAccess (access.Read r) H = isRead (order H .kind) ≡ true
-KnownAccess (access.Write s) H = Written s H
-KnownAccess (access.TrialWrite r) H = H .last ≡ answer.Write (r .sector)
-KnownAccess (access.TrialRead r) H = Checked r H
+abbrev KnownAccess : Access → Bytes → History → Type 0
+KnownAccess (access.Start k) u H = Unit {0}
+KnownAccess access.Store u H = Unit {0}
+KnownAccess (access.Read r) u H = isRead (order H .kind) ≡ true
+KnownAccess (access.Write x) u H = Writing x u H
+KnownAccess (access.Verify x) u H = Verifying x H
+KnownAccess (access.TrialWrite r) u H = Trying r u H
+KnownAccess (access.TrialRead r) u H = Checking r u H
 
-abbrev Known : Phase → Bytes → History → Type 0
-Known phase.Idle c H = Unit {0}
-Known (phase.Offered o) c H = Offering o c H
-Known phase.Command c H = Unit {0}
-Known phase.Data c H = Unit {0}
-Known (phase.Awaiting x) c H = KnownAccess x H
+abbrev Known : Phase → Bytes → Bytes → History → Type 0
+Known phase.Idle c u H = Unit {0}
+Known (phase.Offered o) c u H = Offering o c H
+Known phase.Command c u H = Unit {0}
+Known phase.Data c u H = Unit {0}
+Known (phase.Awaiting x) c u H = KnownAccess x u H
 
 module _ (pl : Block → Where) (ca : Block → List Bytes) (wr : Bool) (lr : Where) where
-  shake-known : (to : Bool) {u : Bytes} {p : Phase} {c : Bytes} {n f : ℕ} {a : Answer} {h fd : Bytes} → Shake u p c n f a h fd → Known p c (Hs pl ca a h fd false to wr lr)
+  shake-known : (to : Bool) {u : Bytes} {p : Phase} {c : Bytes} {n f : ℕ} {a : Answer} {h fd : Bytes} → Shake u p c n f a h fd → Known p c u (Hs pl ca a h fd false to wr lr)
   shake-known to storing = tt
   shake-known to resting = tt
   shake-known to offer1 = record { resting = refl; number = tt }
@@ -115,19 +161,27 @@ module _ (pl : Block → Where) (ca : Block → List Bytes) (wr : Bool) (lr : Wh
   shake-known to (offer6 k o d) = record { resting = refl; number = k .number }
 
   work-known : (h fd : Bytes) {t : Table} {σ : Sectors} {b : Block} {rd : Bool} {u : Bytes} {x : Access} {a : Answer} → Blocky b → numberOf h ≡ b .0 → isRead (kindOf h) ≡ rd
-      → Work t σ pl ca b rd u (padded fd) x a wr lr → KnownAccess x (Hs pl ca a h fd true true wr lr)
+      → Work t σ pl ca b rd u (padded fd) x a wr lr → KnownAccess x u (Hs pl ca a h fd true true wr lr)
   work-known h fd i num isr (rereads eb er es op g k) = isr ∙ op
-  work-known h fd {b = b} i num isr (writing wt es op ed k) = record { asked = refl; place = ap pl (same-block (blockOf (orderOf h)) b num) ∙ (k .where-is b i ∙ ap at (sym es)) }
-  work-known h fd i num isr (trying wt eb er st bd k) = ap answer.Write (sym er)
-  work-known h fd {t} {b = b} i num isr (checking {r = r} wt el eb er st bd k) =
+  work-known h fd {b = b} i num isr (writing wt eb er es op ed k) =
+      record { asked = ap answer.Write (sym er); place = ap pl (same-block (blockOf (orderOf h)) b num) ∙ (k .where-is b i ∙ ap at (sym (er ∙ es))); bytes = ed }
+  work-known h fd {t} {b = b} i num isr (verifying {w = w} wt el eb er es op ed so k) =
+      record {
+        asked = ap answer.Read (sym er);
+        sector = off-table (w .sector) (λ y. not-table (spareList t) b (k .short) (sym (er ∙ es) ∙ y));
+        place = ap pl (same-block (blockOf (orderOf h)) b num) ∙ (k .where-is b i ∙ ap at (sym (er ∙ es)));
+      }
+  work-known h fd i num isr (trying wt eb er st bd k) = record { asked = ap answer.Write (sym er); bytes = λ z. bd .as-write (sym isr ∙ z) }
+  work-known h fd {t} {b = b} i num isr (checking {r = r} wt el eb er st bd so k) =
       record {
         asked = ap answer.Read (sym er);
         sector = not-at-table t b r (k .short) st;
         read = el ∙ ap at (sym er);
         place = λ z. ap pl (same-block (blockOf (orderOf h)) b num) ∙ (k .where-is b i ∙ ap at (sym (st .present z)));
+        bytes = λ z. bd .as-write (sym isr ∙ z);
       }
 
-sim-known : {start : Sectors} {w : World} {H : History} → Sim start w H → Known (w .drive .state .phase) (w .drive .state .command) H
+sim-known : {start : Sectors} {w : World} {H : History} → Sim start w H → Known (w .drive .state .phase) (w .drive .state .command) (w .buffer) H
 sim-known (at-start l k h) = tt
 sim-known (at-rest {pl = pl} {ca = ca} {to = to} {wr = wr} {lr = lr} l g m) = shake-known pl ca wr lr to m
 sim-known (at-work {pl = pl} {ca = ca} {h = h} {fd = fd} {wr = wr} {lr = lr} l k i num isr m) = work-known pl ca wr lr h fd i num isr m
@@ -167,35 +221,35 @@ report H o h =
 abbrev entry : Call → Bool → Table → Bytes → Bytes → Turn → Entry
 entry c sp t bs u x = entryOf (ev c sp) (outOf t bs u x)
 
-record Owes (start : Sectors) (H : History) (went : Where) (c : Call) (sp : Bool) (t : Table) (bs u : Bytes) (x : Turn) : Type 0 where
-  written : goodWrite H (entry c sp t bs u x) ≡ true → IsMade start H went (entry c sp t bs u x)
-  ready : Ready (x .state .phase) (wentNext H went (entry c sp t bs u x))
+record Owes (start : Sectors) (H : History) (wrote : Wrote) (c : Call) (sp : Bool) (t : Table) (bs u : Bytes) (x : Turn) : Type 0 where
+  written : goodWrite H (entry c sp t bs u x) ≡ true → IsMade start H wrote (entry c sp t bs u x)
+  ready : Ready (x .state .phase) (next start H (entry c sp t bs u x)) (wroteNext H wrote (entry c sp t bs u x))
 
-module _ (start : Sectors) (H : History) (went : Where) (c : Call) (sp : Bool) (t : Table) (bs u : Bytes) where
+module _ (start : Sectors) (H : History) (wrote : Wrote) (c : Call) (sp : Bool) (t : Table) (bs u : Bytes) where
   abbrev P : Turn → Type 0
-  P x = Owes start H went c sp t bs u x
+  P x = Owes start H wrote c sp t bs u x
 
   -- A refusal changes nothing.
-  refuses : (l : State) (r : Refusal) → Ready (l .phase) went → P (refuse r l)
-  unfolding wentNext
+  refuses : (l : State) (r : Refusal) → Ready (l .phase) H wrote → P (refuse r l)
+  unfolding next wroteNext
   refuses l r k = record { written = λ h. clash refl (report H (entry c sp t bs u (refuse r l)) h .accepted); ready = k }
 
   -- What is not finished reports nothing; what is not good, or no block's, or a read reports no good write.
-  unfinished : (x : Turn) → ofAnswer (x .answer) .finished ≡ false → awaits isTrialRead (x .state .phase) ≡ false → P x
-  unfinished x f q = record { written = λ h. clash (report H (entry c sp t bs u x) h .finished) f; ready = unchecked (x .state .phase) _ q }
+  unfinished : (x : Turn) → ofAnswer (x .answer) .finished ≡ false → unread (x .state .phase) ≡ true → P x
+  unfinished x f q = record { written = λ h. clash (report H (entry c sp t bs u x) h .finished) f; ready = still-ready (x .state .phase) _ _ q }
 
-  unfine : (x : Turn) → (isBlock (order H .number) ≡ true → Bad t bs u x) → awaits isTrialRead (x .state .phase) ≡ false → P x
+  unfine : (x : Turn) → (isBlock (order H .number) ≡ true → Bad t bs u x) → unread (x .state .phase) ≡ true → P x
   unfolding good
   unfine x f q =
       record {
         written = λ h. let r = report H (entry c sp t bs u x) h in absurd (f (r .block) (and-true (ofAnswer (x .answer) .finished) (not (bit 1 (getD (outOf t bs u x .bytes) 0 0))) (r .finished) (r .good)));
-        ready = unchecked (x .state .phase) _ q;
+        ready = still-ready (x .state .phase) _ _ q;
       }
 
-  of-a-read : (x : Turn) → isRead (order H .kind) ≡ true → awaits isTrialRead (x .state .phase) ≡ false → P x
-  of-a-read x e q = record { written = λ h. clash e (report H (entry c sp t bs u x) h .write); ready = unchecked (x .state .phase) _ q }
+  of-a-read : (x : Turn) → isRead (order H .kind) ≡ true → unread (x .state .phase) ≡ true → P x
+  of-a-read x e q = record { written = λ h. clash e (report H (entry c sp t bs u x) h .write); ready = still-ready (x .state .phase) _ _ q }
 
-  module _ (l : State) (k : Ready (l .phase) went) where
+  module _ (l : State) (k : Ready (l .phase) H wrote) where
     raises : (p : Phase) → P (raised p l)
     unfolding raised
     raises phase.Idle = raised-idle-cases P l (record { stores = λ e. unfinished _ refl refl; offers = λ e. unfinished _ refl refl })
@@ -237,9 +291,9 @@ module _ (start : Sectors) (H : History) (went : Where) (c : Call) (sp : Bool) (
     -- Another byte reports nothing.
     breaks : ofCall c .goes ≡ false → H .acting ≡ false → P (brokenOff l)
     unfolding underway acts
-    breaks g a = record { written = λ h. clash (report H (entry c sp t bs u (brokenOff l)) h .underway) (rw (g, a)); ready = unchecked phase.Idle _ refl }
+    breaks g a = record { written = λ h. clash (report H (entry c sp t bs u (brokenOff l)) h .underway) (rw (g, a)); ready = tt }
 
-    lowers : (p : Phase) (b : ℕ) → ofCall c .goes ≡ eqb b 0x55 → Known p (l .command) H → P (lowered p l t b)
+    lowers : (p : Phase) (b : ℕ) → ofCall c .goes ≡ eqb b 0x55 → Known p (l .command) u H → P (lowered p l t b)
     unfolding lowered
     lowers phase.Idle b g n = refuses l _ k
     lowers (phase.Offered o) b g n = lowered-cases P o l t b (record { goes = λ e. goes o (n .number); breaks = λ e. breaks (g ∙ e) (n .resting) })
@@ -248,22 +302,26 @@ module _ (start : Sectors) (H : History) (went : Where) (c : Call) (sp : Bool) (
     lowers (phase.Awaiting x) b g n = refuses l _ k
 
 -- THE SURFACE ANSWERS
-module _ (start : Sectors) (H : History) (went : Where) (a : ℕ) (bs : Bytes) (sp : Bool) (t : Table) (l : State) (u : Bytes) where
+module _ (start : Sectors) (H : History) (wrote : Wrote) (a : ℕ) (bs : Bytes) (sp : Bool) (t : Table) (l : State) (u : Bytes) where
   abbrev S : Turn → Type 0
-  S x = Owes start H went (surface a bs) sp t bs u x
+  S x = Owes start H wrote (surface a bs) sp t bs u x
 
   abbrev at-entry : Turn → Entry
   at-entry x = entry (surface a bs) sp t bs u x
 
-  goes-on : (x : Turn) → ofAnswer (x .answer) .finished ≡ false → awaits isTrialRead (x .state .phase) ≡ false → S x
-  goes-on x f q = unfinished start H went (surface a bs) sp t bs u x f q
+  abbrev next-wrote : Turn → Wrote
+  next-wrote x = wroteNext H wrote (at-entry x)
+
+  -- Says whether a verify or a reread brought the data part.
+  abbrev equal : Bool
+  equal = eqb a 0 && same bs (dataOf u)
+
+  goes-on : (x : Turn) → ofAnswer (x .answer) .finished ≡ false → unread (x .state .phase) ≡ true → S x
+  goes-on x f q = unfinished start H wrote (surface a bs) sp t bs u x f q
 
   -- An ending that fails owes nothing more, nor does a trial that failed or was stopped.
-  ends-badly : (x : Turn) → Bad t bs u x → awaits isTrialRead (x .state .phase) ≡ false → S x
-  ends-badly x f q = unfine start H went (surface a bs) sp t bs u x (λ i. f) q
-
   failing : (x : Turn) → Fails t bs u x → S x
-  failing x f = ends-badly x (f .bad) (f .unchecked)
+  failing x f = unfine start H wrote (surface a bs) sp t bs u x (λ i. f .bad) (f .unread)
 
   starts : (j : ℕ) → S (startAnswered j l a bs)
   starts j =
@@ -277,40 +335,68 @@ module _ (start : Sectors) (H : History) (went : Where) (a : ℕ) (bs : Bytes) (
   -- A read owes nothing more: it is no write.
   reads-owe : (x : Outcome) (p : Part) → isRead (order H .kind) ≡ true → S (reads x l t p)
   unfolding reads
-  reads-owe x p e = of-a-read start H went (surface a bs) sp t bs u (reads x l t p) e (read-unchecked x)
+  reads-owe x p e = of-a-read start H wrote (surface a bs) sp t bs u (reads x l t p) e (read-unread x)
     where
       N : Turn → Type 0
-      N y = awaits isTrialRead (y .state .phase) ≡ false
+      N y = unread (y .state .phase) ≡ true
 
-      read-unchecked : (x : Outcome) → N (reads x l t p)
-      read-unchecked (outcome.Done r) = refl
-      read-unchecked (outcome.Again r) = refl
-      read-unchecked (outcome.Settle r) = settled-cases N l r p (record { below = λ e. refl; latched = λ e f. refl; tries = λ e f. refl })
-      read-unchecked (outcome.Lost r) = lost-cases N l t r p (record { listed = λ e. refl; entered = λ e f. refl; full = λ e f. refl })
-      read-unchecked (outcome.Stop r) = refl
+      read-unread : (x : Outcome) → N (reads x l t p)
+      read-unread (outcome.Done r) = refl
+      read-unread (outcome.Again r) = refl
+      read-unread (outcome.Settle r) = settled-cases N l r p (record { below = λ e. refl; latched = λ e f. refl; tries = λ e f. refl })
+      read-unread (outcome.Lost r) = lost-cases N l t r p (record { listed = λ e. refl; entered = λ e f. refl; full = λ e f. refl })
+      read-unread (outcome.Stop r) = refl
 
-  -- Where the last write went: to s with answer 0 to a write s, and after a read's answer where it went before.
-  went-to : (s : Sector) (x : Turn) → ofAnswer (x .answer) .refused ≡ false → eqb a 0 ≡ true → H .last ≡ answer.Write s → wentNext H went (at-entry x) ≡ at s
-  unfolding wentNext acts
-  went-to s x f e w = rw (f, e, w)
+  -- THE LAST WRITE: answer 0 to a write s of the command's bytes is one,
+  landed : (s : Sector) (x : Turn) → ofAnswer (x .answer) .refused ≡ false → eqb a 0 ≡ true → H .last ≡ answer.Write s → dataOf (at-entry x .buffer) ≡ padded (H .fed)
+      → next-wrote x ≡ record { went = at s; same = 0 }
+  unfolding wroteNext acts
+  landed s x f e w d = rw (f, e, w, d, same-refl (padded (H .fed)))
 
-  went-stays : (s : Sector) (x : Turn) → ofAnswer (x .answer) .refused ≡ false → H .last ≡ answer.Read s → wentNext H went (at-entry x) ≡ went
-  unfolding wentNext acts
-  went-stays s x f w = rw (f, w) (neither (eqb a 0))
+  -- an answer to a read leaves it where it went,
+  abbrev same-bytes : Sector → Bool
+  same-bytes s = sameSector (at s) (wrote .went) && same bs (padded (H .fed))
+
+  abbrev reread : Bool → Bool → Wrote
+  reread p q = cond p (cond q (record { went = wrote .went; same = suc (wrote .same) }) wrote) wrote
+
+  after-read : (s : Sector) (x : Turn) → ofAnswer (x .answer) .refused ≡ false → H .last ≡ answer.Read s → next-wrote x ≡ reread (eqb a 0) (same-bytes s)
+  unfolding wroteNext acts
+  after-read s x f w = rw (f, w)
+
+  stays-there : (s : Sector) (x : Turn) → ofAnswer (x .answer) .refused ≡ false → H .last ≡ answer.Read s → next-wrote x .went ≡ wrote .went
+  stays-there s x f w = ap (λ (z : Wrote). z .went) (after-read s x f w) ∙ either (eqb a 0) (same-bytes s)
     where
-      neither : (q : Bool) → orElse (cond q nowhere nowhere) went ≡ went
-      neither true = refl
-      neither false = refl
+      either : (p q : Bool) → reread p q .went ≡ wrote .went
+      either true true = refl
+      either true false = refl
+      either false q = refl
 
-  -- Where the block is after the command: where it was, or, if it moved, at the sector of the last read.
+  -- and one with the command's bytes counts as a reread of it.
+  counts-there : (s : Sector) (x : Turn) → ofAnswer (x .answer) .refused ≡ false → H .last ≡ answer.Read s → wrote .went ≡ at s → dataOf u ≡ padded (H .fed)
+      → next-wrote x .same ≡ wrote .same + cond equal 1 0
+  counts-there s x f w e d =
+      let tested : same-bytes s ≡ same bs (dataOf u) = rw (e, eq-eqb (s .0) (s .0) refl, d) in
+      ap (λ (z : Wrote). z .same) (after-read s x f w) ∙ (ap (λ (q : Bool). reread (eqb a 0) q .same) tested ∙ either (eqb a 0) (same bs (dataOf u)))
+    where
+      either : (p q : Bool) → reread p q .same ≡ wrote .same + cond (p && q) 1 0
+      either true true = omega arith
+      either true false = omega arith
+      either false q = omega arith
+
+  -- WHERE THE BLOCK IS after the command: where it was, or, if it moved, at the sector of the last read.
   abbrev ended : Change → Ending → Seen → Turn
   ended ch e s = finish l ch e s part.Kept
 
-  place-same : (ch : Change) (s : Seen) → isTableSector (ofAnswer (H .last) .read) ≡ false → next start H (at-entry (ended ch ending.Good s)) .place ≡ H .place
-  unfolding next heard partLeft statusLeft
-  place-same ch s n =
+  unmoved : (ch : Change) (s : Seen) → moves (at-entry (ended ch ending.Good s)) ≡ false
+  unfolding partLeft statusLeft
+  unmoved ch s = moves-is (surface a bs) answer.Finished ending.Good s (l .marks .fresh) u
+
+  here : (ch : Change) (s : Seen) → isTableSector (ofAnswer (H .last) .read) ≡ false → next start H (at-entry (ended ch ending.Good s)) .place (blockOf (order H)) ≡ H .place (blockOf (order H))
+  unfolding next heard
+  here ch s n =
       let o = at-entry (ended ch ending.Good s) in
-      place-kept H o (no-learn H o n) (and-false (reports H o) (moves o) (moves-is (surface a bs) answer.Finished ending.Good s (l .marks .fresh) u))
+      ap (λ (f : Block → Where). f (blockOf (order H))) (place-kept H o (no-learn H o n) (and-false (reports H o) (moves o) (unmoved ch s)))
 
   place-read : (ch : Change) (s : Seen) → isTableSector (ofAnswer (H .last) .read) ≡ false → reports H (at-entry (ended ch ending.Moved s)) ≡ true
       → next start H (at-entry (ended ch ending.Moved s)) .place (blockOf (order H)) ≡ H .lastRead
@@ -321,28 +407,47 @@ module _ (start : Sectors) (H : History) (went : Where) (a : ℕ) (bs : Bytes) (
       ap (λ (f : Block → Where). f b) (place-moved H o (no-learn H o n) (and-true (reports H o) (moves o) r (moves-is (surface a bs) answer.Finished ending.Moved s (l .marks .fresh) u)))
       ∙ rw (eq-eqb (b .0) (b .0) refl)
 
-  here : (ch : Change) (s : Seen) → isTableSector (ofAnswer (H .last) .read) ≡ false → next start H (at-entry (ended ch ending.Good s)) .place (blockOf (order H)) ≡ H .place (blockOf (order H))
-  here ch s n = ap (λ (f : Block → Where). f (blockOf (order H))) (place-same ch s n)
+  -- A command that ends good on its block's sector owes that its write went there.
+  stays : (s : Sector) (ch : Change) (x : Seen) → isTableSector (ofAnswer (H .last) .read) ≡ false → H .place (blockOf (order H)) ≡ at s
+      → (goodWrite H (at-entry (ended ch ending.Good x)) ≡ true → next-wrote (ended ch ending.Good x) .went ≡ at s) → S (ended ch ending.Good x)
+  stays s ch x off p w = record { written = λ h. record { sector = s; written = w h; place = here ch x off ∙ p; reread = λ m. clash m (unmoved ch x) }; ready = tt }
 
-  -- A plain write pays by its one write,
-  plain : (s : Sector) → Written s H → S (writeAnswered l a)
-  plain s w =
-      write-cases S l a
+  -- A plain write pays by its one write, and a write/verify
+  writes : (x : Target) → Writing x u H → S (writeAnswered l t x a)
+  unfolding partLeft statusLeft
+  writes x n =
+      write-cases S l t x a
       (record {
-        done = λ e. record { written = λ h. record { sector = s; written = went-to s (ended change.Keep ending.Good clean) refl e (w .asked); place = here change.Keep clean off ∙ w .place }; ready = unchecked phase.Idle _ refl };
-        stops = λ e f. ends-badly _ (bad-finish t bs u l ending.Latched _ _ refl) refl;
-        fails = λ e f. ends-badly _ (bad-finish t bs u l ending.Failed _ _ refl) refl;
+        verifies = λ e f. record { written = λ h. clash (report H (at-entry back) h .finished) refl; ready = ap (λ (w : Wrote). w .went) (landed (x .sector) back refl e (n .asked) (n .bytes)) };
+        done = λ e f. stays (x .sector) change.Keep clean (ap (λ (y : Answer). isTableSector (ofAnswer y .read)) (n .asked)) (n .place)
+            (λ h. ap (λ (w : Wrote). w .went) (landed (x .sector) (ended change.Keep ending.Good clean) refl e (n .asked) (kept ∙ n .bytes)));
+        stops = λ e f. ends t bs u S failing l change.Keep _ _ refl;
+        moves = λ e f. nexts t bs u S failing l _ _ (x .block) _;
       })
     where
-      off : isTableSector (ofAnswer (H .last) .read) ≡ false
-      off = ap (λ (x : Answer). isTableSector (ofAnswer x .read)) (w .asked)
+      back : Turn
+      back = say (inPhase l (phase.Awaiting (access.Verify x))) (answer.Read (x .sector))
+
+      kept : dataOf (at-entry (ended change.Keep ending.Good clean) .buffer) ≡ dataOf u
+      kept = data-ended (surface a bs) answer.Finished ending.Good clean (l .marks .fresh) u
+
+  -- by what its verify leaves where it went;
+  verifies-owe : (x : Target) → Verifying x H → wrote .went ≡ at (x .sector) → (q : Bool) → S (verifyAnswered l x a q)
+  verifies-owe x n there q =
+      verify-cases S l x a q
+      (record {
+        stops = λ e. ends t bs u S failing l change.Keep _ _ refl;
+        done = λ e f. stays (x .sector) change.Keep clean (ap (λ (y : Answer). isTableSector (ofAnswer y .read)) (n .asked) ∙ n .sector) (n .place) (λ h. stays-there (x .sector) (ended change.Keep ending.Good clean) refl (n .asked) ∙ there);
+        fails = λ e f. goes-on _ refl refl;
+      })
 
   -- a trial by its write,
-  tries : (r : Trial) → H .last ≡ answer.Write (r .sector) → S (tried l t r a)
-  tries r w =
+  tries : (r : Trial) → Trying r u H → r .rereads ≡ 0 → r .failures ≡ 0 → S (tried l t r a)
+  unfolding next heard partLeft statusLeft
+  tries r n z y =
       tried-cases S l t r a
       (record {
-        done = λ e. record { written = λ h. clash (report H (at-entry back) h .finished) refl; ready = λ s i. went-to (r .sector) back refl e w ∙ ap (λ (x : Trial). at (x .sector)) (same-trial i) };
+        done = λ e. record { written = λ h. clash (report H (at-entry back) h .finished) refl; ready = λ i. first e i };
         stops = λ e. stops t bs u S failing l r;
         fails = λ e f. misses t bs u S failing l r _;
       })
@@ -350,58 +455,94 @@ module _ (start : Sectors) (H : History) (went : Where) (a : ℕ) (bs : Bytes) (
       back : Turn
       back = say (inPhase l (phase.Awaiting (access.TrialRead r))) (answer.Read (r .sector))
 
-  -- which its read must leave where it went.
-  module _ (r : Trial) (n : Checked r H) (there : went ≡ at (r .sector)) where
+      first : eqb a 0 ≡ true → isRead (order H .kind) ≡ false → Confirmed r (next-wrote back)
+      first e i =
+          let w = landed (r .sector) back refl e (n .asked) (n .bytes i) in
+          record { there = ap (λ (x : Wrote). x .went) w; count = let c = ap (λ (x : Wrote). x .same) w in omega arith }
+
+  -- and by its rereads.
+  module _ (r : Trial) (n : Checking r u H) (k : isRead (order H .kind) ≡ false → Confirmed r wrote) where
+    abbrev r' : Trial
+    r' = counted r a equal
+
     off : isTableSector (ofAnswer (H .last) .read) ≡ false
     off = ap (λ (x : Answer). isTableSector (ofAnswer x .read)) (n .asked) ∙ n .sector
 
-    still : (x : Turn) → ofAnswer (x .answer) .refused ≡ false → wentNext H went (at-entry x) ≡ at (r .sector)
-    still x f = went-stays (r .sector) x f (n .asked) ∙ there
+    one : (q : Bool) → cond q 1 0 + cond q 0 1 ≡ 1
+    one true = refl
+    one false = refl
 
-    in-place : r .spare ≡ false → (ch : Change) → S (ended ch ending.Good (r .seen))
-    in-place z ch =
-        record { written = λ h. record { sector = r .sector; written = still (ended ch ending.Good (r .seen)) refl; place = here ch (r .seen) off ∙ n .place z }; ready = unchecked phase.Idle _ refl }
-
-    moved : (ch : Change) → S (ended ch ending.Moved (r .seen))
-    moved ch =
-        let x = ended ch ending.Moved (r .seen) in
+    confirmed : isRead (order H .kind) ≡ false → (x : Turn) → ofAnswer (x .answer) .refused ≡ false → Confirmed r' (next-wrote x)
+    confirmed i x f =
+        let c = k i in
         record {
-          written = λ h. record { sector = r .sector; written = still x refl; place = place-read ch (r .seen) off (report H (at-entry x) h .reported) ∙ n .read };
-          ready = unchecked phase.Idle _ refl;
+          there = stays-there (r .sector) x f (n .asked) ∙ c .there;
+          count = omega (arith, counts-there (r .sector) x f (n .asked) (c .there) (n .bytes i), one equal, c .count);
         }
 
-    checks : (equal : Bool) → S (checked l t r a equal)
-    checks equal =
+    again : S (say (inPhase l (phase.Awaiting (access.TrialRead r'))) (answer.Read (r .sector)))
+    unfolding next heard
+    again =
+        let x : Turn = say (inPhase l (phase.Awaiting (access.TrialRead r'))) (answer.Read (r .sector)) in
+        record { written = λ h. clash (report H (at-entry x) h .finished) refl; ready = λ i. confirmed i x refl }
+
+    in-place : r .spare ≡ false → (ch : Change) → S (ended ch ending.Good (r' .seen))
+    in-place z ch =
+        let x : Turn = ended ch ending.Good (r' .seen) in
+        stays (r .sector) ch (r' .seen) off (n .place z) (λ h. confirmed (report H (at-entry x) h .write) x refl .there)
+
+    moved : hasReread r' ≡ false → isSound r' ≡ true → (ch : Change) → S (ended ch ending.Moved (r' .seen))
+    moved f g ch =
+        let x : Turn = ended ch ending.Moved (r' .seen) in
+        record {
+          written = λ h.
+              let p = report H (at-entry x) h in
+              let c = confirmed (p .write) x refl in
+              record {
+                sector = r .sector;
+                written = c .there;
+                place = place-read ch (r' .seen) off (p .reported) ∙ n .read;
+                reread = λ m. omega (arith, c .count, ltb-false (r' .rereads) 100 f, leb-true (r' .failures) 30 g);
+              };
+          ready = tt;
+        }
+
+    checks : S (checked l t r a equal)
+    checks =
         checked-cases S l t r a equal
         (record {
-          verifies = λ e. record { moved = λ z. moved _; listed = λ z y. in-place z _; stays = λ z y. in-place z _ };
-          stops = λ e f. stops t bs u S failing l r;
-          fails = λ e f. misses t bs u S failing l r _;
+          stops = λ e. stops t bs u S failing l r;
+          counts = λ e. record {
+            again = λ f. again;
+            passes = λ f g. record { moved = λ z. moved f g _; listed = λ z y. in-place z _; stays = λ z y. in-place z _ };
+            fails = λ f g. misses t bs u S failing l r' _;
+          };
         })
 
-  follow : (x : Access) → Ready (phase.Awaiting x) went → KnownAccess x H → (equal : Bool) → S (follows x l t a bs equal)
+  follow : (x : Access) → ReadyAccess x H wrote → KnownAccess x u H → S (follows x l t a bs (verifies (phase.Awaiting x) a && same bs (dataOf u)))
   unfolding follows
-  follow (access.Start j) q n equal = starts j
-  follow access.Store q n equal = stores
-  follow (access.Read r) q n equal = reads-owe (afterRead r a) _ n
-  follow (access.Write s) q n equal = plain s n
-  follow (access.TrialWrite r) q n equal = tries r n
-  follow (access.TrialRead r) q n equal = checks r n (q r refl) equal
+  follow (access.Start j) q n = starts j
+  follow access.Store q n = stores
+  follow (access.Read r) q n = reads-owe (afterRead r a) _ n
+  follow (access.Write x) q n = writes x n
+  follow (access.Verify x) q n = verifies-owe x n q _
+  follow (access.TrialWrite r) q n = tries r n (q .0) (q .1)
+  follow (access.TrialRead r) q n = checks r n q
 
-  no : Ready (l .phase) went → (r : Refusal) → S (refuse r l)
-  no k r = refuses start H went (surface a bs) sp t bs u l r k
+  no : Ready (l .phase) H wrote → (r : Refusal) → S (refuse r l)
+  no k r = refuses start H wrote (surface a bs) sp t bs u l r k
 
-  surfaces : Ready (l .phase) went → (p : Phase) → Ready p went → Known p (l .command) H → (equal : Bool) → S (answered p l t a bs equal)
+  surfaces : Ready (l .phase) H wrote → (p : Phase) → Ready p H wrote → Known p (l .command) u H → S (answered p l t a bs (verifies p a && same bs (dataOf u)))
   unfolding answered
-  surfaces k phase.Idle q n equal = no k refusal.Place
-  surfaces k (phase.Offered o) q n equal = no k refusal.Place
-  surfaces k phase.Command q n equal = no k refusal.Place
-  surfaces k phase.Data q n equal = no k refusal.Place
-  surfaces k (phase.Awaiting x) q n equal =
-      fitting-cases S (asksRead x) l a (length bs) _ (record { answer = λ e. no k refusal.Answer; bytes = λ e f. no k refusal.Bytes; fits = λ e f. follow x q n equal })
+  surfaces k phase.Idle q n = no k refusal.Place
+  surfaces k (phase.Offered o) q n = no k refusal.Place
+  surfaces k phase.Command q n = no k refusal.Place
+  surfaces k phase.Data q n = no k refusal.Place
+  surfaces k (phase.Awaiting x) q n =
+      fitting-cases S (asksRead x) l a (length bs) _ (record { answer = λ e. no k refusal.Answer; bytes = λ e f. no k refusal.Bytes; fits = λ e f. follow x q n })
 
 -- ONE CALL
-module _ (start : Sectors) (H : History) (went : Where) (sp : Bool) (w : World) (k : Ready (w .drive .state .phase) went) (n : Known (w .drive .state .phase) (w .drive .state .command) H) where
+module _ (start : Sectors) (H : History) (wrote : Wrote) (sp : Bool) (w : World) (k : Ready (w .drive .state .phase) H wrote) (n : Known (w .drive .state .phase) (w .drive .state .command) (w .buffer) H) where
   open World w using (buffer as u₁)
 
   abbrev t₁ : Table
@@ -410,25 +551,25 @@ module _ (start : Sectors) (H : History) (went : Where) (sp : Bool) (w : World) 
   abbrev l₁ : State
   l₁ = w .drive .state
 
-  rules : (c : Call) → Owes start H went c sp t₁ (loads c) u₁ (ruled c t₁ l₁ u₁)
-  rules raise = raises start H went raise sp t₁ [] u₁ l₁ k (l₁ .phase)
-  rules (lower b) = lowers start H went (lower b) sp t₁ [] u₁ l₁ k (l₁ .phase) b refl n
-  rules (feed bs) = feeds start H went (feed bs) sp t₁ bs u₁ l₁ k (l₁ .phase) bs
-  rules (surface a bs) = surfaces start H went a bs sp t₁ l₁ u₁ k (l₁ .phase) k n _
-  rules reset = rests start H went reset sp t₁ [] u₁ l₁ k (l₁ .phase)
+  rules : (c : Call) → Owes start H wrote c sp t₁ (loads c) u₁ (ruled c t₁ l₁ u₁)
+  rules raise = raises start H wrote raise sp t₁ [] u₁ l₁ k (l₁ .phase)
+  rules (lower b) = lowers start H wrote (lower b) sp t₁ [] u₁ l₁ k (l₁ .phase) b refl n
+  rules (feed bs) = feeds start H wrote (feed bs) sp t₁ bs u₁ l₁ k (l₁ .phase) bs
+  rules (surface a bs) = surfaces start H wrote a bs sp t₁ l₁ u₁ k (l₁ .phase) k n
+  rules reset = rests start H wrote reset sp t₁ [] u₁ l₁ k (l₁ .phase)
 
-  guards : (c : Call) → Owes start H went c sp t₁ (loads c) u₁ (guarded (recordOk (w .drive)) (length u₁) l₁ (ruled c t₁ l₁ u₁))
+  guards : (c : Call) → Owes start H wrote c sp t₁ (loads c) u₁ (guarded (recordOk (w .drive)) (length u₁) l₁ (ruled c t₁ l₁ u₁))
   guards c =
-      guarded-cases (Owes start H went c sp t₁ (loads c) u₁) (recordOk (w .drive)) (length u₁) l₁ _
+      guarded-cases (Owes start H wrote c sp t₁ (loads c) u₁) (recordOk (w .drive)) (length u₁) l₁ _
       (record { damaged = λ o. none _; length = λ o q. none _; passes = λ o q. rules c })
     where
-      none : (r : Refusal) → Owes start H went c sp t₁ (loads c) u₁ (refuse r l₁)
-      none r = refuses start H went c sp t₁ (loads c) u₁ l₁ r k
+      none : (r : Refusal) → Owes start H wrote c sp t₁ (loads c) u₁ (refuse r l₁)
+      none r = refuses start H wrote c sp t₁ (loads c) u₁ l₁ r k
 
   abbrev o₁ : Call → Entry
   o₁ c = entryOf (ev c sp) (made w (ev c sp))
 
-  owes : (c : Call) → (goodWrite H (o₁ c) ≡ true → IsMade start H went (o₁ c)) × Ready (made w (ev c sp) .step .drive .state .phase) (wentNext H went (o₁ c))
+  owes : (c : Call) → (goodWrite H (o₁ c) ≡ true → IsMade start H wrote (o₁ c)) × Ready (made w (ev c sp) .step .drive .state .phase) (next start H (o₁ c)) (wroteNext H wrote (o₁ c))
   unfolding stepOf raiseOf lowerOf feedOf surfaceOf resetOf
   owes raise = (guards raise .written, guards raise .ready)
   owes (lower b) = (guards (lower b) .written, guards (lower b) .ready)
@@ -437,12 +578,12 @@ module _ (start : Sectors) (H : History) (went : Where) (sp : Bool) (w : World) 
   owes reset = (guards reset .written, guards reset .ready)
 
 -- THE WHOLE LIST
-all : {start : Sectors} {w : World} {H : History} (went : Where) → Sim start w H → Ready (w .drive .state .phase) went → (es : List Event) → Lawful w es → Made start H went (entries w es)
-all went m k [] ok = tt
-all {start} {w} {H} went m k (e ∷ es) ok =
-    let r = owes start H went (e .spoils) w k (sim-known m) (e .call) in
+all : {start : Sectors} {w : World} {H : History} (wrote : Wrote) → Sim start w H → Ready (w .drive .state .phase) H wrote → (es : List Event) → Lawful w es → Made start H wrote (entries w es)
+all wrote m k [] ok = tt
+all {start} {w} {H} wrote m k (e ∷ es) ok =
+    let r = owes start H wrote (e .spoils) w k (sim-known m) (e .call) in
     (r .0, all _ (step m (e .call) (e .spoils) (ok .0) .1) (r .1) es (ok .1))
 
 pub writes-made : WritesMade
 unfolding startOf
-writes-made old lent h sectors es = rw (eq-eqb (length lent) 536 h) (λ ok. all nowhere (at-start refl refl (λ b. refl)) (unchecked _ _ refl) es ok)
+writes-made old lent h sectors es = rw (eq-eqb (length lent) 536 h) (λ ok. all unwritten (at-start refl refl (λ b. refl)) tt es ok)

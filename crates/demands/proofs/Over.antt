@@ -1,4 +1,4 @@
--- A COMMAND IS OVER BY FINISHED, after at most 478 answers that suit; a start after at most ten; a store after one.
+-- A COMMAND IS OVER BY FINISHED, after at most 3,679 answers that suit; a start after at most ten; a store after one.
 use mathlib.Core.Path.{_≡_, refl, sym, ap, subst, _∙_}
 use mathlib.Core.Bool.{Bool, true, false, not, _&&_}
 use mathlib.Core.Logic.{_⊎_, inl, inr}
@@ -23,7 +23,7 @@ use Rattle.drive.specs.Records.{recordOk, awaits}
 use Rattle.drive.specs.Results.{Out, outOf}
 use Rattle.drive.specs.Access.{answerFits, bytesFit, asksRead, fitting, startAnswered, storeAnswered, follows, answered}
 use Rattle.drive.specs.Calls.{Call, surface, surfaceOf, stepOf, started, startOf}
-use Rattle.drive.specs.Bound.{ofCommand, isCommand, accesses}
+use Rattle.drive.specs.Bound.{ofCommand, isCommand, accesses, most}
 use Rattle.drive.specs.Over.{Reply, replied, suits, ofStart, ofStore, Task, command, start, store, Ends, GoesOn, Completes, AllSuit, SuitsExactly, OverByFinished, Demand1Over, StartOver, StoreOver}
 use Rattle.drive.specs.Views.{ofAnswer}
 use Rattle.records.proofs.Ladders.{fitting-cases, start-cases}
@@ -54,7 +54,8 @@ module _ (l : State) (t : Table) (a : ℕ) (bs : List ℕ) (equal : Bool) where
   store-next (access.Start k) u c = clash c refl
   store-next access.Store u c = record { answer = refl; phase = refl }
   store-next (access.Read r) u c = clash c refl
-  store-next (access.Write s) u c = clash c refl
+  store-next (access.Write w) u c = clash c refl
+  store-next (access.Verify w) u c = clash c refl
   store-next (access.TrialWrite r) u c = clash c refl
   store-next (access.TrialRead r) u c = clash c refl
 
@@ -83,7 +84,7 @@ unfolding surfaceOf
 suits-exactly d u x k h = rw (k, eq-eqb (length u) 536 h) (answered-exactly (d .state .phase) (d .state) (d .table) x _)
 
 -- An answer that suits is accepted.
-suited : (d : Drive) (u : List ℕ) (x : Reply) → recordOk d ≡ true → length u ≡ 536 → suits (d .state .phase) x ≡ true → ofAnswer (replied d u x .step .answer) .refused ≡ false
+pub suited : (d : Drive) (u : List ℕ) (x : Reply) → recordOk d ≡ true → length u ≡ 536 → suits (d .state .phase) x ≡ true → ofAnswer (replied d u x .step .answer) .refused ≡ false
 suited d u x k h s = suits-exactly d u x k h ∙ ap not s
 
 -- ONE ANSWER THAT IS ACCEPTED ends the command, or leaves it under way.
@@ -193,11 +194,11 @@ walk (suc m) (x ∷ xs) d u f h c le s =
     go (inr z) rest = later (z .0) (rest (z .0))
 
 pub demand-1-over : Demand1Over
-demand-1-over d u y k h c xs le s = go (walk 478 xs d u (fine-of d k y) h c le s)
+demand-1-over d u y k h c xs le s = go (walk most xs d u (fine-of d k y) h c le s)
   where
-    go : Either 478 d u xs → Over 478 d u xs
+    go : Either most d u xs → Over most d u xs
     go (inl z) = z
-    go (inr z) = absurd (omega (arith, z, demand-1 d u (andOneMore (take 478 xs)) k))
+    go (inr z) = absurd (omega (arith, z, demand-1 d u (andOneMore (take most xs)) k))
 
 -- Its premise can be met, by timeouts alone.
 pub timeouts-suit : (n : ℕ) (d : Drive) (u : List ℕ) → AllSuit command d u (replicate n timeout)
@@ -208,7 +209,7 @@ timeouts-suit (suc n) d u = (timeout-suits (d .state .phase), timeouts-suit n (r
 abbrev StepsTo : ℕ → Out → Type 0
 StepsTo k y = Ends start y ⊎ ((k < 10) × GoesOn start y × (y .step .drive .state .phase ≡ phase.Awaiting (access.Start (k + 1))))
 
-same-access : {x y : Access} → phase.Awaiting x ≡ phase.Awaiting y → x ≡ y
+pub same-access : {x y : Access} → phase.Awaiting x ≡ phase.Awaiting y → x ≡ y
 same-access e = cc
 
 start-step : (d : Drive) (u : List ℕ) (x : Reply) (k : ℕ) → d .state .phase ≡ phase.Awaiting (access.Start k) → ofAnswer (replied d u x .step .answer) .refused ≡ false → StepsTo k (replied d u x)

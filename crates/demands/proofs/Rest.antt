@@ -32,7 +32,7 @@ use Rattle.drive.specs.declared.Refusal.the-variants as refusal
 use Rattle.drive.specs.Words.{dataOf, kindOf, isRead, isWrite, isVerify}
 use Rattle.drive.specs.Results.{partLeft, statusLeft, outOf}
 use Rattle.drive.specs.Handshake.{offers, raised, goesOn, lowered, fedTo, rested, brokenOff}
-use Rattle.drive.specs.Access.{asksRead, bytesFit, storeAnswered, follows, answered, isTrialRead, verifies}
+use Rattle.drive.specs.Access.{asksRead, bytesFit, storeAnswered, follows, answered, isCompared, verifies}
 use Rattle.drive.specs.Calls.{Call, raise, lower, feed, surface, reset}
 use Rattle.drive.specs.History.{held, unreadable, Sectors, Entry, History, next, heard, learns, acts, underway, touches, touchesFirst, reports, placeNext, candidatesNext}
 use Rattle.drive.specs.Surface.{landed}
@@ -78,7 +78,7 @@ module _ {start : Sectors} {t : Table} {mk : Marks} {c : Bytes} {n f : ℕ} {x :
   abbrev Ga : ℕ → Bytes → Bool → Turn → Type 0
   Ga b bs sp y = Good start (W t (Ln (phase.Awaiting x) mk c n f) u σ a) H (ev (surface b bs) sp) (outOf t bs u y)
 
-  pub awaiting : ((b : ℕ) (bs : Bytes) (sp : Bool) → bytesFit (asksRead x) b (length bs) ≡ true → Ga b bs sp (follows x (Ln (phase.Awaiting x) mk c n f) t b bs (isTrialRead x && eqb b 0 && same bs (dataOf u))))
+  pub awaiting : ((b : ℕ) (bs : Bytes) (sp : Bool) → bytesFit (asksRead x) b (length bs) ≡ true → Ga b bs sp (follows x (Ln (phase.Awaiting x) mk c n f) t b bs (isCompared x && eqb b 0 && same bs (dataOf u))))
       → (k : Call) (sp : Bool) → Keeps start (W t (Ln (phase.Awaiting x) mk c n f) u σ a) H k sp
   unfolding raised lowered fedTo rested answered
   awaiting g raise sp = declined raise sp refusal.Place [] m

@@ -9,13 +9,15 @@ use native.Mathlib.Omega.{arith}
 use lib.Dec.{eqb, ltb}
 use lib.ListN.{length, getD, take}
 use lib.Seq.{take-all}
-use borrow.Author.Tests.{eqb-true, eq-eqb, ne-eqb, ltb-false, le-ltb}
+use borrow.Author.Tests.{eqb-true, eq-eqb, ne-eqb, leb-true, ltb-false, le-ltb}
 use Rattle.geometry.specs.Geometry.{isBlock}
+use Rattle.geometry.specs.declared.Block.{Block}
 use Rattle.logic.proofs.Bools.{branch, clash, and-left, and-right}
 use Rattle.table.specs.declared.Table.{Table}
 use Rattle.table.specs.Tables.{spareList, killedNext}
 use Rattle.buffer.specs.Runs.{same}
 use Rattle.buffer.proofs.Compare.{same-equal}
+use Rattle.drive.specs.declared.Access.{Access}
 use Rattle.drive.specs.declared.Access.the-variants as access
 use Rattle.drive.specs.declared.Answer.the-variants as answer
 use Rattle.drive.specs.declared.Change.{Change}
@@ -34,6 +36,7 @@ use Rattle.drive.specs.declared.Phase.the-variants as phase
 use Rattle.drive.specs.declared.Retry.{Retry}
 use Rattle.drive.specs.declared.Seen.{Seen}
 use Rattle.drive.specs.declared.State.{State}
+use Rattle.drive.specs.declared.Target.{Target}
 use Rattle.drive.specs.declared.Trial.{Trial}
 use Rattle.drive.specs.declared.Turn.{Turn}
 use Rattle.drive.specs.Words.{dataOf, rowOf, statusOf, isRead, orderOf}
@@ -42,17 +45,18 @@ use Rattle.drive.specs.Values.{Typed}
 use Rattle.drive.specs.Results.{Out, four, partLeft, statusLeft, outOf, withMarks, finished, finish, clean}
 use Rattle.drive.specs.Handshake.{firstRead, noNumber, writes, acted}
 use Rattle.drive.specs.Retries.{afterRead}
-use Rattle.drive.specs.Sparing.{tried, checked}
-use Rattle.drive.specs.Access.{isTrialRead, fitting, keptPart, reads, writeAnswered, follows, answered}
+use Rattle.drive.specs.Sparing.{tried, counted, checked}
+use Rattle.drive.specs.Access.{isCompared, fitting, keptPart, reads, writeAnswered, verifyAnswered, follows, answered}
 use Rattle.drive.specs.Calls.{lower, surface, lowerOf, surfaceOf, stepOf}
 use Rattle.drive.specs.History.{bit, good}
 use Rattle.drive.specs.Over.{Reply, command, Completes}
 use Rattle.drive.specs.Status4.{failures, numbers, leftBy}
 use Rattle.drive.specs.TableRead.{OffersRead}
 use Rattle.drive.specs.Views.{ofAnswer}
-use Rattle.records.proofs.Ladders.{acted-cases, NextAttempt, Missed, Stopped, tried-cases, checked-cases, lost-cases, settled-cases, write-cases}
+use Rattle.records.proofs.Ladders.{acted-cases, NextSpare, Missed, Stopped, tried-cases, checked-cases, lost-cases, settled-cases, write-cases, verify-cases}
 use Rattle.demands.proofs.Parts.{data-put, data-with}
 use Rattle.demands.proofs.Numbers.{acts-on}
+use Rattle.demands.proofs.Awaited.{ofPhase}
 use Rattle.demands.proofs.Statuses.{fails, good-is}
 use Rattle.demands.proofs.Sim.{Ln}
 use Rattle.demands.proofs.Valid.{step-valid}
@@ -61,6 +65,33 @@ use Rattle.demands.proofs.Status4.{status-4}
 -- Says whether a call finished, good by its status 1.
 abbrev pub endsWell : Out → Bool
 endsWell y = ofAnswer (y .step .answer) .finished && not (bit 1 (getD (y .bytes) 0 0))
+
+-- Says whether an access comes before any verify of what it writes: it is no verify and no reread, and a trial's write comes
+-- before the trial's first reread.
+abbrev pub isUnread : Access → Bool
+isUnread (access.Start k) = true
+isUnread access.Store = true
+isUnread (access.Read r) = true
+isUnread (access.Write w) = true
+isUnread (access.Verify w) = false
+isUnread (access.TrialWrite r) = eqb (r .rereads) 0 && eqb (r .failures) 0
+isUnread (access.TrialRead r) = false
+
+abbrev pub unread : Phase → Bool
+unread p = ofPhase true isUnread p
+
+not-compared : (p : Phase) → unread p ≡ true → awaits isCompared p ≡ false
+not-compared phase.Idle h = refl
+not-compared (phase.Offered o) h = refl
+not-compared phase.Command h = refl
+not-compared phase.Data h = refl
+not-compared (phase.Awaiting (access.Start k)) h = refl
+not-compared (phase.Awaiting access.Store) h = refl
+not-compared (phase.Awaiting (access.Read r)) h = refl
+not-compared (phase.Awaiting (access.Write w)) h = refl
+not-compared (phase.Awaiting (access.Verify w)) h = sym h
+not-compared (phase.Awaiting (access.TrialWrite r)) h = refl
+not-compared (phase.Awaiting (access.TrialRead r)) h = sym h
 
 module _ (t : Table) (bs u : List ℕ) where
   -- Says that a turn does not end well.
@@ -72,10 +103,10 @@ module _ (t : Table) (bs u : List ℕ) where
   unfolding statusLeft good
   bad-finish l e s p f h = clash h (good-is (surface 0 []) answer.Finished e s (l .marks .fresh) (partLeft p t bs u) ∙ ap not f)
 
-  -- NO COMMAND FOR A BLOCK ENDS WELL WITHOUT AN ACCESS OF ITS OWN: acting on it does not end it well. Nor does it ask for a trial's read.
-  pub acts-first : (o : Order) (l : State) → (isBlock (o .number) ≡ true → Bad (acted o l t)) × (awaits isTrialRead (acted o l t .state .phase) ≡ false)
+  -- NO COMMAND FOR A BLOCK ENDS WELL WITHOUT AN ACCESS OF ITS OWN: acting on it does not end it well. Nor does it ask for a verify.
+  pub acts-first : (o : Order) (l : State) → (isBlock (o .number) ≡ true → Bad (acted o l t)) × (unread (acted o l t .state .phase) ≡ true)
   acts-first o l =
-      acted-cases (λ (x : Turn). (isBlock (o .number) ≡ true → Bad x) × (awaits isTrialRead (x .state .phase) ≡ false)) o l t
+      acted-cases (λ (x : Turn). (isBlock (o .number) ≡ true → Bad x) × (unread (x .state .phase) ≡ true)) o l t
       (record {
         overrun = λ e. (λ i. bad-finish l _ _ _ refl, refl);
         no-block = λ e f. (λ i. bad-finish l _ _ _ refl, refl);
@@ -85,8 +116,8 @@ module _ (t : Table) (bs u : List ℕ) where
         health = λ e f. (λ i h. not-block 0xFFFFFD refl f i, refl);
         read = λ b e. (λ i h. clash h refl, refl);
         latched = λ b e f. (λ i. bad-finish l _ _ _ refl, refl);
-        plain = λ b e f g. (λ i h. clash h refl, refl);
-        verify = λ b e f g. (λ i h. clash h refl, refl);
+        listed = λ b e f g. (λ i h. clash h refl, refl);
+        write = λ b e f g. (λ i h. clash h refl, refl);
       })
     where
       not-block : (m : ℕ) → isBlock m ≡ false → eqb (o .number) m ≡ true → isBlock (o .number) ≡ true → ⊥
@@ -95,60 +126,81 @@ module _ (t : Table) (bs u : List ℕ) where
   pub needs-access : (o : Order) (l : State) → isBlock (o .number) ≡ true → Bad (acted o l t)
   needs-access o l = acts-first o l .0
 
-  -- A WRITE REPORTED GOOD WAS MADE. A plain write ends well only if its one write was answered 0;
-  pub write-made : (l : State) (a : ℕ) → endsWell (outOf t bs u (writeAnswered l a)) ≡ true → a ≡ 0
-  write-made l a =
-      write-cases (λ (x : Turn). endsWell (outOf t bs u x) ≡ true → a ≡ 0) l a
-      (record { done = λ e h. eqb-true a 0 e; stops = λ e f h. absurd (bad-finish l _ _ _ refl h); fails = λ e f h. absurd (bad-finish l _ _ _ refl h) })
-
-  -- Says that a turn neither ends well nor asks for a trial's read.
+  -- Says that a turn neither ends well nor asks for a verify.
   pub record Fails (x : Turn) : Type 0 where
     pub bad : Bad x
-    pub unchecked : awaits isTrialRead (x .state .phase) ≡ false
+    pub unread : unread (x .state .phase) ≡ true
 
-  -- A trial that failed or was stopped is such a turn.
-  module _ (P : Turn → Type 0) (h : (x : Turn) → Fails x → P x) (l : State) (r : Trial) where
-    ended : (c : Change) (e : Ending) (s : Seen) → fails e ≡ true → Fails (finish l c e s part.Kept)
-    ended c e s f = record { bad = bad-finish l e s part.Kept f; unchecked = refl }
+  -- A sector that failed is left by such a turn, and a trial is stopped by one.
+  module _ (P : Turn → Type 0) (h : (x : Turn) → Fails x → P x) (l : State) where
+    pub ended : (c : Change) (e : Ending) (s : Seen) → fails e ≡ true → P (finish l c e s part.Kept)
+    ended c e s f = h _ (record { bad = bad-finish l e s part.Kept f; unread = refl })
 
-    nexts : (n : ℕ) (c : Change) (s : Seen) → NextAttempt P n l c r s
-    nexts n c s = record { spare = λ e. h _ (record { bad = λ z. clash z refl; unchecked = refl }); no-spare = λ e. h _ (ended c _ s refl) }
+    pub nexts : (n : ℕ) (c : Change) (b : Block) (s : Seen) → NextSpare P n l c b s
+    nexts n c b s = record { spare = λ e. h _ (record { bad = λ z. clash z refl; unread = refl }); no-spare = λ e. ended c _ s refl }
 
-    pub misses : (s : Seen) → Missed P l t r s
-    misses s = record { again = λ e. h _ (record { bad = λ z. clash z refl; unchecked = refl }); dead = λ e f. nexts _ _ s; left = λ e f. nexts _ _ s }
+    pub misses : (r : Trial) (s : Seen) → Missed P l t r s
+    misses r s = record { dead = λ e. nexts _ _ (r .block) s; left = λ e. nexts _ _ (r .block) s }
 
-    pub stops : Stopped P l r
-    stops = record { dead = λ e. h _ (ended _ _ _ refl); present = λ e. h _ (ended _ _ _ refl) }
+    pub stops : (r : Trial) → Stopped P l r
+    stops r = record { dead = λ e. ended _ _ _ refl; present = λ e. ended _ _ _ refl }
 
-  module _ (l : State) (r : Trial) (a : ℕ) where
-    -- a trial's read is asked for only after its write was answered 0,
-    pub attempt-made : awaits isTrialRead (tried l t r a .state .phase) ≡ true → a ≡ 0
-    attempt-made = tried-cases N l t r a (record { done = λ e h. eqb-true a 0 e; stops = λ e. stops N not-read l r; fails = λ e f. misses N not-read l r _ })
+  -- A WRITE REPORTED GOOD WAS MADE. A write command ends well by its write only if that is a plain write's, answered 0;
+  module _ (l : State) (w : Target) (a : ℕ) where
+    pub write-made : endsWell (outOf t bs u (writeAnswered l t w a)) ≡ true → (a ≡ 0) × (w .verify ≡ false)
+    write-made =
+        write-cases N l t w a
+        (record { verifies = λ e f h. clash h refl; done = λ e f h. (eqb-true a 0 e, f); stops = λ e f. ended N not-well l change.Keep _ _ refl; moves = λ e f. nexts N not-well l _ _ (w .block) _ })
       where
         N : Turn → Type 0
-        N x = awaits isTrialRead (x .state .phase) ≡ true → a ≡ 0
+        N x = endsWell (outOf t bs u x) ≡ true → (a ≡ 0) × (w .verify ≡ false)
 
-        not-read : (x : Turn) → Fails x → N x
-        not-read x f h = clash h (f .unchecked)
+        not-well : (x : Turn) → Fails x → N x
+        not-well x f h = absurd (f .bad h)
 
-    -- and ends well only if the read brought the same bytes.
-    pub verify-made : endsWell (outOf t bs u (checked l t r a (eqb a 0 && same bs (dataOf u)))) ≡ true → (a ≡ 0) × (bs ≡ dataOf u)
+    -- by its first verify only if that brought the same bytes;
+    pub verify-made : endsWell (outOf t bs u (verifyAnswered l w a (eqb a 0 && same bs (dataOf u)))) ≡ true → (a ≡ 0) × (bs ≡ dataOf u)
     verify-made =
-        checked-cases N l t r a (eqb a 0 && same bs (dataOf u))
+        verify-cases N l w a (eqb a 0 && same bs (dataOf u))
         (record {
-          verifies = λ e. record { moved = λ f h. made e; listed = λ f g h. made e; stays = λ f g h. made e };
-          stops = λ e f. stops N not-well l r;
-          fails = λ e f. misses N not-well l r _;
+          stops = λ e h. absurd (bad-finish l _ _ _ refl h);
+          done = λ e f h. (eqb-true a 0 (and-left (eqb a 0) (same bs (dataOf u)) f), same-equal bs (dataOf u) (and-right (eqb a 0) (same bs (dataOf u)) f));
+          fails = λ e f h. clash h refl;
         })
       where
         N : Turn → Type 0
         N x = endsWell (outOf t bs u x) ≡ true → (a ≡ 0) × (bs ≡ dataOf u)
 
+  module _ (l : State) (r : Trial) (a : ℕ) where
+    -- a trial's first reread is asked for only after its write was answered 0,
+    pub trial-made : awaits isCompared (tried l t r a .state .phase) ≡ true → a ≡ 0
+    trial-made = tried-cases N l t r a (record { done = λ e h. eqb-true a 0 e; stops = λ e. stops N not-read l r; fails = λ e f. misses N not-read l r _ })
+      where
+        N : Turn → Type 0
+        N x = awaits isCompared (x .state .phase) ≡ true → a ≡ 0
+
+        not-read : (x : Turn) → Fails x → N x
+        not-read x f h = clash h (not-compared (x .state .phase) (f .unread))
+
+    -- and a command ends well by a trial only with its last reread, and at most 30 failures.
+    pub trial-passed : (equal : Bool) → endsWell (outOf t bs u (checked l t r a equal)) ≡ true → (100 ≤ counted r a equal .rereads) × (counted r a equal .failures ≤ 30)
+    trial-passed equal =
+        let x : Trial = counted r a equal in
+        checked-cases N l t r a equal
+        (record {
+          stops = λ e. stops N not-well l r;
+          counts = λ e. record {
+            again = λ f h. clash h refl;
+            passes = λ f g. let z : (100 ≤ x .rereads) × (x .failures ≤ 30) = (ltb-false (x .rereads) 100 f, leb-true (x .failures) 30 g) in record { moved = λ i h. z; listed = λ i j h. z; stays = λ i j h. z };
+            fails = λ f g. misses N not-well l x _;
+          };
+        })
+      where
+        N : Turn → Type 0
+        N x = endsWell (outOf t bs u x) ≡ true → (100 ≤ counted r a equal .rereads) × (counted r a equal .failures ≤ 30)
+
         not-well : (x : Turn) → Fails x → N x
         not-well x f h = absurd (f .bad h)
-
-        made : (eqb a 0 && same bs (dataOf u)) ≡ true → (a ≡ 0) × (bs ≡ dataOf u)
-        made e = (eqb-true a 0 (and-left (eqb a 0) (same bs (dataOf u)) e), same-equal bs (dataOf u) (and-right (eqb a 0) (same bs (dataOf u)) e))
 
 -- Says whether a call finished with "no spare".
 abbrev pub saysNoSpare : Out → Bool
@@ -167,12 +219,14 @@ module _ (l : State) (t : Table) (bs u : List ℕ) where
   unfolding killedNext
   killed-most h = branch (λ (x : Table). 32 ≤ x .nspares) (ltb (t .nspares) 32) (λ e. h) (λ e. ltb-false (t .nspares) 32 e)
 
+  left-full : (b : Block) (s : Seen) → NextSpare Full (t .nspares) l change.Keep b s
+  left-full b s = record { spare = λ g z. clash z refl; no-spare = λ g z. ltb-false (t .nspares) 32 g }
+
   misses-full : (r : Trial) (s : Seen) → Missed Full l t r s
   misses-full r s =
       record {
-        again = λ e z. clash z refl;
-        dead = λ e f. record { spare = λ g z. clash z refl; no-spare = λ g z. killed-most (ltb-false (t .nspares + 1) 32 g) };
-        left = λ e f. record { spare = λ g z. clash z refl; no-spare = λ g z. ltb-false (t .nspares) 32 g };
+        dead = λ e. record { spare = λ g z. clash z refl; no-spare = λ g z. killed-most (ltb-false (t .nspares + 1) 32 g) };
+        left = λ e. left-full (r .block) s;
       }
 
   stops-full : (r : Trial) → Stopped Full l r
@@ -187,12 +241,26 @@ module _ (l : State) (t : Table) (bs u : List ℕ) where
   no-spare-checked r a equal =
       checked-cases Full l t r a equal
       (record {
-        verifies = λ e. record { moved = λ f. quiet ending.Moved _ _ refl; listed = λ f g. quiet ending.Good _ _ refl; stays = λ f g. quiet ending.Good _ _ refl };
-        stops = λ e f. stops-full r;
-        fails = λ e f. misses-full r _;
+        stops = λ e. stops-full r;
+        counts = λ e. record {
+          again = λ f z. clash z refl;
+          passes = λ f g. record { moved = λ i. quiet ending.Moved _ _ refl; listed = λ i j. quiet ending.Good _ _ refl; stays = λ i j. quiet ending.Good _ _ refl };
+          fails = λ f g. misses-full (counted r a equal) _;
+        };
       })
 
-  -- A read does not say so at all.
+  pub no-spare-written : (w : Target) (a : ℕ) → Full (writeAnswered l t w a)
+  unfolding bit
+  no-spare-written w a =
+      write-cases Full l t w a
+      (record { verifies = λ e f z. clash z refl; done = λ e f. quiet ending.Good _ _ refl; stops = λ e f. quiet ending.Latched _ _ refl; moves = λ e f. left-full (w .block) _ })
+
+  -- A first verify and a read do not say so at all.
+  pub no-spare-verified : (w : Target) (a : ℕ) (equal : Bool) → Full (verifyAnswered l w a equal)
+  unfolding bit
+  no-spare-verified w a equal =
+      verify-cases Full l w a equal (record { stops = λ e. quiet ending.Latched _ _ refl; done = λ e f. quiet ending.Good _ _ refl; fails = λ e f z. clash z refl })
+
   pub no-spare-read : (x : Outcome) (p : Part) → Full (reads x l t p)
   unfolding reads bit
   no-spare-read (outcome.Done r) p = quiet ending.Good _ p refl

@@ -16,6 +16,7 @@ use Rattle.table.proofs.Placing.{sectors-apart}
 use Rattle.drive.specs.declared.State.{State}
 use Rattle.drive.specs.declared.Marks.{Marks}
 use Rattle.drive.specs.declared.Retry.{Retry}
+use Rattle.drive.specs.declared.Target.{Target}
 use Rattle.drive.specs.declared.Trial.{Trial}
 use Rattle.drive.specs.declared.Offer.{Offer}
 use Rattle.drive.specs.declared.Offer.the-variants as offer
@@ -88,21 +89,27 @@ pub record Bound (ca : Block → List Bytes) (b : Block) (rd : Bool) (u mine : B
   pub as-read : rd ≡ true → In (dataOf u) (ca b)
   pub as-write : rd ≡ false → dataOf u ≡ mine
 
--- Says that an attempt is on the block's present sector, or on the next unused spare.
+-- Says that a trial is on the block's present sector, or on the next unused spare.
 pub record Spot (t : Table) (b : Block) (r : Trial) : Type 0 where
   pub present : r .spare ≡ false → r .sector ≡ placeOf t b
   pub aside : r .spare ≡ true → (t .nspares < 32) × (r .sector ≡ spareOf (t .nspares))
+
+-- Says that a sector holds the data part, or is unreadable: a write of it was done there.
+abbrev pub Sole : Sectors → Sector → Bytes → Type 0
+Sole σ s u = (y : Bytes) → σ s ≡ held y → y ≡ dataOf u
 
 -- Lists what may be while a command is under way: the access, what is asked, wrote, last read.
 pub data Work (t : Table) (σ : Sectors) (pl : Block → Where) (ca : Block → List Bytes) (b : Block) (rd : Bool) (u mine : Bytes) : Access → Answer → Bool → Where → Type 0 where
   rereads : {r : Retry} {s : Sector} {wr : Bool} {lr : Where} → r .block ≡ b → r .sector ≡ s → s ≡ placeOf t b → rd ≡ true → (r .good ≡ true → σ s ≡ held (dataOf u))
       → Books t σ pl ca Quiet → Work t σ pl ca b rd u mine (access.Read r) (answer.Read s) wr lr
-  writing : {s : Sector} {wr : Bool} {lr : Where} → wr ≡ true → s ≡ placeOf t b → rd ≡ false → dataOf u ≡ mine
-      → Books t σ pl ca Quiet → Work t σ pl ca b rd u mine (access.Write s) (answer.Write s) wr lr
+  writing : {w : Target} {s : Sector} {wr : Bool} {lr : Where} → wr ≡ true → w .block ≡ b → w .sector ≡ s → s ≡ placeOf t b → rd ≡ false → dataOf u ≡ mine
+      → Books t σ pl ca Quiet → Work t σ pl ca b rd u mine (access.Write w) (answer.Write s) wr lr
+  verifying : {w : Target} {s : Sector} {wr : Bool} {lr : Where} → wr ≡ true → lr ≡ at s → w .block ≡ b → w .sector ≡ s → s ≡ placeOf t b → rd ≡ false → dataOf u ≡ mine
+      → Sole σ s u → Books t σ pl ca (Own b (dataOf u)) → Work t σ pl ca b rd u mine (access.Verify w) (answer.Read s) wr lr
   trying : {r : Trial} {s : Sector} {wr : Bool} {lr : Where} → wr ≡ true → r .block ≡ b → r .sector ≡ s → Spot t b r → Bound ca b rd u mine
       → Books t σ pl ca (Own b (dataOf u)) → Work t σ pl ca b rd u mine (access.TrialWrite r) (answer.Write s) wr lr
   checking : {r : Trial} {s : Sector} {wr : Bool} {lr : Where} → wr ≡ true → lr ≡ at s → r .block ≡ b → r .sector ≡ s → Spot t b r → Bound ca b rd u mine
-      → Books t σ pl ca (Own b (dataOf u)) → Work t σ pl ca b rd u mine (access.TrialRead r) (answer.Read s) wr lr
+      → Sole σ s u → Books t σ pl ca (Own b (dataOf u)) → Work t σ pl ca b rd u mine (access.TrialRead r) (answer.Read s) wr lr
 
 -- THE INVARIANT: lists what record, buffer, sectors and history may be together.
 pub data Sim (start : Sectors) : World → History → Type 0 where
@@ -141,9 +148,10 @@ books-apart {t} k b c s ib ic eb ec = sectors-apart (spareList t) b c (k .short)
 work-apart : {t : Table} {σ : Sectors} {pl : Block → Where} {ca : Block → List Bytes} {b : Block} {rd : Bool} {u mine : Bytes} {p : Access} {a : Answer} {wr : Bool} {lr : Where}
     → Work t σ pl ca b rd u mine p a wr lr → Apart pl
 work-apart (rereads eb es ep o g k) = books-apart k
-work-apart (writing w e o g k) = books-apart k
+work-apart (writing w eb er e o g k) = books-apart k
+work-apart (verifying w l eb er e o g h k) = books-apart k
 work-apart (trying w eb e o g k) = books-apart k
-work-apart (checking w l eb e o g k) = books-apart k
+work-apart (checking w l eb e o g h k) = books-apart k
 
 none-apart : {pl : Block → Where} → ((b : Block) → pl b ≡ nowhere) → Apart pl
 none-apart h b c s ib ic eb ec = absurd (not-at (sym (h b) ∙ eb))

@@ -8,6 +8,7 @@ use native.Mathlib.Omega.{arith}
 use lib.Dec.{eqb, ltb, leb}
 use lib.ListN.{take, drop, getD}
 use borrow.Author.Tests.{eqb-true, ltb-true, ltb-false, leb-true}
+use Rattle.geometry.specs.declared.Block.{Block}
 use Rattle.logic.proofs.Bools.{clash, and-left}
 use Rattle.table.specs.declared.Table.{Table}
 use Rattle.drive.specs.declared.Access.{Access}
@@ -25,18 +26,19 @@ use Rattle.drive.specs.declared.Phase.the-variants as phase
 use Rattle.drive.specs.declared.Retry.{Retry}
 use Rattle.drive.specs.declared.Seen.{Seen}
 use Rattle.drive.specs.declared.State.{State}
+use Rattle.drive.specs.declared.Target.{Target}
 use Rattle.drive.specs.declared.Trial.{Trial}
 use Rattle.drive.specs.declared.Turn.{Turn}
 use Rattle.drive.specs.Words.{statusOf}
 use Rattle.drive.specs.Results.{Out, finish, leave, statusLeft}
 use Rattle.drive.specs.Retries.{passed, failed, afterRead}
-use Rattle.drive.specs.Sparing.{tried, checked}
-use Rattle.drive.specs.Access.{reads, writeAnswered, follows}
+use Rattle.drive.specs.Sparing.{tried, counted as reread, checked}
+use Rattle.drive.specs.Access.{reads, writeAnswered, verifyAnswered, follows}
 use Rattle.drive.specs.Bound.{ofCommand, isCommand}
 use Rattle.drive.specs.Over.{Reply, replied, command, Completes}
 use Rattle.drive.specs.Status4.{failures, numbers, leftBy, Status4}
 use Rattle.drive.specs.Views.{ofAnswer}
-use Rattle.records.proofs.Ladders.{NextAttempt, Missed, Stopped, tried-cases, checked-cases, lost-cases, settled-cases, GoesOnReading, after-read-cases, write-cases}
+use Rattle.records.proofs.Ladders.{NextSpare, Missed, Stopped, tried-cases, checked-cases, lost-cases, settled-cases, GoesOnReading, after-read-cases, write-cases, verify-cases}
 use Rattle.demands.proofs.Awaited.{ofPhase, accepted}
 
 -- Returns E at the finish, given the answers that are still to come, the awaited one first.
@@ -44,7 +46,8 @@ abbrev pub counted : List ℕ → Access → ℕ
 counted ys (access.Start k) = 0
 counted ys access.Store = 0
 counted ys (access.Read r) = r .seen .errors + failures (take (r .left) (cond (r .first) (drop 1 ys) ys))
-counted ys (access.Write s) = 0
+counted ys (access.Write w) = 0
+counted ys (access.Verify w) = 0
 counted ys (access.TrialWrite r) = r .seen .errors
 counted ys (access.TrialRead r) = r .seen .errors
 
@@ -89,11 +92,11 @@ module _ (t : Table) (l : State) (bs u : List ℕ) (F : List ℕ → ℕ) where
   ended e s p h = inl (refl, refl, h)
 
   -- sparing,
-  nexts : (n : ℕ) (c : Change) (r : Trial) (s : Seen) → ((ys : List ℕ) → s .errors ≡ F ys) → NextAttempt K n l c r s
-  nexts n c r s h = record { spare = λ e. inr (refl, refl, refl, h); no-spare = λ e. ended _ _ _ (h []) }
+  nexts : (n : ℕ) (c : Change) (b : Block) (s : Seen) → ((ys : List ℕ) → s .errors ≡ F ys) → NextSpare K n l c b s
+  nexts n c b s h = record { spare = λ e. inr (refl, refl, refl, h); no-spare = λ e. ended _ _ _ (h []) }
 
   misses : (r : Trial) (s : Seen) → ((ys : List ℕ) → s .errors ≡ F ys) → Missed K l t r s
-  misses r s h = record { again = λ e. inr (refl, refl, refl, h); dead = λ e f. nexts _ _ r s h; left = λ e f. nexts _ _ r s h }
+  misses r s h = record { dead = λ e. nexts _ _ (r .block) s h; left = λ e. nexts _ _ (r .block) s h }
 
   stops : (r : Trial) → r .seen .errors ≡ F [] → Stopped K l r
   stops r h = record { dead = λ e. ended _ _ _ h; present = λ e. ended _ _ _ h }
@@ -105,14 +108,22 @@ module _ (t : Table) (l : State) (bs u : List ℕ) (F : List ℕ → ℕ) where
   checks r a equal h =
       checked-cases K l t r a equal
       (record {
-        verifies = λ e. record { moved = λ f. ended _ _ _ (h []); listed = λ f g. ended _ _ _ (h []); stays = λ f g. ended _ _ _ (h []) };
-        stops = λ e f. stops r (h []);
-        fails = λ e f. misses r _ h;
+        stops = λ e. stops r (h []);
+        counts = λ e. record {
+          again = λ f. inr (refl, refl, refl, h);
+          passes = λ f g. record { moved = λ i. ended _ _ _ (h []); listed = λ i j. ended _ _ _ (h []); stays = λ i j. ended _ _ _ (h []) };
+          fails = λ f g. misses (reread r a equal) _ h;
+        };
       })
 
-  -- a plain write, which counts none,
-  writes : (a : ℕ) → 0 ≡ F [] → K (writeAnswered l a)
-  writes a h = write-cases K l a (record { done = λ e. ended _ _ _ h; stops = λ e f. ended _ _ _ h; fails = λ e f. ended _ _ _ h })
+  -- a write command's write and its verify, which count none,
+  writes : (w : Target) (a : ℕ) → ((ys : List ℕ) → 0 ≡ F ys) → K (writeAnswered l t w a)
+  writes w a h =
+      write-cases K l t w a
+      (record { verifies = λ e f. inr (refl, refl, refl, h); done = λ e f. ended _ _ _ (h []); stops = λ e f. ended _ _ _ (h []); moves = λ e f. nexts _ _ (w .block) _ h })
+
+  verifies : (w : Target) (a : ℕ) (equal : Bool) → ((ys : List ℕ) → 0 ≡ F ys) → K (verifyAnswered l w a equal)
+  verifies w a equal h = verify-cases K l w a equal (record { stops = λ e. ended _ _ _ (h []); done = λ e f. ended _ _ _ (h []); fails = λ e f. inr (refl, refl, refl, h) })
 
   -- and a read that goes on, with the failures of the rereads that are left.
   module _ (q : Part) (r : Retry) (f : r .first ≡ false) (h : (ys : List ℕ) → r .seen .errors + failures (take (r .left) ys) ≡ F ys) where
@@ -187,7 +198,8 @@ module _ (t : Table) (l : State) (bs u : List ℕ) (a : ℕ) where
   counts (access.Start k) c h equal = clash c refl
   counts access.Store c h equal = clash c refl
   counts (access.Read r) c h equal = reads-on r _ h
-  counts (access.Write s) c h equal = writes t l bs u _ a refl
+  counts (access.Write w) c h equal = writes t l bs u _ w a (λ ys. refl)
+  counts (access.Verify w) c h equal = verifies t l bs u _ w a equal (λ ys. refl)
   counts (access.TrialWrite r) c h equal = tries t l bs u _ r a (λ ys. refl)
   counts (access.TrialRead r) c h equal = checks t l bs u _ r a equal (λ ys. refl)
 

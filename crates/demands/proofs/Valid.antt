@@ -9,6 +9,8 @@ use lib.ListN.{length, take, drop, length-append, length-take, length-drop, repl
 use lib.Seq.{length-take-le}
 use borrow.Author.Tests.{eq-eqb, ltb-true, ltb-false, le-leb, leb-true, not-false}
 use Rattle.geometry.specs.Geometry.{isBlock, isSector, spareOf}
+use Rattle.geometry.specs.declared.Block.{Block}
+use Rattle.geometry.specs.declared.Sector.{Sector}
 use Rattle.geometry.proofs.Laws.{spare-sector}
 use Rattle.logic.proofs.Bools.{and-left, and-right, and-true}
 use Rattle.table.specs.declared.Table.{Table}
@@ -31,6 +33,7 @@ use Rattle.drive.specs.declared.Order.{Order}
 use Rattle.drive.specs.declared.Offer.the-variants as offer
 use Rattle.drive.specs.declared.Access.{Access}
 use Rattle.drive.specs.declared.Access.the-variants as access
+use Rattle.drive.specs.declared.Answer.the-variants as answer
 use Rattle.drive.specs.declared.Part.{Part}
 use Rattle.drive.specs.declared.Turn.{Turn}
 use Rattle.drive.specs.declared.Phase.{Phase}
@@ -38,16 +41,16 @@ use Rattle.drive.specs.declared.Phase.the-variants as phase
 use Rattle.drive.specs.declared.Change.{Change}
 use Rattle.drive.specs.declared.Change.the-variants as change
 use Rattle.drive.specs.declared.Outcome.{Outcome}
-use Rattle.drive.specs.Records.{retryOk, trialOk, accessOk, phaseOk, stateOk, recordOk}
-use Rattle.drive.specs.Results.{changed, withMarks, guarded}
+use Rattle.drive.specs.Records.{retryOk, targetOk, trialOk, accessOk, phaseOk, stateOk, recordOk}
+use Rattle.drive.specs.Results.{changed, inPhase, withMarks, say, onPresent, guarded}
 use Rattle.drive.specs.Words.{kindOf, orderOf, blockOf}
 use Rattle.drive.specs.Handshake.{offerFor, offers, raised, acted, goesOn, lowered, fedTo, rested}
 use Rattle.drive.specs.Retries.{met, passed, failed, isReread, afterRead}
-use Rattle.drive.specs.Sparing.{onSpare, once, tried, checked}
+use Rattle.drive.specs.Sparing.{onSpare, tried, counted, checked}
 use Rattle.drive.specs.Access.{asksRead, startAnswered, storeAnswered, reads, follows, answered}
 use Rattle.drive.specs.Calls.{Call, raise, lower, feed, surface, reset, raiseOf, lowerOf, feedOf, surfaceOf, resetOf, stepOf, started, startOf}
 use Rattle.drive.specs.Values.{Bytewise, Typed, TypedCall, TypedCalls, NoCode1, Code1Never}
-use Rattle.records.proofs.Ladders.{OnBlock, acted-cases, guarded-cases, fitting-cases, raised-idle-cases, lowered-cases, NextAttempt, Missed, Stopped, Verified, tried-cases, checked-cases, start-cases, Lost, lost-cases, settled-cases, GoesOnReading, after-read-cases, write-cases}
+use Rattle.records.proofs.Ladders.{OnBlock, acted-cases, guarded-cases, fitting-cases, raised-idle-cases, lowered-cases, NextSpare, Missed, Stopped, Verified, tried-cases, checked-cases, start-cases, Lost, lost-cases, settled-cases, GoesOnReading, after-read-cases, write-cases, verify-cases}
 use Rattle.demands.proofs.Numbers.{on-block}
 use Rattle.demands.proofs.Busy.{killed-count}
 use Rattle.demands.proofs.Refusals.{code-1-only}
@@ -99,7 +102,7 @@ fine-ok d f = rw (f .table, le-leb (d .state .count) 6 (f .count), le-leb (d .st
 pub fine-typed : (d : Drive) → Fine (d .table) (d .state) → Typed d
 fine-typed d f = record { table = f .shaped; full = f .full; bytes = f .bytes }
 
--- Says, part by part, that a retry and a trial pass code 1's tests.
+-- Says, part by part, that a retry, a target and a trial pass code 1's tests.
 pub record RetryFacts (r : Retry) : Type 0 where
   pub block : isBlock (r .block .0) ≡ true
   pub sector : isSector (r .sector .0) ≡ true
@@ -124,7 +127,8 @@ retry-ok r f = rw (f .block, f .sector, le-leb (r .seen .errors + r .left) 255 (
 pub record TrialFacts (n : ℕ) (r : Trial) : Type 0 where
   pub block : isBlock (r .block .0) ≡ true
   pub sector : isSector (r .sector .0) ≡ true
-  pub few : r .attempts ≤ 2
+  pub few : r .rereads ≤ 100
+  pub fewer : r .failures ≤ r .rereads
   pub spot : (not (r .spare) || (ltb n 32 && eqb (r .sector .0) (spareOf n .0))) ≡ true
 
 pub trial-facts : (n : ℕ) (r : Trial) → trialOk n r ≡ true → TrialFacts n r
@@ -132,18 +136,31 @@ unfolding trialOk
 trial-facts n r h =
     let a = isBlock (r .block .0) in
     let b = isSector (r .sector .0) in
-    let c = leb (r .attempts) 2 in
-    let d = not (r .spare) || (ltb n 32 && eqb (r .sector .0) (spareOf n .0)) in
-    let abc = and-left (a && b && c) d h in
+    let c = leb (r .rereads) 100 in
+    let d = leb (r .failures) (r .rereads) in
+    let e = not (r .spare) || (ltb n 32 && eqb (r .sector .0) (spareOf n .0)) in
+    let abcd = and-left (a && b && c && d) e h in
+    let abc = and-left (a && b && c) d abcd in
     let ab = and-left (a && b) c abc in
-    record { block = and-left a b ab; sector = and-right a b ab; few = leb-true (r .attempts) 2 (and-right (a && b) c abc); spot = and-right (a && b && c) d h }
+    record {
+      block = and-left a b ab;
+      sector = and-right a b ab;
+      few = leb-true (r .rereads) 100 (and-right (a && b) c abc);
+      fewer = leb-true (r .failures) (r .rereads) (and-right (a && b && c) d abcd);
+      spot = and-right (a && b && c && d) e h;
+    }
 
-trial-ok : (n : ℕ) (r : Trial) → TrialFacts n r → trialOk n r ≡ true
+pub trial-ok : (n : ℕ) (r : Trial) → TrialFacts n r → trialOk n r ≡ true
 unfolding trialOk
-trial-ok n r f = rw (f .block, f .sector, le-leb (r .attempts) 2 (f .few)) (f .spot)
+trial-ok n r f = rw (f .block, f .sector, le-leb (r .rereads) 100 (f .few), le-leb (r .failures) (r .rereads) (f .fewer)) (f .spot)
 
 pub on-spare : (n : ℕ) (r : Trial) → TrialFacts n r → r .spare ≡ true → n < 32
 on-spare n r f e = let s = rw e at (f .spot) in ltb-true n 32 (and-left (ltb n 32) (eqb (r .sector .0) (spareOf n .0)) s)
+
+-- A reread that is counted is one more, and at most one more failure.
+pub one-more : (q : Bool) {x y : ℕ} → x ≤ y → x + cond q 0 1 ≤ y + 1
+one-more true h = omega arith
+one-more false h = omega arith
 
 spares-few : (t : Table) → tableOk t ≡ true → length (spareList t) ≤ 32
 spares-few t k = omega (arith, length-take (t .nspares) (t .spares), passes t k .few-spares)
@@ -199,6 +216,10 @@ module _ (t : Table) (l : State) (f : Fine t l) where
     at-sector : OnBlock o l → isSector (sectorOf (spareList t) (blockOf o) .0) ≡ true
     at-sector b = sector-in-range (spareList t) (blockOf o) (spares-few t (f .table)) (on-block b)
 
+    -- The trial of a present sector passes.
+    on-present : (b : Block) (s : Sector) (x : Seen) → isBlock (b .0) ≡ true → isSector (s .0) ≡ true → trialOk (t .nspares) (onPresent b s x) ≡ true
+    on-present b s x i j = trial-ok (t .nspares) (onPresent b s x) (record { block = i; sector = j; few = omega arith; fewer = omega arith; spot = refl })
+
     acts : Ok (acted o l t)
     acts =
         acted-cases Ok o l t
@@ -211,8 +232,8 @@ module _ (t : Table) (l : State) (f : Fine t l) where
           health = λ e f. idle-again _;
           read = λ b e. to (l .marks) _ (and-true (l .marks .known) _ (known b) (retry-ok _ (record { block = on-block b; sector = at-sector b; sum = omega (arith, f .bytes 4); spent = omega arith })));
           latched = λ b e f. idle-again _;
-          plain = λ b e f g. to (l .marks) _ (and-true (l .marks .known) _ (known b) (at-sector b));
-          verify = λ b e f g. to (l .marks) _ (and-true (l .marks .known) _ (known b) (trial-ok (t .nspares) _ (record { block = on-block b; sector = at-sector b; few = omega arith; spot = refl })));
+          listed = λ b e f g. to _ _ (and-true (l .marks .known) _ (known b) (on-present _ _ _ (on-block b) (at-sector b)));
+          write = λ b e f g. to (l .marks) _ (and-true (l .marks .known) _ (known b) (and-true (isBlock (blockOf o .0)) _ (on-block b) (at-sector b)));
         })
 
     goes : (o : Offer) → Ok (goesOn o l t)
@@ -282,22 +303,22 @@ module _ (t : Table) (l : State) (f : Fine t l) where
     stores a = record { table = f .table; shaped = f .shaped; count = omega arith; fed = omega arith; phase = refl; full = f .full; bytes = f .bytes }
 
     -- SPARING: a turn may try spare m of the table as it is by then.
-    next-spare : (ch : Change) (m : ℕ) (r : Trial) (s : Seen) → l .marks .known ≡ true → isBlock (r .block .0) ≡ true → tableOk (changed ch t bs) ≡ true → Shaped (changed ch t bs) → changed ch t bs .nspares ≡ m
-        → NextAttempt Ok m l ch r s
-    next-spare ch m r s kn i k sh em =
+    next-spare : (ch : Change) (m : ℕ) (b : Block) (s : Seen) → l .marks .known ≡ true → isBlock (b .0) ≡ true → tableOk (changed ch t bs) ≡ true → Shaped (changed ch t bs) → changed ch t bs .nspares ≡ m
+        → NextSpare Ok m l ch b s
+    next-spare ch m b s kn i k sh em =
         record {
           spare = λ e. onto (changed ch t bs) k sh _ _ (and-true (l .marks .known) _ kn
-              (trial-ok (changed ch t bs .nspares) (onSpare m r s) (record { block = i; sector = spare-sector m (ltb-true m 32 e); few = omega arith; spot = rw (em, e) (eq-eqb (spareOf m .0) (spareOf m .0) refl) })));
+              (trial-ok (changed ch t bs .nspares) (onSpare m b s)
+              (record { block = i; sector = spare-sector m (ltb-true m 32 e); few = omega arith; fewer = omega arith; spot = rw (em, e) (eq-eqb (spareOf m .0) (spareOf m .0) refl) })));
           no-spare = λ e. onto (changed ch t bs) k sh _ phase.Idle refl;
         }
 
-    module _ (kn : l .marks .known ≡ true) (r : Trial) (w : TrialFacts (t .nspares) r) where
+    module _ (kn : l .marks .known ≡ true) (r : Trial) (i : isBlock (r .block .0) ≡ true) (room : r .spare ≡ true → t .nspares < 32) where
       misses : (s : Seen) → Missed Ok l t r s
       misses s =
           record {
-            again = λ e. to _ _ (and-true (l .marks .known) _ kn (trial-ok (t .nspares) (once r s) (record { block = w .block; sector = w .sector; few = omega (arith, ltb-true (r .attempts) 2 e); spot = w .spot })));
-            dead = λ e z. next-spare change.Kill (t .nspares + 1) r s kn (w .block) (killed-ok t (f .shaped) (f .table)) (killed-shaped t (f .shaped)) (killed-count t (on-spare (t .nspares) r w z));
-            left = λ e z. next-spare change.Keep (t .nspares) r s kn (w .block) (f .table) (f .shaped) refl;
+            dead = λ z. next-spare change.Kill (t .nspares + 1) (r .block) s kn i (killed-ok t (f .shaped) (f .table)) (killed-shaped t (f .shaped)) (killed-count t (room z));
+            left = λ z. next-spare change.Keep (t .nspares) (r .block) s kn i (f .table) (f .shaped) refl;
           }
 
       stops : Stopped Ok l r
@@ -307,23 +328,34 @@ module _ (t : Table) (l : State) (f : Fine t l) where
       verifies =
           record {
             moved = λ z. onto (withoutBad (listed t (r .block)) (r .block))
-                (removed-ok (listed t (r .block)) (r .block) (listed-shaped t (r .block) (f .shaped)) (listed-ok t (r .block) (f .shaped) (w .block) (f .table)))
+                (removed-ok (listed t (r .block)) (r .block) (listed-shaped t (r .block) (f .shaped)) (listed-ok t (r .block) (f .shaped) i (f .table)))
                 (removed-shaped (listed t (r .block)) (r .block) (listed-shaped t (r .block) (f .shaped))) _ phase.Idle refl;
             listed = λ z y. onto (withoutBad t (r .block)) (removed-ok t (r .block) (f .shaped) (f .table)) (removed-shaped t (r .block) (f .shaped)) _ phase.Idle refl;
             stays = λ z y. idle-again _;
           }
 
+    module _ (kn : l .marks .known ≡ true) (r : Trial) (w : TrialFacts (t .nspares) r) where
+      room : r .spare ≡ true → t .nspares < 32
+      room = on-spare (t .nspares) r w
+
+      rereads : (x : Trial) → TrialFacts (t .nspares) x → Ok (say (inPhase l (phase.Awaiting (access.TrialRead x))) (answer.Read (x .sector)))
+      rereads x y = to (l .marks) (phase.Awaiting (access.TrialRead x)) (and-true (l .marks .known) _ kn (trial-ok (t .nspares) x y))
+
       tries : (a : ℕ) → Ok (tried l t r a)
-      tries a =
-          tried-cases Ok l t r a
-          (record {
-            done = λ e. to (l .marks) (phase.Awaiting (access.TrialRead r)) (and-true (l .marks .known) _ kn (trial-ok (t .nspares) r w));
-            stops = λ e. stops;
-            fails = λ e z. misses (met a (r .seen));
-          })
+      tries a = tried-cases Ok l t r a (record { done = λ e. rereads r w; stops = λ e. stops kn r (w .block) room; fails = λ e z. misses kn r (w .block) room (met a (r .seen)) })
 
       checks : (a : ℕ) (q : Bool) → Ok (checked l t r a q)
-      checks a q = checked-cases Ok l t r a q (record { verifies = λ e. verifies; stops = λ e z. stops; fails = λ e z. misses (met (cond (eqb a 0) 1 a) (r .seen)) })
+      checks a q =
+          let x : Trial = counted r a q in
+          checked-cases Ok l t r a q
+          (record {
+            stops = λ e. stops kn r (w .block) room;
+            counts = λ e. record {
+              again = λ z. rereads x (record { block = w .block; sector = w .sector; few = omega (arith, ltb-true (x .rereads) 100 z); fewer = one-more q (w .fewer); spot = w .spot });
+              passes = λ z y. verifies kn x (w .block) room;
+              fails = λ z y. misses kn x (w .block) room (x .seen);
+            };
+          })
 
     -- RETRIES
     module _ (kn : l .marks .known ≡ true) (v : Part) where
@@ -348,7 +380,7 @@ module _ (t : Table) (l : State) (f : Fine t l) where
                 (record {
                   below = λ e. idle-again _;
                   latched = λ e z. idle-again _;
-                  tries = λ e z. to (l .marks) _ (and-true (l .marks .known) _ kn (trial-ok (t .nspares) _ (record { block = i; sector = s; few = omega arith; spot = refl })));
+                  tries = λ e z. to _ _ (and-true (l .marks .known) _ kn (on-present _ _ _ i s));
                 });
             further = λ e z y. again (omega (arith, ltb-true (r .spent) 90 y));
             loses = λ e z y. lost-cases Ok l t r v (loses r i);
@@ -391,7 +423,22 @@ module _ (t : Table) (l : State) (f : Fine t l) where
     follow (access.Start k) h a q = starts k a
     follow access.Store h a q = stores a
     follow (access.Read r) h a q = reads-on (and-left (l .marks .known) (retryOk r) h) r (retry-facts r (and-right (l .marks .known) (retryOk r) h)) a _
-    follow (access.Write s) h a q = write-cases Ok l a (record { done = λ e. idle-again _; stops = λ e z. idle-again _; fails = λ e z. idle-again _ })
+    follow (access.Write w) h a q =
+        let k = and-left (l .marks .known) (targetOk w) h in
+        let x = and-right (l .marks .known) (targetOk w) h in
+        write-cases Ok l t w a
+        (record {
+          verifies = λ e z. to (l .marks) (phase.Awaiting (access.Verify w)) h;
+          done = λ e z. idle-again _;
+          stops = λ e z. idle-again _;
+          moves = λ e z. next-spare change.Keep (t .nspares) (w .block) _ k (and-left (isBlock (w .block .0)) (isSector (w .sector .0)) x) (f .table) (f .shaped) refl;
+        })
+    follow (access.Verify w) h a q =
+        let k = and-left (l .marks .known) (targetOk w) h in
+        let x = and-right (l .marks .known) (targetOk w) h in
+        let i = isBlock (w .block .0) in
+        let j = isSector (w .sector .0) in
+        verify-cases Ok l w a q (record { stops = λ e. idle-again _; done = λ e z. idle-again _; fails = λ e z. to _ _ (and-true (l .marks .known) _ k (on-present _ _ _ (and-left i j x) (and-right i j x))) })
     follow (access.TrialWrite r) h a q = tries (and-left (l .marks .known) (trialOk (t .nspares) r) h) r (trial-facts (t .nspares) r (and-right (l .marks .known) (trialOk (t .nspares) r) h)) a
     follow (access.TrialRead r) h a q = checks (and-left (l .marks .known) (trialOk (t .nspares) r) h) r (trial-facts (t .nspares) r (and-right (l .marks .known) (trialOk (t .nspares) r) h)) a q
 

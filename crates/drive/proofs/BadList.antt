@@ -17,11 +17,12 @@ use Rattle.drive.specs.declared.Status.the-variants as status
 use Rattle.drive.specs.declared.Part.the-variants as part
 use Rattle.drive.specs.declared.Turn.{Turn}
 use Rattle.drive.specs.Results.{withMarks}
+use Rattle.drive.specs.Sparing.{verified}
 use Rattle.drive.specs.Access.{lost}
 use Rattle.drive.specs.Calls.{raise, lower, reset, raiseOf}
 use Rattle.drive.proofs.Computing.{computed}
 use Rattle.drive.proofs.Transcripts.{_⇒_, key, Run, Happens, happens, bytes, disk, sector, go, gives, done, timesOut, unsettled, found, opens, stores, asksWrite, asksTable, elevenTimeouts, wait, offer, read, write, store, finished}
-use Rattle.drive.proofs.Codes.{table, with}
+use Rattle.drive.proofs.Codes.{table, with, trialOf}
 
 -- The block is entered in the bad list. A store that times out is made again at the next raise; one that is done is not.
 abbrev storedOnce : Run
@@ -40,24 +41,6 @@ storedOnce =
 pub a-done-store-is-not-made-again : (old : Drive) → Happens old storedOnce
 unfolding computed
 a-done-store-is-not-made-again old = happens old storedOnce refl
-
--- A write to a block in the bad list is write/verify. It removes the block.
-abbrev leavesTheBadList : Run
-leavesTheBadList =
-    record {
-      sectors = disk [] [];
-      exchanges =
-          found [] [] ++ elevenTimeouts
-          ++ stores ++ asksWrite 1 17 (bytes 1) ++ (go ⇒ write 17 ∷ done ⇒ read 17 ∷ gives 1 ⇒ finished 0x00 0x00 0x00 0 ∷ [])
-          ++ stores ++ asksTable 0x00;
-      part = imageOf [] [];
-      place = sector 17;
-      candidates = bytes 1 ∷ [];
-    }
-
-pub a-write-that-verifies-leaves-the-bad-list : (old : Drive) → Happens old leavesTheBadList
-unfolding computed
-a-write-that-verifies-leaves-the-bad-list old = happens old leavesTheBadList refl
 
 -- A listed block is not listed again, and marks nothing.
 abbrev listedAlready : Run
@@ -136,6 +119,25 @@ full =
       listed-at-100 = (refl, refl, refl, refl);
       entered-under-the-latch = (refl, refl, refl, refl);
     }
+
+-- A TRIAL THAT PASSED, computed without the calls
+
+-- Ends the trial of block 17, at its sector or at spare 0, with this bad list.
+abbrev passedWith : Bool → List ℕ → ℕ → Turn
+passedWith spare bads m = let d = with (table [] 0 bads m) true 6 0 phase.Idle in verified (d .state) (d .table) (trialOf 17 17 spare 100 30)
+
+-- Says what it does to the table, and that it is good with this status 2.
+abbrev Ends : Turn → Change → ℕ → Type 0
+Ends x c two = (x .change ≡ c) × (x .leaves .status ≡ status.Written (record { 0 = 0x00; 1 = two; 2 = 0x00; 3 = 0 }))
+
+pub record Passed : Type 0 where
+  pub listed : Ends (passedWith false (5 ∷ 17 ∷ []) 2) (change.Remove key) 0x00
+  pub not-listed : Ends (passedWith false (5 ∷ []) 1) change.Keep 0x00
+  pub moved : Ends (passedWith true (5 ∷ 17 ∷ []) 2) (change.Move key) 0x04
+
+pub passed : Passed
+unfolding computed
+passed = record { listed = (refl, refl); not-listed = (refl, refl); moved = (refl, refl) }
 
 -- A table that is not known is not stored, though it is marked changed; no call returns such a record.
 pub a-table-that-is-not-known-is-not-stored :

@@ -7,6 +7,7 @@ use lib.ListN.{replicate}
 use Rattle.lists.specs.Lists.{dead}
 use Rattle.table.specs.declared.Table.{Table}
 use Rattle.drive.specs.declared.Drive.{Drive}
+use Rattle.drive.specs.declared.Target.{Target}
 use Rattle.drive.specs.declared.Trial.{Trial}
 use Rattle.drive.specs.declared.Offer.the-variants as offer
 use Rattle.drive.specs.declared.Access.{Access}
@@ -47,9 +48,13 @@ abbrev pub retry : ℕ → ℕ → ℕ → ℕ → ℕ → Access
 retry b s errors left spent =
     access.Read (record { block = record { 0 = b }; sector = record { 0 = s }; first = false; left = left; spent = spent; threshold = 0; good = false; seen = record { errors = errors; crc = false; timeout = false } })
 
--- Returns an attempt for block b at sector s.
-abbrev pub trial : ℕ → ℕ → Bool → ℕ → Trial
-trial b s spare n = record { block = record { 0 = b }; sector = record { 0 = s }; spare = spare; attempts = n; seen = record { errors = 0; crc = false; timeout = false } }
+-- Returns a write of block b at sector s.
+abbrev pub target : ℕ → ℕ → Target
+target b s = record { block = record { 0 = b }; sector = record { 0 = s }; verify = true }
+
+-- Returns the trial of sector s for block b, with so many rereads and failures.
+abbrev pub trialOf : ℕ → ℕ → Bool → ℕ → ℕ → Trial
+trialOf b s spare n k = record { block = record { 0 = b }; sector = record { 0 = s }; spare = spare; rereads = n; failures = k; seen = record { errors = 0; crc = false; timeout = false } }
 
 abbrev Passes : Drive → Type 0
 Passes d = recordOk d ≡ true
@@ -71,28 +76,29 @@ pub record Code1 : Type 0 where
   -- "any access but the start's awaited with no table"
   pub store : Passes (awaiting true access.Store) × Fails (awaiting false access.Store)
   pub read : Passes (awaiting true (retry 9727 9791 100 155 89)) × Fails (awaiting false (retry 9727 9791 100 155 89))
-  pub write : Passes (awaiting true (access.Write (record { 0 = 9791 }))) × Fails (awaiting false (access.Write (record { 0 = 9791 })))
-  pub attempt : Passes (awaiting true (access.TrialWrite (trial 9727 9791 false 2))) × Fails (awaiting false (access.TrialWrite (trial 9727 9791 false 2)))
-  pub verify : Passes (awaiting true (access.TrialRead (trial 9727 9791 false 2))) × Fails (awaiting false (access.TrialRead (trial 9727 9791 false 2)))
+  pub write : Passes (awaiting true (access.Write (target 9727 9791))) × Fails (awaiting false (access.Write (target 9727 9791)))
+  pub verify : Passes (awaiting true (access.Verify (target 9727 9791))) × Fails (awaiting false (access.Verify (target 9727 9791)))
+  pub trial-write : Passes (awaiting true (access.TrialWrite (trialOf 9727 9791 false 100 100))) × Fails (awaiting false (access.TrialWrite (trialOf 9727 9791 false 100 100)))
+  pub reread : Passes (awaiting true (access.TrialRead (trialOf 9727 9791 false 100 100))) × Fails (awaiting false (access.TrialRead (trialOf 9727 9791 false 100 100)))
   -- "a pending sector or block out of range"
   pub read-block : Fails (awaiting true (retry 9728 0 0 0 0))
   pub read-sector : Fails (awaiting true (retry 0 9792 0 0 0))
-  pub write-sector : Fails (awaiting true (access.Write (record { 0 = 9792 })))
-  pub attempt-block : Fails (awaiting true (access.TrialWrite (trial 9728 0 false 1)))
-  pub attempt-sector : Fails (awaiting true (access.TrialWrite (trial 0 9792 false 1)))
-  pub verify-block : Fails (awaiting true (access.TrialRead (trial 9728 0 false 1)))
-  pub verify-sector : Fails (awaiting true (access.TrialRead (trial 0 9792 false 1)))
+  pub write-block : Fails (awaiting true (access.Write (target 9728 0))) × Fails (awaiting true (access.Verify (target 9728 0)))
+  pub write-sector : Fails (awaiting true (access.Write (target 0 9792))) × Fails (awaiting true (access.Verify (target 0 9792)))
+  pub trial-block : Fails (awaiting true (access.TrialWrite (trialOf 9728 0 false 0 0))) × Fails (awaiting true (access.TrialRead (trialOf 9728 0 false 0 0)))
+  pub trial-sector : Fails (awaiting true (access.TrialWrite (trialOf 0 9792 false 0 0))) × Fails (awaiting true (access.TrialRead (trialOf 0 9792 false 0 0)))
   -- "E plus rereads left above 255, spent above 89 while a read is awaited"
   pub errors-and-rereads : Fails (awaiting true (retry 0 0 100 156 0)) × Fails (awaiting true (retry 0 0 1 255 0)) × Passes (awaiting true (retry 0 0 0 255 0))
   pub spent : Passes (awaiting true (retry 0 0 0 0 89)) × Fails (awaiting true (retry 0 0 0 0 90))
-  -- "attempts above 2"
-  pub attempts : Fails (awaiting true (access.TrialWrite (trial 0 0 false 3))) × Fails (awaiting true (access.TrialRead (trial 0 0 false 3)))
+  -- "a trial's rereads, at most 100, and failures, at most the rereads made"
+  pub rereads : Fails (awaiting true (access.TrialWrite (trialOf 0 0 false 101 0))) × Fails (awaiting true (access.TrialRead (trialOf 0 0 false 101 0)))
+  pub failures : Fails (awaiting true (access.TrialWrite (trialOf 0 0 false 0 1))) × Fails (awaiting true (access.TrialRead (trialOf 0 0 false 99 100)))
   -- "a spare under trial other than the next unused"
-  pub next-spare : Passes (awaiting true (access.TrialWrite (trial 0 4928 true 1))) × Fails (awaiting true (access.TrialWrite (trial 0 4929 true 1)))
-  pub next-verified : Passes (awaiting true (access.TrialRead (trial 0 4928 true 1))) × Fails (awaiting true (access.TrialRead (trial 0 4929 true 1)))
-  pub spare-before : Fails (with (table (dead ∷ []) 1 (5 ∷ 6 ∷ []) 2) true 0 0 (phase.Awaiting (access.TrialWrite (trial 0 4928 true 1))))
-  pub last-spare : Passes (with (table (replicate 31 dead) 31 [] 0) true 0 0 (phase.Awaiting (access.TrialWrite (trial 0 4959 true 1))))
-  pub no-spare : Fails (with (table (replicate 32 dead) 32 [] 0) true 0 0 (phase.Awaiting (access.TrialWrite (trial 0 4960 true 1))))
+  pub next-spare : Passes (awaiting true (access.TrialWrite (trialOf 0 4928 true 0 0))) × Fails (awaiting true (access.TrialWrite (trialOf 0 4929 true 0 0)))
+  pub next-verified : Passes (awaiting true (access.TrialRead (trialOf 0 4928 true 0 0))) × Fails (awaiting true (access.TrialRead (trialOf 0 4929 true 0 0)))
+  pub spare-before : Fails (with (table (dead ∷ []) 1 (5 ∷ 6 ∷ []) 2) true 0 0 (phase.Awaiting (access.TrialWrite (trialOf 0 4928 true 0 0))))
+  pub last-spare : Passes (with (table (replicate 31 dead) 31 [] 0) true 0 0 (phase.Awaiting (access.TrialWrite (trialOf 0 4959 true 0 0))))
+  pub no-spare : Fails (with (table (replicate 32 dead) 32 [] 0) true 0 0 (phase.Awaiting (access.TrialWrite (trialOf 0 4960 true 0 0))))
   -- "record with lists not well formed", in every record
   pub marks-and-both-lists : Passes (lists (dead ∷ 9727 ∷ dead ∷ []) 3 (9727 ∷ []) 1)
   pub spares-33 : Passes (lists (replicate 32 dead) 32 [] 0) × Fails (lists (replicate 33 dead) 33 [] 0)
@@ -112,18 +118,19 @@ code-1 =
       store = (refl, refl);
       read = (refl, refl);
       write = (refl, refl);
-      attempt = (refl, refl);
       verify = (refl, refl);
+      trial-write = (refl, refl);
+      reread = (refl, refl);
       read-block = refl;
       read-sector = refl;
-      write-sector = refl;
-      attempt-block = refl;
-      attempt-sector = refl;
-      verify-block = refl;
-      verify-sector = refl;
+      write-block = (refl, refl);
+      write-sector = (refl, refl);
+      trial-block = (refl, refl);
+      trial-sector = (refl, refl);
       errors-and-rereads = (refl, refl, refl);
       spent = (refl, refl);
-      attempts = (refl, refl);
+      rereads = (refl, refl);
+      failures = (refl, refl);
       next-spare = (refl, refl);
       next-verified = (refl, refl);
       spare-before = refl;
@@ -192,7 +199,7 @@ pub record InOrder : Type 0 where
       × (codeOfCall raise (at true phase.Idle) 536 ≡ 0)
       × (codeOfCall (lower 0x00) (at true (phase.Offered offer.Command)) 536 ≡ 0)
       × (codeOfCall (surface 2 []) starting 536 ≡ 0)
-      × (codeOfCall (surface 2 []) (awaiting true (access.TrialWrite (trial 0 0 false 1))) 536 ≡ 0)
+      × (codeOfCall (surface 2 []) (awaiting true (access.TrialWrite (trialOf 0 0 false 0 0))) 536 ≡ 0)
       × (codeOfCall raise unstored 536 ≡ 0)
       × (codeOfImage (at true phase.Idle) 532 ≡ 0)
 

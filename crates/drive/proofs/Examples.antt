@@ -64,10 +64,10 @@ reading r t cs = run ready (replicate 536 0) (asks r t cs)
 abbrev pub Ended : Out → List ℕ → Type 0
 Ended x status = (x .step .answer ≡ answer.Finished) × (take 4 (x .bytes) ≡ status)
 
--- Awaits the write of the first attempt on the present sector, with one error met: a move begins.
+-- Awaits the write of the trial of the present sector, with one error met. Document 02, request 4: what was a move begins so.
 abbrev pub moving : Phase
 moving =
-    phase.Awaiting (access.TrialWrite (record { block = record { 0 = 0 }; sector = record { 0 = 0 }; spare = false; attempts = 1; seen = record { errors = 1; crc = true; timeout = false } }))
+    phase.Awaiting (access.TrialWrite (record { block = record { 0 = 0 }; sector = record { 0 = 0 }; spare = false; rereads = 0; failures = 0; seen = record { errors = 1; crc = true; timeout = false } }))
 
 pub record Examples : Type 0 where
   pub block-0 : at-home 0 ≡ 0

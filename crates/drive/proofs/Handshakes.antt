@@ -188,19 +188,35 @@ busy =
     record {
       sectors = disk [] [];
       exchanges =
-          allRefused ++ found [] [] ++ opens ++ asksRead 17 0 0
-          ++ (go ⇒ read 17 ∷ []) ++ allRefused ++ (garbles 9 ⇒ read 17 ∷ gives 7 ⇒ write 17 ∷ []) ++ allRefused
-          ++ (timesOut ⇒ write 17 ∷ done ⇒ read 17 ∷ []) ++ allRefused ++ (surface 4 [] ⇒ refused 4 ∷ done ⇒ refused 5 ∷ garbles 9 ⇒ write 4928 ∷ done ⇒ read 4928 ∷ gives 7 ⇒ finished 0x0C 0x04 0x80 0 ∷ [])
-          ++ (raise ⇒ store ∷ []) ++ allRefused ++ (gives 9 ⇒ refused 5 ∷ garbles 9 ⇒ refused 4 ∷ done ⇒ offer 0x01 ∷ []) ++ asksWrite 1 17 (bytes 1)
-          ++ (go ⇒ write 4928 ∷ []) ++ allRefused ++ (done ⇒ finished 0x00 0x00 0x00 0 ∷ []);
+          allRefused ++ found [] [] ++ elevenTimeouts ++ (raise ⇒ store ∷ []) ++ allRefused ++ (gives 9 ⇒ refused 5 ∷ garbles 9 ⇒ refused 4 ∷ done ⇒ offer 0x01 ∷ [])
+          ++ asksWrite 2 18 (bytes 1) ++ (go ⇒ write 18 ∷ []) ++ allRefused ++ (done ⇒ read 18 ∷ []) ++ allRefused
+          ++ (done ⇒ refused 5 ∷ gives 1 ⇒ finished 0x00 0x00 0x00 0 ∷ []);
       part = bytes 1;
-      place = sector 4928;
-      candidates = bytes 1 ∷ [];
+      place = sector 17;
+      candidates = bytes 7 ∷ [];
     }
 
 pub while-an-answer-is-awaited-only-it-is-in-place : (old : Drive) → Happens old busy
 unfolding computed
 while-an-answer-is-awaited-only-it-is-in-place old = happens old busy refl
+
+abbrev busyTrial : Run
+busyTrial =
+    record {
+      sectors = disk [] [];
+      exchanges =
+          found [] [] ++ opens ++ asksRead 17 0 0
+          ++ (go ⇒ read 17 ∷ []) ++ allRefused ++ (garbles 9 ⇒ read 17 ∷ gives 7 ⇒ write 17 ∷ []) ++ allRefused
+          ++ (timesOut ⇒ write 4928 ∷ done ⇒ read 4928 ∷ []) ++ allRefused
+          ++ (surface 4 [] ⇒ refused 4 ∷ done ⇒ refused 5 ∷ gives 7 ⇒ read 4928 ∷ unsettled ⇒ finished 0x1D 0x00 0x80 0 ∷ []) ++ opens ++ asksTable 0x00;
+      part = imageOf (dead ∷ []) [];
+      place = sector 17;
+      candidates = bytes 7 ∷ [];
+    }
+
+pub in-a-trial-only-an-answer-is-in-place : (old : Drive) → Happens old busyTrial
+unfolding computed
+in-a-trial-only-an-answer-is-in-place old = happens old busyTrial refl
 
 -- Calls out of place in idle, at an offer, among command bytes and among data.
 abbrev outOfPlace : Run
@@ -226,10 +242,10 @@ with-nothing-awaited-no-answer-is-in-place old = happens old outOfPlace refl
 abbrev refusedAnswers : Run
 refusedAnswers =
     record {
-      sectors = disk [] [];
+      sectors = disk (replicate 32 dead) [];
       exchanges =
-          found [] []
-          ++ opens ++ asksWrite 1 17 (bytes 1) ++ (go ⇒ write 17 ∷ gives 9 ⇒ refused 5 ∷ timesOut ⇒ finished 0x05 0x00 0x80 0 ∷ [])
+          found (replicate 32 dead) []
+          ++ opens ++ asksWrite 1 17 (bytes 1) ++ (go ⇒ write 17 ∷ gives 9 ⇒ refused 5 ∷ timesOut ⇒ finished 0x05 0x40 0x80 0 ∷ [])
           ++ opens ++ asksRead 17 0 1 ++ (go ⇒ read 17 ∷ gives 7 ⇒ finished 0x00 0x00 0x00 0 ∷ [])
           ++ opens ++ asksWrite 1 17 (bytes 2) ++ (go ⇒ write 17 ∷ raise ⇒ refused 3 ∷ done ⇒ finished 0x00 0x00 0x00 0 ∷ [])
           ++ opens ++ asksRead 17 0 1 ++ (go ⇒ read 17 ∷ gives 2 ⇒ finished 0x00 0x00 0x00 0 ∷ []);

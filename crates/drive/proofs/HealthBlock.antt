@@ -95,7 +95,7 @@ healthLatched =
       sectors = disk [] [];
       exchanges =
           found [] [] ++ opens ++ asksWrite 2 17 (bytes 1)
-          ++ (go ⇒ write 17 ∷ timesOut ⇒ write 17 ∷ timesOut ⇒ write 4928 ∷ unsettled ⇒ finished 0x15 0x00 0x80 0 ∷ [])
+          ++ (go ⇒ write 17 ∷ timesOut ⇒ write 4928 ∷ unsettled ⇒ finished 0x15 0x00 0x80 0 ∷ [])
           ++ opens ++ asksHealth 0x00;
       part = healthBlock 31 0 1 1;
       place = sector 17;

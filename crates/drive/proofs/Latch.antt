@@ -16,7 +16,7 @@ latched =
       sectors = disk [] [];
       exchanges =
           found [] [] ++ opens ++ asksWrite 2 17 (bytes 1)
-          ++ (go ⇒ write 17 ∷ timesOut ⇒ write 17 ∷ timesOut ⇒ write 4928 ∷ unsettled ⇒ finished 0x15 0x00 0x80 0 ∷ [])
+          ++ (go ⇒ write 17 ∷ timesOut ⇒ write 4928 ∷ unsettled ⇒ finished 0x15 0x00 0x80 0 ∷ [])
           ++ opens ++ asksWrite 1 17 (bytes 2) ++ (go ⇒ finished 0x11 0x00 0x00 0 ∷ [])
           ++ opens ++ asksRead 17 0 0 ++ (go ⇒ read 17 ∷ garbles 9 ⇒ read 17 ∷ gives 7 ⇒ finished 0x19 0x00 0x00 0 ∷ [])
           ++ opens ++ asksTable 0x00;
@@ -51,32 +51,32 @@ pub a-reset-keeps-the-latch-of-a-write : (old : Drive) → Happens old writeUnse
 unfolding computed
 a-reset-keeps-the-latch-of-a-write old = happens old writeUnsettled refl
 
--- Answer 3 to an attempt's read at the present sector latches, and kills no spare.
-abbrev attemptUnsettled : Run
-attemptUnsettled =
+-- Answer 3 to a reread at the present sector, after a first verify that timed out, latches and kills no spare.
+abbrev presentUnsettled : Run
+presentUnsettled =
     record {
       sectors = disk (17 ∷ []) [];
       exchanges =
           found (17 ∷ []) [] ++ opens ++ asksWrite 2 17 (bytes 1)
-          ++ (go ⇒ write 4928 ∷ timesOut ⇒ write 4928 ∷ done ⇒ read 4928 ∷ unsettled ⇒ finished 0x15 0x00 0x80 0 ∷ [])
+          ++ (go ⇒ write 4928 ∷ done ⇒ read 4928 ∷ timesOut ⇒ write 4928 ∷ done ⇒ read 4928 ∷ unsettled ⇒ finished 0x15 0x00 0x80 0 ∷ [])
           ++ opens ++ asksWrite 1 17 (bytes 2) ++ (go ⇒ finished 0x11 0x00 0x00 0 ∷ []) ++ opens ++ asksTable 0x00;
       part = imageOf (17 ∷ []) [];
       place = sector 4928;
       candidates = bytes 1 ∷ bytes 7 ∷ [];
     }
 
-pub answer-3-at-the-present-sector-latches-and-kills-no-spare : (old : Drive) → Happens old attemptUnsettled
+pub answer-3-at-the-present-sector-latches-and-kills-no-spare : (old : Drive) → Happens old presentUnsettled
 unfolding computed
-answer-3-at-the-present-sector-latches-and-kills-no-spare old = happens old attemptUnsettled refl
+answer-3-at-the-present-sector-latches-and-kills-no-spare old = happens old presentUnsettled refl
 
--- Answer 3 to a spare's verify kills the spare under trial, and latches.
+-- Answer 3 to a spare's reread kills the spare under trial, and latches.
 abbrev verifyUnsettled : Run
 verifyUnsettled =
     record {
       sectors = disk [] [];
       exchanges =
           found [] [] ++ opens ++ asksWrite 2 17 (bytes 1)
-          ++ (go ⇒ write 17 ∷ timesOut ⇒ write 17 ∷ timesOut ⇒ write 4928 ∷ done ⇒ read 4928 ∷ unsettled ⇒ finished 0x15 0x00 0x80 0 ∷ [])
+          ++ (go ⇒ write 17 ∷ timesOut ⇒ write 4928 ∷ done ⇒ read 4928 ∷ gives 1 ⇒ read 4928 ∷ unsettled ⇒ finished 0x15 0x00 0x80 0 ∷ [])
           ++ opens ++ asksWrite 1 17 (bytes 2) ++ (go ⇒ finished 0x11 0x00 0x00 0 ∷ []) ++ opens ++ asksTable 0x00;
       part = imageOf (dead ∷ []) [];
       place = sector 17;
@@ -104,7 +104,7 @@ pub answer-3-to-a-reread-ends-it-with-what-it-met : (old : Drive) → Happens ol
 unfolding computed
 answer-3-to-a-reread-ends-it-with-what-it-met old = happens old rereadUnsettled refl
 
--- Answer 3 is neither a timeout nor a CRC error: to a first write, and to a spare's after two failed verifies.
+-- Answer 3 is neither a timeout nor a CRC error: to a first write, to a first verify, and to a trial's write after a CRC error.
 abbrev firstUnsettled : Run
 firstUnsettled =
     record {
@@ -119,21 +119,36 @@ pub answer-3-to-a-first-write-is-no-timeout : (old : Drive) → Happens old firs
 unfolding computed
 answer-3-to-a-first-write-is-no-timeout old = happens old firstUnsettled refl
 
-abbrev spareUnsettled : Run
-spareUnsettled =
+abbrev verifyUnsettledAtOnce : Run
+verifyUnsettledAtOnce =
     record {
       sectors = disk [] [];
       exchanges =
-          found [] [] ++ opens ++ asksWrite 2 17 (bytes 1)
-          ++ (go ⇒ write 17 ∷ done ⇏ read 17 ∷ garbles 9 ⇒ write 17 ∷ done ⇏ read 17 ∷ garbles 9 ⇒ write 4928 ∷ unsettled ⇒ finished 0x19 0x00 0x80 0 ∷ []);
+          found [] [] ++ opens ++ asksWrite 2 17 (bytes 1) ++ (go ⇒ write 17 ∷ done ⇒ read 17 ∷ unsettled ⇒ finished 0x11 0x00 0x80 0 ∷ [])
+          ++ opens ++ asksWrite 2 17 (bytes 2) ++ (go ⇒ finished 0x11 0x00 0x00 0 ∷ []) ++ opens ++ asksTable 0x00;
+      part = imageOf [] [];
+      place = sector 17;
+      candidates = bytes 1 ∷ bytes 7 ∷ [];
+    }
+
+pub answer-3-to-a-first-verify-latches : (old : Drive) → Happens old verifyUnsettledAtOnce
+unfolding computed
+answer-3-to-a-first-verify-latches old = happens old verifyUnsettledAtOnce refl
+
+abbrev trialUnsettled : Run
+trialUnsettled =
+    record {
+      sectors = disk [] [];
+      exchanges =
+          found [] [] ++ opens ++ asksWrite 2 17 (bytes 1) ++ (go ⇒ write 17 ∷ done ⇏ read 17 ∷ garbles 9 ⇒ write 17 ∷ unsettled ⇒ finished 0x19 0x00 0x80 0 ∷ []);
       part = bytes 1;
       place = sector 17;
       candidates = bytes 1 ∷ bytes 7 ∷ [];
     }
 
-pub answer-3-at-a-spare-is-no-timeout : (old : Drive) → Happens old spareUnsettled
+pub answer-3-to-a-trials-write-is-no-timeout : (old : Drive) → Happens old trialUnsettled
 unfolding computed
-answer-3-at-a-spare-is-no-timeout old = happens old spareUnsettled refl
+answer-3-to-a-trials-write-is-no-timeout old = happens old trialUnsettled refl
 
 -- Too many data bytes, a number of no block and a read that failed latch nothing: the write after them is made, and one with no
 -- spare unused after that.
@@ -145,7 +160,7 @@ notLatched =
           found (replicate 32 dead) [] ++ opens ++ asksWrite 1 17 (replicate 533 4) ++ (go ⇒ finished 0x41 0x00 0x80 0 ∷ [])
           ++ opens ++ asksRead 9728 0 0 ++ (go ⇒ finished 0x01 0x00 0x40 0 ∷ [])
           ++ opens ++ asksRead 18 0 1 ++ (go ⇒ read 18 ∷ []) ++ replicate 10 (timesOut ⇒ read 18) ++ (timesOut ⇒ finished 0x05 0x00 0x00 0 ∷ [])
-          ++ stores ++ asksWrite 2 17 (bytes 1) ++ (go ⇒ write 17 ∷ timesOut ⇒ write 17 ∷ timesOut ⇒ finished 0x05 0x40 0x00 0 ∷ [])
+          ++ stores ++ asksWrite 2 17 (bytes 1) ++ (go ⇒ write 17 ∷ timesOut ⇒ finished 0x05 0x40 0x00 0 ∷ [])
           ++ opens ++ asksWrite 1 17 (bytes 2) ++ (go ⇒ write 17 ∷ done ⇒ finished 0x00 0x00 0x00 0 ∷ []);
       part = bytes 2;
       place = sector 17;

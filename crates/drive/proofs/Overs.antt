@@ -4,7 +4,6 @@ use mathlib.Core.Bool.{true, false}
 use mathlib.Core.List.{List, [], _∷_}
 use Prim.Native.Nat.{ℕ, zero, suc}
 use native.Mathlib.Omega.{arith}
-use native.Mathlib.Omega.{arith}
 use lib.ListN.{take, replicate}
 use Rattle.logic.proofs.Bools.{clash}
 use Rattle.image.specs.Images.{imageOf}
@@ -155,6 +154,6 @@ pub a-start-is-not-over-within-one : OverWithin 1 start (starting .step .drive) 
 unfolding computed
 a-start-is-not-over-within-one w = let x = w (late ∷ []) (omega arith) (λ h. refl, tt) in none-of-one (x .0) (x .2)
 
-pub demand-1-of-the-longest-read : Demand1Over → Typed (begun .step .drive) → OverWithin 478 command (begun .step .drive) (begun .bytes)
+pub demand-1-of-the-longest-read : Demand1Over → Typed (begun .step .drive) → OverWithin 3679 command (begun .step .drive) (begun .bytes)
 unfolding computed
 demand-1-of-the-longest-read demand typed = demand (begun .step .drive) (begun .bytes) typed refl refl refl

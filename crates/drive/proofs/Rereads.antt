@@ -46,24 +46,6 @@ pub below-the-threshold-it-stays : (old : Drive) → Happens old rereadsComeGood
 unfolding computed
 below-the-threshold-it-stays old = happens old rereadsComeGood refl
 
--- E reaches T. The bytes are written again where they were, and verify.
-abbrev verifiedInPlace : Run
-verifiedInPlace =
-    record {
-      sectors = disk [] [];
-      exchanges =
-          found [] []
-          ++ opens ++ asksRead 17 1 1
-          ++ (go ⇒ read 17 ∷ garbles 9 ⇒ read 17 ∷ garbles 9 ⇒ read 17 ∷ gives 7 ⇒ write 17 ∷ done ⇒ read 17 ∷ gives 7 ⇒ finished 0x08 0x00 0x80 1 ∷ []);
-      part = bytes 7;
-      place = sector 17;
-      candidates = bytes 7 ∷ [];
-    }
-
-pub at-the-threshold-it-verifies-in-place : (old : Drive) → Happens old verifiedInPlace
-unfolding computed
-at-the-threshold-it-verifies-in-place old = happens old verifiedInPlace refl
-
 -- No sector but the table's can be read as the list begins.
 abbrev pub unreadableAtFirst : Run
 unreadableAtFirst =

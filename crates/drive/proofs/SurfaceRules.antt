@@ -11,7 +11,7 @@ use Rattle.drive.specs.History.{Content, held, unreadable, Sectors}
 use Rattle.drive.specs.Run.{Event, World, after, Permits, made, Lawful, begins}
 use Rattle.drive.proofs.Computing.{computed}
 use Rattle.drive.proofs.Lasts.{AtLast, at-last, differ}
-use Rattle.drive.proofs.Transcripts.{Exchange, _⇒_, _⇏_, read, write, finished, refused, events, bytes, disk, go, done, gives, garbles, timesOut, found, opens, asksRead, asksWrite}
+use Rattle.drive.proofs.Transcripts.{Exchange, _⇒_, _⇏_, read, write, finished, refused, events, bytes, disk, go, done, gives, garbles, timesOut, found, opens, asksRead, asksWrite, unsettled}
 
 -- Says what the rules ask at a call, and at the last one of a list.
 abbrev goesTo : World → Event → World
@@ -76,10 +76,10 @@ pub answer-0-with-old-bytes : (old : Drive) → LawfulRun old sevens staleAnswer
 unfolding computed
 answer-0-with-old-bytes old l = differ 1 7 refl (ap firstByte (last-asks (from old sevens) (events staleAnswer) l))
 
--- A write that timed out left the sector.
+-- A write that timed out left the sector. The block is read there again, since the spare's write was answered 3.
 abbrev lateAnswer : List Exchange
 lateAnswer =
-    found [] [] ++ opens ++ asksWrite 1 17 (bytes 1) ++ (go ⇒ write 17 ∷ timesOut ⇒ finished 0x05 0x00 0x80 0 ∷ [])
+    found [] [] ++ opens ++ asksWrite 1 17 (bytes 1) ++ (go ⇒ write 17 ∷ timesOut ⇒ write 4928 ∷ unsettled ⇒ finished 0x15 0x00 0x80 0 ∷ [])
     ++ readOf17 ++ (gives 1 ⇒ finished 0x00 0x00 0x00 0 ∷ [])
 
 pub answer-0-with-the-bytes-of-a-timeout : (old : Drive) → LawfulRun old sevens lateAnswer → ⊥

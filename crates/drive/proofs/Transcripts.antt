@@ -338,6 +338,20 @@ abbrev pub asksWrite : ℕ → ℕ → Bytes → List Exchange
 asksWrite op n x =
     go ⇒ wait ∷ feed (command op n []) ⇒ wait ∷ raise ⇒ offer (op + 2) ∷ go ⇒ wait ∷ feed x ⇒ wait ∷ raise ⇒ offer 0x06 ∷ []
 
+-- Rereads sector s in a trial: each reread is answered so and leads to the next, and the last leads to what is said.
+abbrev pub rereads : ℕ → List Call → Said → List Exchange
+rereads s [] end = []
+rereads s (c ∷ []) end = c ⇒ end ∷ []
+rereads s (c ∷ k ∷ cs) end = c ⇒ read s ∷ rereads s (k ∷ cs) end
+
+-- Answers a hundred rereads: 70 bring the byte v, and 30 fail at the end, the hundredth among them.
+abbrev pub thirtyFail : ℕ → Call → List Call
+thirtyFail v failure = replicate 70 (gives v) ++ replicate 30 failure
+
+-- Makes the trial of a sector, from the answer to its write on: that is done, and 30 rereads fail.
+abbrev pub trial : ℕ → ℕ → Call → Said → List Exchange
+trial s v failure end = done ⇒ read s ∷ rereads s (thirtyFail v failure) end
+
 -- Reads the table's image, with status 3 of its finish.
 abbrev pub asksTable : ℕ → List Exchange
 asksTable status3 = asksRead 0xFFFFFF 0 0 ++ (go ⇒ finished 0x00 0x00 status3 0 ∷ [])

@@ -1,4 +1,5 @@
--- Document 01: the surface answered an access. The codes 4 and 5, the start's reads, the store, "Read", "Write".
+-- Document 01: the surface answered an access. The codes 4 and 5, the start's reads, the store, "Read", and "Write" with
+-- request 4 of document 02.
 use mathlib.Core.Bool.{Bool, true, false, cond, not, _&&_, _||_}
 use mathlib.Core.List.{List}
 use Prim.Native.Nat.{ℕ, _+_}
@@ -12,6 +13,7 @@ use Rattle.image.specs.Images.{wellFormed}
 use Rattle.drive.specs.declared.State.{State}
 use Rattle.drive.specs.declared.Marks.{Marks}
 use Rattle.drive.specs.declared.Retry.{Retry}
+use Rattle.drive.specs.declared.Target.{Target}
 use Rattle.drive.specs.declared.Offer.the-variants as offer
 use Rattle.drive.specs.declared.Outcome.{Outcome}
 use Rattle.drive.specs.declared.Outcome.the-variants as outcome
@@ -31,7 +33,7 @@ use Rattle.drive.specs.Records.{awaits, ofAccess}
 use Rattle.drive.specs.Results.{inPhase, withMarks, refuse, say, finish, untouched, clean, onPresent}
 use Rattle.drive.specs.Handshake.{opened}
 use Rattle.drive.specs.Retries.{met, afterRead}
-use Rattle.drive.specs.Sparing.{attempt, tried, checked}
+use Rattle.drive.specs.Sparing.{begin, nextSpare, fault, tried, checked}
 
 -- Says whether an access reads.
 abbrev pub asksRead : Access → Bool
@@ -99,13 +101,13 @@ lost l t r p =
 abbrev pub isBelow : Retry → Bool
 isBelow r = ltb (r .seen .errors) (r .threshold)
 
--- Ends a read that was good after errors, or begins to move its block. "Good with E < T: done. Else the move routine";
--- "Latch: fail, bit 4."
+-- Ends a read that was good after errors, or begins the trial of its sector. "Good with E < T: done."; "Latch: fail, bit 4.";
+-- document 02, request 4: "Where a read reaches the threshold, the block is rewritten and reread 100 times"
 unfoldable pub settled : State → Retry → Part → Turn
 settled l r p =
     cond (isBelow r) (finish l change.Keep ending.Good (r .seen) p)
     (cond (l .marks .latch) (finish l change.Keep ending.Latched (r .seen) p)
-    (attempt l change.Keep (onPresent (r .block) (r .sector) (r .seen)) p))
+    (begin l change.Keep (onPresent (r .block) (r .sector) (r .seen)) p))
 
 -- Returns what each outcome of a read leads to.
 unfoldable pub reads : Outcome → State → Table → Part → Turn
@@ -116,11 +118,26 @@ reads (outcome.Settle r) l t p = settled l r p
 reads (outcome.Lost r) l t p = lost l t r p
 reads (outcome.Stop r) l t p = finish l change.Keep ending.Latched (r .seen) p
 
--- Returns what the answer to a plain write leads to: "one write, 2 or 3 fail (bit 0)"
-unfoldable pub writeAnswered : State → ℕ → Turn
-writeAnswered l a =
-    cond (eqb a 0) (finish l change.Keep ending.Good clean part.Kept)
-    (cond (eqb a 3) (finish l change.Keep ending.Latched clean part.Kept) (finish l change.Keep ending.Failed (met a clean) part.Kept))
+-- WRITE AND WRITE/VERIFY of a block that is not in the bad list
+
+-- Goes on after a write that was done: a plain write is done with it, a write/verify reads it back.
+abbrev pub written : State → Target → Turn
+written l w =
+    cond (w .verify) (say (inPhase l (phase.Awaiting (access.Verify w))) (answer.Read (w .sector))) (finish l change.Keep ending.Good clean part.Kept)
+
+-- Returns what the answer to the write leads to. Document 02, request 4: "A timeout on any write to a block's sector or a
+-- spare, a plain write's included, goes straight to the next spare"
+unfoldable pub writeAnswered : State → Table → Target → ℕ → Turn
+writeAnswered l t w a =
+    cond (eqb a 0) (written l w)
+    (cond (eqb a 3) (finish l change.Keep ending.Latched clean part.Kept) (nextSpare (t .nspares) l change.Keep (w .block) (met a clean)))
+
+-- Returns what the answer to the first verify leads to: "A write/verify whose first verify fails gets that trial too"
+unfoldable pub verifyAnswered : State → Target → ℕ → Bool → Turn
+verifyAnswered l w a equal =
+    cond (eqb a 3) (finish l change.Keep ending.Latched clean part.Kept)
+    (cond equal (finish l change.Keep ending.Good clean part.Kept)
+    (begin l change.Keep (onPresent (w .block) (w .sector) (met (fault a equal) clean)) part.Kept))
 
 -- Returns what the answer to each access leads to. equal: a verify was
 -- answered 0 with the bytes of the data part.
@@ -128,7 +145,8 @@ unfoldable pub follows : Access → State → Table → ℕ → List ℕ → Boo
 follows (access.Start k) l t a bs equal = startAnswered k l a bs
 follows access.Store l t a bs equal = storeAnswered l a
 follows (access.Read r) l t a bs equal = reads (afterRead r a) l t (keptPart r a)
-follows (access.Write s) l t a bs equal = writeAnswered l a
+follows (access.Write w) l t a bs equal = writeAnswered l t w a
+follows (access.Verify w) l t a bs equal = verifyAnswered l w a equal
 follows (access.TrialWrite r) l t a bs equal = tried l t r a
 follows (access.TrialRead r) l t a bs equal = checked l t r a equal
 
@@ -140,10 +158,10 @@ answered phase.Command l t a bs equal = refuse refusal.Place l
 answered phase.Data l t a bs equal = refuse refusal.Place l
 answered (phase.Awaiting x) l t a bs equal = fitting (asksRead x) l a (length bs) (follows x l t a bs equal)
 
--- Says whether an access is a trial's read.
-abbrev pub isTrialRead : Access → Bool
-isTrialRead x = ofAccess x .verifies
+-- Says whether what an access brings is compared with the data part.
+abbrev pub isCompared : Access → Bool
+isCompared x = ofAccess x .verifies
 
--- Says whether the bytes are compared: a trial's read, answered 0.
+-- Says whether the bytes are compared: a verify or a reread, answered 0.
 abbrev pub verifies : Phase → ℕ → Bool
-verifies p a = awaits isTrialRead p && eqb a 0
+verifies p a = awaits isCompared p && eqb a 0

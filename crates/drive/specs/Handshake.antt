@@ -34,6 +34,7 @@ use Rattle.drive.specs.declared.Kind.{Kind}
 use Rattle.drive.specs.declared.Order.{Order}
 use Rattle.drive.specs.Words.{isRead, isWrite, isVerify, orderOf, blockOf}
 use Rattle.drive.specs.Results.{inPhase, withMarks, refuse, say, finish, clean, onPresent}
+use Rattle.drive.specs.Sparing.{begin}
 
 -- RAISE
 
@@ -99,23 +100,23 @@ firstRead o l spares =
     say (inPhase l (phase.Awaiting (access.Read (record { block = blockOf o; sector = s; first = true; left = o .retries; spent = 0; threshold = o .threshold; good = false; seen = clean }))))
     (answer.Read s)
 
--- Asks for the one write. "Write is one write"
-abbrev pub plainWrite : Order → State → List ℕ → Turn
-plainWrite o l spares = let s = sectorOf spares (blockOf o) in say (inPhase l (phase.Awaiting (access.Write s))) (answer.Write s)
-
--- Asks for the first attempt's write, on the present sector. "Write/verify is the move routine"
-abbrev pub firstAttempt : Order → State → List ℕ → Turn
-firstAttempt o l spares =
+-- Asks for the write. "Write is one write"; a write/verify reads it back.
+abbrev pub firstWrite : Order → State → List ℕ → Turn
+firstWrite o l spares =
     let s = sectorOf spares (blockOf o) in
-    say (inPhase l (phase.Awaiting (access.TrialWrite (onPresent (blockOf o) s clean)))) (answer.Write s)
+    say (inPhase l (phase.Awaiting (access.Write (record { block = blockOf o; sector = s; verify = not (isWrite (o .kind)) })))) (answer.Write s)
 
--- Says whether one write is enough: "for a listed bad block it is write/verify".
-abbrev pub isPlain : Order → Table → Bool
-isPlain o t = isWrite (o .kind) && not (memberOf (o .number) (badList t))
+-- Begins with the trial of the present sector.
+abbrev pub firstTrial : Order → State → List ℕ → Turn
+firstTrial o l spares = begin l change.Keep (onPresent (blockOf o) (sectorOf spares (blockOf o)) clean) part.Kept
 
--- Writes a block, not under the latch.
+-- Says whether the block is in the bad list.
+abbrev pub isListed : Order → Table → Bool
+isListed o t = memberOf (o .number) (badList t)
+
+-- Writes a block, not under the latch. "any write to a block in the bad list starts with it": with a trial
 unfoldable pub writes : Order → State → Table → Turn
-writes o l t = cond (isPlain o t) (plainWrite o l (spareList t)) (firstAttempt o l (spareList t))
+writes o l t = cond (isListed o t) (firstTrial o l (spareList t)) (firstWrite o l (spareList t))
 
 -- THE TESTS OF THE LADDER
 

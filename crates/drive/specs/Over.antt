@@ -1,5 +1,5 @@
--- DEMAND 1: "A command is over after at most 478 surface accesses": by finished, and by nothing else. A start is over after at
--- most ten accesses, and a store after one. All this for answers of the surface that the codes 4 and 5 do not refuse.
+-- DEMAND 1, with the bound of request 4 of document 02: a command is over by finished, and by nothing else. A start is over after
+-- at most ten accesses, and a store after one. All this for answers of the surface that the codes 4 and 5 do not refuse.
 use mathlib.Core.Path.{_≡_}
 use mathlib.Core.Bool.{Bool, true, false, not, _&&_}
 use mathlib.Core.List.{List, [], _∷_}
@@ -17,7 +17,7 @@ use Rattle.drive.specs.Results.{Out}
 use Rattle.drive.specs.Access.{asksRead, answerFits, bytesFit}
 use Rattle.drive.specs.Calls.{Call, surfaceOf, stepOf, startOf}
 use Rattle.drive.specs.Values.{Typed}
-use Rattle.drive.specs.Bound.{ofCommand, isCommand}
+use Rattle.drive.specs.Bound.{ofCommand, isCommand, most}
 use Rattle.drive.specs.Views.{ofAnswer}
 
 -- Holds an answer of the surface and the bytes that it brings.
@@ -102,11 +102,11 @@ OverByFinished =
     (c : Call) (d : Drive) (u : List ℕ) → isCommand (d .state .phase) ≡ true
     → isCommand (stepOf c d u .step .drive .state .phase) ≡ not (ofAnswer (stepOf c d u .step .answer) .finished)
 
--- Says that a command is over in time. "A command is over after at most 478 surface accesses."
+-- Says that a command is over in time. "A command is over after at most 478 surface accesses", 3,679 by now.
 abbrev pub Demand1Over : Type 0
 Demand1Over =
     (d : Drive) (u : List ℕ) → Typed d → recordOk d ≡ true → length u ≡ 536 → isCommand (d .state .phase) ≡ true
-    → OverWithin 478 command d u
+    → OverWithin most command d u
 
 -- Says that a start is over in time. "It reads until a well-formed image comes with answer 0, at most 10 times"
 abbrev pub StartOver : Type 0

@@ -7,6 +7,7 @@ use Rattle.table.specs.Tables.{tableOk}
 use Rattle.drive.specs.declared.Drive.{Drive}
 use Rattle.drive.specs.declared.State.{State}
 use Rattle.drive.specs.declared.Retry.{Retry}
+use Rattle.drive.specs.declared.Target.{Target}
 use Rattle.drive.specs.declared.Trial.{Trial}
 use Rattle.drive.specs.declared.Access.{Access}
 use Rattle.drive.specs.declared.Access.the-variants as access
@@ -18,11 +19,16 @@ use Rattle.drive.specs.declared.Phase.the-variants as phase
 unfoldable pub retryOk : Retry → Bool
 retryOk r = isBlock (r .block .0) && isSector (r .sector .0) && leb (r .seen .errors + r .left) 255 && leb (r .spent) 89
 
--- Says whether a trial passes. "attempts above 2", "a spare under trial other than the next unused": with n listed that is
--- spare n, if n is below 32
+-- Says whether a write command's write, or its verify, passes. "a pending sector or block out of range"
+abbrev pub targetOk : Target → Bool
+targetOk w = isBlock (w .block .0) && isSector (w .sector .0)
+
+-- Says whether a trial passes. Document 02, request 4: "code 1 tests a trial's rereads, at most 100, and failures, at most the
+-- rereads made"; "a spare under trial other than the next unused": with n listed that is spare n, if n is below 32
 unfoldable pub trialOk : ℕ → Trial → Bool
 trialOk n r =
-    isBlock (r .block .0) && isSector (r .sector .0) && leb (r .attempts) 2 && (not (r .spare) || (ltb n 32 && eqb (r .sector .0) (spareOf n .0)))
+    isBlock (r .block .0) && isSector (r .sector .0) && leb (r .rereads) 100 && leb (r .failures) (r .rereads)
+    && (not (r .spare) || (ltb n 32 && eqb (r .sector .0) (spareOf n .0)))
 
 -- Says whether an awaited access passes. "any access but the start's awaited with no table, start reads above 10": n spares
 -- listed, known whether there is a table
@@ -30,7 +36,8 @@ abbrev pub accessOk : ℕ → Bool → Access → Bool
 accessOk n known (access.Start k) = leb k 10
 accessOk n known access.Store = known
 accessOk n known (access.Read r) = known && retryOk r
-accessOk n known (access.Write s) = known && isSector (s .0)
+accessOk n known (access.Write w) = known && targetOk w
+accessOk n known (access.Verify w) = known && targetOk w
 accessOk n known (access.TrialWrite r) = known && trialOk n r
 accessOk n known (access.TrialRead r) = known && trialOk n r
 
@@ -71,6 +78,7 @@ abbrev pub ofAccess : Access → AccessView
 ofAccess (access.Start k) = record { reads = true; verifies = false; start = true; store = false; command = false }
 ofAccess access.Store = record { reads = false; verifies = false; start = false; store = true; command = false }
 ofAccess (access.Read r) = record { reads = true; verifies = false; start = false; store = false; command = true }
-ofAccess (access.Write s) = record { reads = false; verifies = false; start = false; store = false; command = true }
+ofAccess (access.Write w) = record { reads = false; verifies = false; start = false; store = false; command = true }
+ofAccess (access.Verify w) = record { reads = true; verifies = true; start = false; store = false; command = true }
 ofAccess (access.TrialWrite r) = record { reads = false; verifies = false; start = false; store = false; command = true }
 ofAccess (access.TrialRead r) = record { reads = true; verifies = true; start = false; store = false; command = true }

@@ -137,9 +137,9 @@ finish l c e s p =
 abbrev pub clean : Seen
 clean = record { errors = 0; crc = false; timeout = false }
 
--- Returns the first attempt on a block's present sector.
+-- Returns the trial of a block's present sector, before its first reread.
 abbrev pub onPresent : Block → Sector → Seen → Trial
-onPresent b s seen = record { block = b; sector = s; spare = false; attempts = 1; seen = seen }
+onPresent b s seen = record { block = b; sector = s; spare = false; rereads = 0; failures = 0; seen = seen }
 
 -- Refuses with code 1 or 2, in this order, or turns as the rule says. The buffer has n bytes.
 abbrev pub guarded : Bool → ℕ → State → Turn → Turn

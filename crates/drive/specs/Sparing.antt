@@ -1,8 +1,11 @@
--- Document 01, "Move routine": sparing. An attempt is a write, then a read that must bring the same bytes.
+-- Document 02, request 4: sparing. A sector trial is one write, then a hundred rereads; more than 30 failures fail it. A read at
+-- the threshold, a write/verify whose first verify failed and a write to a listed bad block begin with the trial of the
+-- present sector; each next unused spare gets one.
 use mathlib.Core.Bool.{Bool, true, false, cond, not, _&&_, _||_}
 use Prim.Native.Nat.{ℕ, _+_}
-use lib.Dec.{ltb, eqb}
+use lib.Dec.{ltb, leb, eqb}
 use Rattle.geometry.specs.Geometry.{spareOf}
+use Rattle.geometry.specs.declared.Block.{Block}
 use Rattle.lists.specs.Lists.{memberOf}
 use Rattle.table.specs.declared.Table.{Table}
 use Rattle.table.specs.Tables.{badList}
@@ -22,60 +25,77 @@ use Rattle.drive.specs.declared.Turn.{Turn}
 use Rattle.drive.specs.Results.{inPhase, withMarks, say, finish, altered}
 use Rattle.drive.specs.Retries.{met}
 
--- Begins an attempt: asks for its write.
-abbrev pub attempt : State → Change → Trial → Part → Turn
-attempt l c r p =
+-- Begins a trial: asks for its write. "the block is rewritten"
+abbrev pub begin : State → Change → Trial → Part → Turn
+begin l c r p =
     record { state = withMarks l (altered (l .marks) c) (phase.Awaiting (access.TrialWrite r)); answer = answer.Write (r .sector); change = c; leaves = record { status = status.Kept; part = p } }
 
--- Returns the first attempt on spare n.
-abbrev pub onSpare : ℕ → Trial → Seen → Trial
-onSpare n r s = record { block = r .block; sector = spareOf n; spare = true; attempts = 1; seen = s }
+-- THE NEXT SPARE
 
--- Returns one attempt more on the same sector.
-abbrev pub once : Trial → Seen → Trial
-once r s = record { block = r .block; sector = r .sector; spare = r .spare; attempts = r .attempts + 1; seen = s }
+-- Returns the trial of spare n for a block, before its first reread.
+abbrev pub onSpare : ℕ → Block → Seen → Trial
+onSpare n b s = record { block = b; sector = spareOf n; spare = true; rereads = 0; failures = 0; seen = s }
 
 -- Says whether a spare is unused, with n listed.
 abbrev pub hasUnused : ℕ → Bool
 hasUnused n = ltb n 32
 
--- Goes to the next unused spare. "then two on each next unused spare"; "No spare unused: status 2 bit 6, fail." With n spares
--- listed by now.
-unfoldable pub nextAttempt : ℕ → State → Change → Trial → Seen → Turn
-nextAttempt n l c r s = cond (hasUnused n) (attempt l c (onSpare n r s) part.Kept) (finish l c ending.NoSpare s part.Kept)
+-- Goes to the next unused spare, with n listed by now. "each spare gets it once": the trial; "No spare unused: status 2 bit 6,
+-- fail."
+unfoldable pub nextSpare : ℕ → State → Change → Block → Seen → Turn
+nextSpare n l c b s = cond (hasUnused n) (begin l c (onSpare n b s) part.Kept) (finish l c ending.NoSpare s part.Kept)
 
--- Says whether one attempt more is due on this sector.
-abbrev pub hasAttempt : Trial → Bool
-hasAttempt r = ltb (r .attempts) 2
-
--- Goes on after an attempt that failed. "Two attempts on the present sector, then two on each next unused spare. A spare that
--- fails becomes dead."
+-- Leaves a sector that failed. "more than 30 failures move it"; "A spare that fails becomes dead."
 unfoldable pub missed : State → Table → Trial → Seen → Turn
-missed l t r s =
-    cond (hasAttempt r) (attempt l change.Keep (once r s) part.Kept)
-    (cond (r .spare) (nextAttempt (t .nspares + 1) l change.Kill r s) (nextAttempt (t .nspares) l change.Keep r s))
+missed l t r s = cond (r .spare) (nextSpare (t .nspares + 1) l change.Kill (r .block) s) (nextSpare (t .nspares) l change.Keep (r .block) s)
+
+-- HOW A TRIAL ENDS
 
 -- Stops a trial. "Answer 3 to any access of a command ends it: bits 4, 0, latch until the next start; a spare under trial
 -- becomes dead."
 unfoldable pub stopped : State → Trial → Turn
 stopped l r = finish l (cond (r .spare) change.Kill change.Keep) ending.Latched (r .seen) part.Kept
 
--- Ends a trial that verified. "Success on a spare lists the block there, kills its old entry, sets status 2 bit 2." "Success
+-- Ends a trial that passed. "Success on a spare lists the block there, kills its old entry, sets status 2 bit 2." "Success
 -- removes the block from the bad list, order kept."
 unfoldable pub verified : State → Table → Trial → Turn
 verified l t r =
     cond (r .spare) (finish l (change.Move (r .block)) ending.Moved (r .seen) part.Kept)
     (finish l (cond (memberOf (r .block .0) (badList t)) (change.Remove (r .block)) change.Keep) ending.Good (r .seen) part.Kept)
 
--- Returns what the answer to an attempt's write leads to: "a write answered 2 fails it with no read"
+-- THE ANSWERS
+
+-- Returns what the answer to a trial's write leads to: "A timeout on any write to a block's sector or a spare [..] goes straight
+-- to the next spare"
 unfoldable pub tried : State → Table → Trial → ℕ → Turn
 tried l t r a =
     cond (eqb a 0) (say (inPhase l (phase.Awaiting (access.TrialRead r))) (answer.Read (r .sector)))
     (cond (eqb a 3) (stopped l r) (missed l t r (met a (r .seen))))
 
--- Returns what the answer to an attempt's read leads to: "it verifies on answer 0 with bytes equal to the data part
--- (differing ones count as a CRC error; verify bytes are never kept)". equal: answer 0 and equal bytes.
+-- Returns the error that an answer to a verify or a reread counts as, 0 for none: "it verifies on answer 0 with bytes equal to the
+-- data part (differing ones count as a CRC error"). equal: answer 0 and equal bytes.
+abbrev pub fault : ℕ → Bool → ℕ
+fault a equal = cond equal 0 (cond (eqb a 0) 1 a)
+
+-- Returns the trial with one reread more.
+abbrev pub counted : Trial → ℕ → Bool → Trial
+counted r a equal =
+    record { block = r .block; sector = r .sector; spare = r .spare; rereads = r .rereads + 1; failures = r .failures + cond equal 0 1; seen = met (fault a equal) (r .seen) }
+
+-- Says whether a reread is left: "reread 100 times"
+abbrev pub hasReread : Trial → Bool
+hasReread r = ltb (r .rereads) 100
+
+-- Says whether the sector is good enough: "more than 30 failures move it"
+abbrev pub isSound : Trial → Bool
+isSound r = leb (r .failures) 30
+
+-- Goes on after a reread: asks for the next, or ends the trial.
+unfoldable pub judged : State → Table → Trial → Turn
+judged l t r =
+    cond (hasReread r) (say (inPhase l (phase.Awaiting (access.TrialRead r))) (answer.Read (r .sector)))
+    (cond (isSound r) (verified l t r) (missed l t r (r .seen)))
+
+-- Returns what the answer to a reread leads to.
 unfoldable pub checked : State → Table → Trial → ℕ → Bool → Turn
-checked l t r a equal =
-    cond equal (verified l t r)
-    (cond (eqb a 3) (stopped l r) (missed l t r (met (cond (eqb a 0) 1 a) (r .seen))))
+checked l t r a equal = cond (eqb a 3) (stopped l r) (judged l t (counted r a equal))

@@ -25,13 +25,21 @@ pub struct Retry {
     pub seen: Seen,
 }
 
-// Holds the trial of a sector in the move routine: the block's present one, or the next unused spare.
-// attempts counts those begun on it, the present one included.
+// Holds a write command's write to its block's present sector. verify: it is read back once.
+pub struct Target {
+    pub block: Block,
+    pub sector: Sector,
+    pub verify: bool,
+}
+
+// Holds the trial of a sector: the block's present one, or the next unused spare. rereads counts those
+// that were answered, failures how many of them failed.
 pub struct Trial {
     pub block: Block,
     pub sector: Sector,
     pub spare: bool,
-    pub attempts: u8,
+    pub rereads: u8,
+    pub failures: u8,
     pub seen: Seen,
 }
 
@@ -62,12 +70,14 @@ pub enum Offer {
 }
 
 // Names what the surface was asked for: a read of the start (with how many were asked for), the store,
-// a read command's read, a plain write, and the write and the read of a trial.
+// a read command's read, a write command's write and the verify that follows it, and the write and a
+// reread of a trial.
 pub enum Access {
     Start(u8),
     Store,
     Read(Retry),
-    Write(Sector),
+    Write(Target),
+    Verify(Target),
     TrialWrite(Trial),
     TrialRead(Trial),
 }

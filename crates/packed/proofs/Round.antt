@@ -24,12 +24,13 @@ use Rattle.drive.specs.declared.Access.the-variants as access
 use Rattle.drive.specs.declared.Phase.{Phase}
 use Rattle.drive.specs.declared.Phase.the-variants as phase
 use Rattle.drive.specs.declared.Retry.{Retry}
+use Rattle.drive.specs.declared.Target.{Target}
 use Rattle.drive.specs.declared.Trial.{Trial}
-use Rattle.drive.specs.Records.{retryOk, trialOk, accessOk, phaseOk, stateOk, recordOk}
+use Rattle.drive.specs.Records.{retryOk, targetOk, trialOk, accessOk, phaseOk, stateOk, recordOk}
 use Rattle.drive.specs.Words.{response}
 use Rattle.drive.specs.Values.{Bytewise, Typed}
 use Rattle.packed.specs.declared.Stage.{Stage}
-use Rattle.packed.specs.Packing.{bit, flag, pair, low, high, word, bare, readStage, trialStage, stageOf, damaged, phaseOf, packState, packTable, packOf, stageAt, commandAt, stateAt, tableAt, unpackOf}
+use Rattle.packed.specs.Packing.{bit, flag, pair, low, high, word, bare, readStage, targetStage, trialStage, stageOf, damaged, phaseOf, packState, packTable, packOf, stageAt, commandAt, stateAt, tableAt, unpackOf}
 
 -- A WORD
 
@@ -78,24 +79,36 @@ unfolding trialOk
 trial-fits k n r l h =
     let b = isBlock (r .block .0) in
     let s = isSector (r .sector .0) in
-    let a = leb (r .attempts) 2 in
-    let x = and-left (b && s) a (and-left (b && s && a) (not (r .spare) || (ltb n 32 && eqb (r .sector .0) (spareOf n .0))) h) in
-    record { kind = l; left = omega arith; spent = omega arith; sector = sector-fits (r .sector .0) (and-right b s x) }
+    let a = leb (r .rereads) 100 in
+    let f = leb (r .failures) (r .rereads) in
+    let x = and-left (b && s && a && f) (not (r .spare) || (ltb n 32 && eqb (r .sector .0) (spareOf n .0))) h in
+    let y = and-left (b && s && a) f x in
+    record {
+      kind = l;
+      left = omega arith;
+      spent = omega (arith, leb-true (r .failures) (r .rereads) (and-right (b && s && a) f x), leb-true (r .rereads) 100 (and-right (b && s) a y));
+      sector = sector-fits (r .sector .0) (and-right b s (and-left (b && s) a y));
+    }
 
-bare-fits : (k n s : ℕ) → k < 256 → s ≤ 65535 → Fits (bare k n s)
-bare-fits k n s h l = record { kind = h; left = omega arith; spent = omega arith; sector = l }
+target-fits : (k : ℕ) (w : Target) → k < 256 → targetOk w ≡ true → Fits (targetStage k w)
+target-fits k w l h =
+    record { kind = l; left = omega arith; spent = omega arith; sector = sector-fits (w .sector .0) (and-right (isBlock (w .block .0)) (isSector (w .sector .0)) h) }
+
+bare-fits : (k n : ℕ) → k < 256 → Fits (bare k n)
+bare-fits k n h = record { kind = h; left = omega arith; spent = omega arith; sector = omega arith }
 
 fits : (n : ℕ) (known : Bool) (p : Phase) → phaseOk n known p ≡ true → Fits (stageOf p)
-fits n known phase.Idle h = bare-fits 0 0 0 (omega arith) (omega arith)
-fits n known (phase.Offered o) h = bare-fits 1 (response o) 0 (omega arith) (omega arith)
-fits n known phase.Command h = bare-fits 2 0 0 (omega arith) (omega arith)
-fits n known phase.Data h = bare-fits 3 0 0 (omega arith) (omega arith)
-fits n known (phase.Awaiting (access.Start k)) h = bare-fits 4 k 0 (omega arith) (omega arith)
-fits n known (phase.Awaiting access.Store) h = bare-fits 5 0 0 (omega arith) (omega arith)
+fits n known phase.Idle h = bare-fits 0 0 (omega arith)
+fits n known (phase.Offered o) h = bare-fits 1 (response o) (omega arith)
+fits n known phase.Command h = bare-fits 2 0 (omega arith)
+fits n known phase.Data h = bare-fits 3 0 (omega arith)
+fits n known (phase.Awaiting (access.Start k)) h = bare-fits 4 k (omega arith)
+fits n known (phase.Awaiting access.Store) h = bare-fits 5 0 (omega arith)
 fits n known (phase.Awaiting (access.Read r)) h = retry-fits r (and-right known (retryOk r) h)
-fits n known (phase.Awaiting (access.Write s)) h = bare-fits 7 0 (s .0) (omega arith) (sector-fits (s .0) (and-right known (isSector (s .0)) h))
-fits n known (phase.Awaiting (access.TrialWrite r)) h = trial-fits 8 n r (omega arith) (and-right known (trialOk n r) h)
-fits n known (phase.Awaiting (access.TrialRead r)) h = trial-fits 9 n r (omega arith) (and-right known (trialOk n r) h)
+fits n known (phase.Awaiting (access.Write w)) h = target-fits 7 w (omega arith) (and-right known (targetOk w) h)
+fits n known (phase.Awaiting (access.Verify w)) h = target-fits 8 w (omega arith) (and-right known (targetOk w) h)
+fits n known (phase.Awaiting (access.TrialWrite r)) h = trial-fits 9 n r (omega arith) (and-right known (trialOk n r) h)
+fits n known (phase.Awaiting (access.TrialRead r)) h = trial-fits 10 n r (omega arith) (and-right known (trialOk n r) h)
 
 phase-back : (p : Phase) → phaseOf (stageOf p) ≡ p
 phase-back phase.Idle = refl
@@ -109,7 +122,8 @@ phase-back phase.Data = refl
 phase-back (phase.Awaiting (access.Start k)) = refl
 phase-back (phase.Awaiting access.Store) = refl
 phase-back (phase.Awaiting (access.Read r)) = refl
-phase-back (phase.Awaiting (access.Write s)) = refl
+phase-back (phase.Awaiting (access.Write w)) = refl
+phase-back (phase.Awaiting (access.Verify w)) = refl
 phase-back (phase.Awaiting (access.TrialWrite r)) = refl
 phase-back (phase.Awaiting (access.TrialRead r)) = refl
 

@@ -15,6 +15,7 @@ use Rattle.drive.specs.declared.Phase.{Phase}
 use Rattle.drive.specs.declared.Phase.the-variants as phase
 use Rattle.drive.specs.declared.Seen.{Seen}
 use Rattle.drive.specs.declared.Retry.{Retry}
+use Rattle.drive.specs.declared.Target.{Target}
 use Rattle.drive.specs.declared.Trial.{Trial}
 use Rattle.drive.specs.Words.{response}
 use Rattle.packed.specs.declared.Stage.{Stage}
@@ -42,33 +43,39 @@ high n = n / 256
 abbrev pub word : ℕ → ℕ
 word n = cond (leb n 65535) n 65535
 
--- A PHASE AS A STAGE: its kind is 0 to 9, and what a phase does not have is 0
+-- A PHASE AS A STAGE: its kind is 0 to 10, and what a phase does not have is 0. A trial's rereads are its detail, its failures are
+-- in spent; a write that is read back is marked by first.
 
-abbrev pub bare : ℕ → ℕ → ℕ → Stage
-bare k n s =
-    record { kind = k; detail = n; sector = s; block = 0; left = 0; errors = 0; spent = 0; threshold = 0; first = false; good = false; spare = false; crc = false; timeout = false }
+abbrev pub bare : ℕ → ℕ → Stage
+bare k n =
+    record { kind = k; detail = n; sector = 0; block = 0; left = 0; errors = 0; spent = 0; threshold = 0; first = false; good = false; spare = false; crc = false; timeout = false }
 
 abbrev pub readStage : Retry → Stage
 readStage r =
     record { kind = 6; detail = 0; sector = r .sector .0; block = r .block .0; left = r .left; errors = r .seen .errors; spent = r .spent; threshold = r .threshold; first = r .first; good = r .good; spare = false; crc = r .seen .crc; timeout = r .seen .timeout }
 
+abbrev pub targetStage : ℕ → Target → Stage
+targetStage k w =
+    record { kind = k; detail = 0; sector = w .sector .0; block = w .block .0; left = 0; errors = 0; spent = 0; threshold = 0; first = w .verify; good = false; spare = false; crc = false; timeout = false }
+
 abbrev pub trialStage : ℕ → Trial → Stage
 trialStage k r =
-    record { kind = k; detail = r .attempts; sector = r .sector .0; block = r .block .0; left = 0; errors = r .seen .errors; spent = 0; threshold = 0; first = false; good = false; spare = r .spare; crc = r .seen .crc; timeout = r .seen .timeout }
+    record { kind = k; detail = r .rereads; sector = r .sector .0; block = r .block .0; left = 0; errors = r .seen .errors; spent = r .failures; threshold = 0; first = false; good = false; spare = r .spare; crc = r .seen .crc; timeout = r .seen .timeout }
 
 abbrev pub accessStage : Access → Stage
-accessStage (access.Start k) = bare 4 k 0
-accessStage access.Store = bare 5 0 0
+accessStage (access.Start k) = bare 4 k
+accessStage access.Store = bare 5 0
 accessStage (access.Read r) = readStage r
-accessStage (access.Write s) = bare 7 0 (s .0)
-accessStage (access.TrialWrite r) = trialStage 8 r
-accessStage (access.TrialRead r) = trialStage 9 r
+accessStage (access.Write w) = targetStage 7 w
+accessStage (access.Verify w) = targetStage 8 w
+accessStage (access.TrialWrite r) = trialStage 9 r
+accessStage (access.TrialRead r) = trialStage 10 r
 
 abbrev pub stageOf : Phase → Stage
-stageOf phase.Idle = bare 0 0 0
-stageOf (phase.Offered o) = bare 1 (response o) 0
-stageOf phase.Command = bare 2 0 0
-stageOf phase.Data = bare 3 0 0
+stageOf phase.Idle = bare 0 0
+stageOf (phase.Offered o) = bare 1 (response o)
+stageOf phase.Command = bare 2 0
+stageOf phase.Data = bare 3 0
 stageOf (phase.Awaiting x) = accessStage x
 
 -- A STAGE AS A PHASE. A kind or an offer that there is not becomes a start that asked for 255 reads, which code 1 refuses.
@@ -90,8 +97,12 @@ abbrev pub retryOf : Stage → Retry
 retryOf s =
     record { block = record { 0 = s .block }; sector = record { 0 = s .sector }; first = s .first; left = s .left; spent = s .spent; threshold = s .threshold; good = s .good; seen = seenOf s }
 
+abbrev pub targetOf : Stage → Target
+targetOf s = record { block = record { 0 = s .block }; sector = record { 0 = s .sector }; verify = s .first }
+
 abbrev pub trialOf : Stage → Trial
-trialOf s = record { block = record { 0 = s .block }; sector = record { 0 = s .sector }; spare = s .spare; attempts = s .detail; seen = seenOf s }
+trialOf s =
+    record { block = record { 0 = s .block }; sector = record { 0 = s .sector }; spare = s .spare; rereads = s .detail; failures = s .spent; seen = seenOf s }
 
 abbrev pub phaseOf : Stage → Phase
 phaseOf s =
@@ -102,9 +113,10 @@ phaseOf s =
     (cond (eqb (s .kind) 4) (phase.Awaiting (access.Start (s .detail)))
     (cond (eqb (s .kind) 5) (phase.Awaiting access.Store)
     (cond (eqb (s .kind) 6) (phase.Awaiting (access.Read (retryOf s)))
-    (cond (eqb (s .kind) 7) (phase.Awaiting (access.Write (record { 0 = s .sector })))
-    (cond (eqb (s .kind) 8) (phase.Awaiting (access.TrialWrite (trialOf s)))
-    (cond (eqb (s .kind) 9) (phase.Awaiting (access.TrialRead (trialOf s))) damaged)))))))))
+    (cond (eqb (s .kind) 7) (phase.Awaiting (access.Write (targetOf s)))
+    (cond (eqb (s .kind) 8) (phase.Awaiting (access.Verify (targetOf s)))
+    (cond (eqb (s .kind) 9) (phase.Awaiting (access.TrialWrite (trialOf s)))
+    (cond (eqb (s .kind) 10) (phase.Awaiting (access.TrialRead (trialOf s))) damaged))))))))))
 
 -- PACKING
 

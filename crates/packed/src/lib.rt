@@ -7,8 +7,8 @@ ghost use Prim.Native.Nat.{_+_, _≤_};
 ghost use lib.ListN.{length, take, drop, getD};
 ghost use Rattle.buffer.specs.Runs.{over};
 ghost use Rattle.drive.specs.Words.{response};
-ghost use Rattle.packed.specs.Packing.{bit, flag, pair, low, high, word, bare, readStage, trialStage, accessStage, stageOf};
-ghost use Rattle.packed.specs.Packing.{damaged, offered, seenOf, retryOf, trialOf, phaseOf, packState, packTable};
+ghost use Rattle.packed.specs.Packing.{bit, flag, pair, low, high, word, bare, readStage, targetStage, trialStage, accessStage, stageOf};
+ghost use Rattle.packed.specs.Packing.{damaged, offered, seenOf, retryOf, targetOf, trialOf, phaseOf, packState, packTable};
 ghost use Rattle.packed.specs.Packing.{marksAt, stageAt, commandAt, stateAt, sparesAt, badsAt, tableAt};
 use drive::Access;
 use drive::Marks;
@@ -17,6 +17,7 @@ use drive::Phase;
 use drive::Retry;
 use drive::Seen;
 use drive::State;
+use drive::Target;
 use drive::Trial;
 use geometry::Block;
 use geometry::Sector;
@@ -25,8 +26,9 @@ use table::Table;
 // Holds a record's words.
 pub type Words = [u16; 153];
 
-// Holds any phase. kind is 0 idle, 1 offered, 2 command, 3 data, 4 start, 5 store, 6 read, 7 write, 8 trial
-// write, 9 trial read; detail is the offer's response byte, the start's reads, or the attempts begun.
+// Holds any phase. kind is 0 idle, 1 offered, 2 command, 3 data, 4 start, 5 store, 6 read, 7 write, 8 verify,
+// 9 trial write, 10 trial read; detail is the offer's response byte, the start's reads, or a trial's
+// rereads; spent is also a trial's failures, first also whether a write is read back.
 pub struct Stage {
     pub kind: u8,
     pub detail: u8,
@@ -115,14 +117,14 @@ pub fn response(o: Offer) -> u8
     }
 }
 
-// Returns the stage of a phase with at most a detail and a sector.
-fn bare(kind: u8, detail: u8, sector: u32) -> Stage
-    ensures { λ r. ⌜ r ≡ bare kind detail sector ⌝ }
+// Returns the stage of a phase with at most a detail.
+fn bare(kind: u8, detail: u8) -> Stage
+    ensures { λ r. ⌜ r ≡ bare kind detail ⌝ }
 {
     Stage {
         kind: kind,
         detail: detail,
-        sector: sector,
+        sector: 0,
         block: 0,
         left: 0,
         errors: 0,
@@ -157,18 +159,39 @@ fn read_stage(r: Retry) -> Stage
     }
 }
 
+// Returns the stage of a write command's write or verify.
+fn target_stage(kind: u8, w: Target) -> Stage
+    ensures { λ x. ⌜ x ≡ targetStage kind w ⌝ }
+{
+    Stage {
+        kind: kind,
+        detail: 0,
+        sector: w.sector.0,
+        block: w.block.0,
+        left: 0,
+        errors: 0,
+        spent: 0,
+        threshold: 0,
+        first: w.verify,
+        good: false,
+        spare: false,
+        crc: false,
+        timeout: false,
+    }
+}
+
 // Returns the stage of a trial.
 fn trial_stage(kind: u8, r: Trial) -> Stage
     ensures { λ x. ⌜ x ≡ trialStage kind r ⌝ }
 {
     Stage {
         kind: kind,
-        detail: r.attempts,
+        detail: r.rereads,
         sector: r.sector.0,
         block: r.block.0,
         left: 0,
         errors: r.seen.errors,
-        spent: 0,
+        spent: r.failures,
         threshold: 0,
         first: false,
         good: false,
@@ -183,12 +206,13 @@ fn access_stage(x: Access) -> Stage
     ensures { λ r. ⌜ r ≡ accessStage x ⌝ }
 {
     match x {
-        Access::Start(k) => bare(4, k, 0),
-        Access::Store => bare(5, 0, 0),
+        Access::Start(k) => bare(4, k),
+        Access::Store => bare(5, 0),
         Access::Read(r) => read_stage(r),
-        Access::Write(s) => bare(7, 0, s.0),
-        Access::TrialWrite(r) => trial_stage(8, r),
-        Access::TrialRead(r) => trial_stage(9, r),
+        Access::Write(w) => target_stage(7, w),
+        Access::Verify(w) => target_stage(8, w),
+        Access::TrialWrite(r) => trial_stage(9, r),
+        Access::TrialRead(r) => trial_stage(10, r),
     }
 }
 
@@ -197,10 +221,10 @@ fn stage_of(p: Phase) -> Stage
     ensures { λ r. ⌜ r ≡ stageOf p ⌝ }
 {
     match p {
-        Phase::Idle => bare(0, 0, 0),
-        Phase::Offered(o) => bare(1, response(o), 0),
-        Phase::Command => bare(2, 0, 0),
-        Phase::Data => bare(3, 0, 0),
+        Phase::Idle => bare(0, 0),
+        Phase::Offered(o) => bare(1, response(o)),
+        Phase::Command => bare(2, 0),
+        Phase::Data => bare(3, 0),
         Phase::Awaiting(x) => access_stage(x),
     }
 }
@@ -253,6 +277,17 @@ fn retry_of(s: Stage) -> Retry
     }
 }
 
+// Returns the write or the verify of a stage.
+fn target_of(s: Stage) -> Target
+    ensures { λ r. ⌜ r ≡ targetOf s ⌝ }
+{
+    Target {
+        block: Block(s.block),
+        sector: Sector(s.sector),
+        verify: s.first,
+    }
+}
+
 // Returns the trial of a stage.
 fn trial_of(s: Stage) -> Trial
     ensures { λ r. ⌜ r ≡ trialOf s ⌝ }
@@ -261,7 +296,8 @@ fn trial_of(s: Stage) -> Trial
         block: Block(s.block),
         sector: Sector(s.sector),
         spare: s.spare,
-        attempts: s.detail,
+        rereads: s.detail,
+        failures: s.spent,
         seen: seen_of(s),
     }
 }
@@ -279,9 +315,10 @@ fn phase_of(s: Stage) -> Phase
         4 => Phase::Awaiting(Access::Start(s.detail)),
         5 => Phase::Awaiting(Access::Store),
         6 => Phase::Awaiting(Access::Read(retry_of(s))),
-        7 => Phase::Awaiting(Access::Write(Sector(s.sector))),
-        8 => Phase::Awaiting(Access::TrialWrite(trial_of(s))),
-        9 => Phase::Awaiting(Access::TrialRead(trial_of(s))),
+        7 => Phase::Awaiting(Access::Write(target_of(s))),
+        8 => Phase::Awaiting(Access::Verify(target_of(s))),
+        9 => Phase::Awaiting(Access::TrialWrite(trial_of(s))),
+        10 => Phase::Awaiting(Access::TrialRead(trial_of(s))),
         _ => damaged(),
     }
 }

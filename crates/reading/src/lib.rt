@@ -49,7 +49,7 @@ fn again(l: State, r: Retry, p: Part) -> Turn
     }
 }
 
-// Ends a read that was good after errors, or begins to move its block.
+// Ends a read that was good after errors, or begins the trial of its sector.
 fn settle(l: State, r: Retry, p: Part) -> Turn
     ensures { λ x. ⌜ x ≡ settled l r p ⌝ }
 {
@@ -61,7 +61,7 @@ fn settle(l: State, r: Retry, p: Part) -> Turn
     if m.latch {
         return records::finish(l, Change::Keep, Ending::Latched, s, p);
     }
-    sparing::attempt(
+    sparing::begin(
         l,
         Change::Keep,
         records::on_present(r.block, r.sector, s),

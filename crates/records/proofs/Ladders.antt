@@ -9,6 +9,7 @@ use lib.Dec.{eqb, ltb, leb}
 use lib.ListN.{length}
 use Rattle.logic.proofs.Bools.{branch}
 use Rattle.geometry.specs.Geometry.{tableSector}
+use Rattle.geometry.specs.declared.Block.{Block}
 use Rattle.lists.specs.Lists.{memberOf}
 use Rattle.table.specs.declared.Table.{Table}
 use Rattle.table.specs.Tables.{spareList, badList}
@@ -32,15 +33,16 @@ use Rattle.drive.specs.declared.Refusal.the-variants as refusal
 use Rattle.drive.specs.declared.Retry.{Retry}
 use Rattle.drive.specs.declared.Seen.{Seen}
 use Rattle.drive.specs.declared.State.{State}
+use Rattle.drive.specs.declared.Target.{Target}
 use Rattle.drive.specs.declared.Trial.{Trial}
 use Rattle.drive.specs.declared.Turn.{Turn}
 use Rattle.drive.specs.Words.{isRead, isWrite, isVerify}
 use Rattle.drive.specs.Records.{recordOk}
 use Rattle.drive.specs.Results.{Out, inPhase, say, refuse, finish, clean, onPresent, guarded}
-use Rattle.drive.specs.Handshake.{offersCommand, storesFirst, raisedIdle, offerFor, ends, firstRead, plainWrite, firstAttempt, isPlain, writes, tooLong, asksBuffer, asksTable, asksHealth, noNumber, health, acted, goesOn, brokenOff, lowered}
+use Rattle.drive.specs.Handshake.{offersCommand, storesFirst, raisedIdle, offerFor, ends, firstRead, firstWrite, firstTrial, isListed, writes, tooLong, asksBuffer, asksTable, asksHealth, noNumber, health, acted, goesOn, brokenOff, lowered}
 use Rattle.drive.specs.Retries.{met, passed, failed, goesOnReading, afterRead}
-use Rattle.drive.specs.Sparing.{attempt, onSpare, once, hasUnused, nextAttempt, hasAttempt, missed, stopped, verified, tried, checked}
-use Rattle.drive.specs.Access.{answerFits, bytesFit, fitting, withTable, isTaken, startAnswered, hasRoom, lost, isBelow, settled, writeAnswered}
+use Rattle.drive.specs.Sparing.{begin, onSpare, hasUnused, nextSpare, missed, stopped, verified, tried, fault, counted, hasReread, isSound, judged, checked}
+use Rattle.drive.specs.Access.{answerFits, bytesFit, fitting, withTable, isTaken, startAnswered, hasRoom, lost, isBelow, settled, writeAnswered, verifyAnswered}
 use Rattle.drive.specs.Calls.{imageSays, imageOutOf}
 
 -- CODES 1 AND 2, CODES 4 AND 5
@@ -105,8 +107,8 @@ pub record Acted (P : Turn → Type 0) (o : Order) (l : State) (t : Table) : Typ
       → P (ends l ending.Good (part.Figures (health (t .nspares) (t .nbads) (l .marks))))
   pub read : OnBlock o l → isRead (o .kind) ≡ true → P (firstRead o l (spareList t))
   pub latched : OnBlock o l → isRead (o .kind) ≡ false → l .marks .latch ≡ true → P (ends l ending.Latched part.Kept)
-  pub plain : OnBlock o l → isRead (o .kind) ≡ false → l .marks .latch ≡ false → isPlain o t ≡ true → P (plainWrite o l (spareList t))
-  pub verify : OnBlock o l → isRead (o .kind) ≡ false → l .marks .latch ≡ false → isPlain o t ≡ false → P (firstAttempt o l (spareList t))
+  pub listed : OnBlock o l → isRead (o .kind) ≡ false → l .marks .latch ≡ false → isListed o t ≡ true → P (firstTrial o l (spareList t))
+  pub write : OnBlock o l → isRead (o .kind) ≡ false → l .marks .latch ≡ false → isListed o t ≡ false → P (firstWrite o l (spareList t))
 
 pub acted-cases : (P : Turn → Type 0) (o : Order) (l : State) (t : Table) → Acted P o l t → P (acted o l t)
 unfolding acted writes
@@ -119,10 +121,10 @@ acted-cases P o l t z =
     (λ e4. branch P (asksHealth (o .number)) (z .health e3)
     (λ e5. on-block (record { short = e0; number = e1; not-buffer = e2; known = e3; not-table = e4; not-health = e5 })))))))
   where
-    on-block : OnBlock o l → P (cond (isRead (o .kind)) (firstRead o l (spareList t)) (cond (l .marks .latch) (ends l ending.Latched part.Kept) (cond (isPlain o t) (plainWrite o l (spareList t)) (firstAttempt o l (spareList t)))))
+    on-block : OnBlock o l → P (cond (isRead (o .kind)) (firstRead o l (spareList t)) (cond (l .marks .latch) (ends l ending.Latched part.Kept) (cond (isListed o t) (firstTrial o l (spareList t)) (firstWrite o l (spareList t)))))
     on-block b =
         branch P (isRead (o .kind)) (z .read b)
-        (λ e. branch P (l .marks .latch) (z .latched b e) (λ f. branch P (isPlain o t) (z .plain b e f) (z .verify b e f)))
+        (λ e. branch P (l .marks .latch) (z .latched b e) (λ f. branch P (isListed o t) (z .listed b e f) (z .write b e f)))
 
 -- LOWER
 
@@ -136,24 +138,22 @@ lowered-cases P o l t b z = branch P (eqb b 0x55) (z .goes) (z .breaks)
 
 -- SPARING
 
-pub record NextAttempt (P : Turn → Type 0) (n : ℕ) (l : State) (c : Change) (r : Trial) (s : Seen) : Type 0 where
-  pub spare : hasUnused n ≡ true → P (attempt l c (onSpare n r s) part.Kept)
+pub record NextSpare (P : Turn → Type 0) (n : ℕ) (l : State) (c : Change) (b : Block) (s : Seen) : Type 0 where
+  pub spare : hasUnused n ≡ true → P (begin l c (onSpare n b s) part.Kept)
   pub no-spare : hasUnused n ≡ false → P (finish l c ending.NoSpare s part.Kept)
 
-pub next-attempt-cases : (P : Turn → Type 0) (n : ℕ) (l : State) (c : Change) (r : Trial) (s : Seen) → NextAttempt P n l c r s → P (nextAttempt n l c r s)
-unfolding nextAttempt
-next-attempt-cases P n l c r s z = branch P (hasUnused n) (z .spare) (z .no-spare)
+pub next-spare-cases : (P : Turn → Type 0) (n : ℕ) (l : State) (c : Change) (b : Block) (s : Seen) → NextSpare P n l c b s → P (nextSpare n l c b s)
+unfolding nextSpare
+next-spare-cases P n l c b s z = branch P (hasUnused n) (z .spare) (z .no-spare)
 
 pub record Missed (P : Turn → Type 0) (l : State) (t : Table) (r : Trial) (s : Seen) : Type 0 where
-  pub again : hasAttempt r ≡ true → P (attempt l change.Keep (once r s) part.Kept)
-  pub dead : hasAttempt r ≡ false → r .spare ≡ true → NextAttempt P (t .nspares + 1) l change.Kill r s
-  pub left : hasAttempt r ≡ false → r .spare ≡ false → NextAttempt P (t .nspares) l change.Keep r s
+  pub dead : r .spare ≡ true → NextSpare P (t .nspares + 1) l change.Kill (r .block) s
+  pub left : r .spare ≡ false → NextSpare P (t .nspares) l change.Keep (r .block) s
 
 pub missed-cases : (P : Turn → Type 0) (l : State) (t : Table) (r : Trial) (s : Seen) → Missed P l t r s → P (missed l t r s)
 unfolding missed
 missed-cases P l t r s z =
-    branch P (hasAttempt r) (z .again)
-    (λ e. branch P (r .spare) (λ f. next-attempt-cases P _ l change.Kill r s (z .dead e f)) (λ f. next-attempt-cases P _ l change.Keep r s (z .left e f)))
+    branch P (r .spare) (λ e. next-spare-cases P _ l change.Kill (r .block) s (z .dead e)) (λ e. next-spare-cases P _ l change.Keep (r .block) s (z .left e))
 
 pub record Stopped (P : Turn → Type 0) (l : State) (r : Trial) : Type 0 where
   pub dead : r .spare ≡ true → P (finish l change.Kill ending.Latched (r .seen) part.Kept)
@@ -185,16 +185,24 @@ tried-cases P l t r a z =
     branch P (eqb a 0) (z .done)
     (λ e. branch P (eqb a 3) (λ f. stopped-cases P l r (z .stops f)) (λ f. missed-cases P l t r (met a (r .seen)) (z .fails e f)))
 
+pub record Judged (P : Turn → Type 0) (l : State) (t : Table) (r : Trial) : Type 0 where
+  pub again : hasReread r ≡ true → P (say (inPhase l (phase.Awaiting (access.TrialRead r))) (answer.Read (r .sector)))
+  pub passes : hasReread r ≡ false → isSound r ≡ true → Verified P l t r
+  pub fails : hasReread r ≡ false → isSound r ≡ false → Missed P l t r (r .seen)
+
+pub judged-cases : (P : Turn → Type 0) (l : State) (t : Table) (r : Trial) → Judged P l t r → P (judged l t r)
+unfolding judged
+judged-cases P l t r z =
+    branch P (hasReread r) (z .again)
+    (λ e. branch P (isSound r) (λ f. verified-cases P l t r (z .passes e f)) (λ f. missed-cases P l t r (r .seen) (z .fails e f)))
+
 pub record Checked (P : Turn → Type 0) (l : State) (t : Table) (r : Trial) (a : ℕ) (equal : Bool) : Type 0 where
-  pub verifies : equal ≡ true → Verified P l t r
-  pub stops : equal ≡ false → eqb a 3 ≡ true → Stopped P l r
-  pub fails : equal ≡ false → eqb a 3 ≡ false → Missed P l t r (met (cond (eqb a 0) 1 a) (r .seen))
+  pub stops : eqb a 3 ≡ true → Stopped P l r
+  pub counts : eqb a 3 ≡ false → Judged P l t (counted r a equal)
 
 pub checked-cases : (P : Turn → Type 0) (l : State) (t : Table) (r : Trial) (a : ℕ) (equal : Bool) → Checked P l t r a equal → P (checked l t r a equal)
 unfolding checked
-checked-cases P l t r a equal z =
-    branch P equal (λ e. verified-cases P l t r (z .verifies e))
-    (λ e. branch P (eqb a 3) (λ f. stopped-cases P l r (z .stops e f)) (λ f. missed-cases P l t r (met (cond (eqb a 0) 1 a) (r .seen)) (z .fails e f)))
+checked-cases P l t r a equal z = branch P (eqb a 3) (λ e. stopped-cases P l r (z .stops e)) (λ e. judged-cases P l t (counted r a equal) (z .counts e))
 
 -- THE START
 
@@ -223,7 +231,7 @@ lost-cases P l t r p z = branch P (memberOf (r .block .0) (badList t)) (z .liste
 pub record Settled (P : Turn → Type 0) (l : State) (r : Retry) (p : Part) : Type 0 where
   pub below : isBelow r ≡ true → P (finish l change.Keep ending.Good (r .seen) p)
   pub latched : isBelow r ≡ false → l .marks .latch ≡ true → P (finish l change.Keep ending.Latched (r .seen) p)
-  pub tries : isBelow r ≡ false → l .marks .latch ≡ false → P (attempt l change.Keep (onPresent (r .block) (r .sector) (r .seen)) p)
+  pub tries : isBelow r ≡ false → l .marks .latch ≡ false → P (begin l change.Keep (onPresent (r .block) (r .sector) (r .seen)) p)
 
 pub settled-cases : (P : Turn → Type 0) (l : State) (r : Retry) (p : Part) → Settled P l r p → P (settled l r p)
 unfolding settled
@@ -252,16 +260,28 @@ after-read-cases P r a z =
     branch P (eqb a 0) (λ e. branch P (r .first) (z .done e) (λ f. goes-on-cases P (passed r) (z .passes e f)))
     (λ e. branch P (eqb a 3) (z .stops e) (λ f. goes-on-cases P (failed r a) (z .fails e f)))
 
--- A PLAIN WRITE
+-- A WRITE AND ITS VERIFY
 
-pub record WriteAnswered (P : Turn → Type 0) (l : State) (a : ℕ) : Type 0 where
-  pub done : eqb a 0 ≡ true → P (finish l change.Keep ending.Good clean part.Kept)
+pub record WriteAnswered (P : Turn → Type 0) (l : State) (t : Table) (w : Target) (a : ℕ) : Type 0 where
+  pub verifies : eqb a 0 ≡ true → w .verify ≡ true → P (say (inPhase l (phase.Awaiting (access.Verify w))) (answer.Read (w .sector)))
+  pub done : eqb a 0 ≡ true → w .verify ≡ false → P (finish l change.Keep ending.Good clean part.Kept)
   pub stops : eqb a 0 ≡ false → eqb a 3 ≡ true → P (finish l change.Keep ending.Latched clean part.Kept)
-  pub fails : eqb a 0 ≡ false → eqb a 3 ≡ false → P (finish l change.Keep ending.Failed (met a clean) part.Kept)
+  pub moves : eqb a 0 ≡ false → eqb a 3 ≡ false → NextSpare P (t .nspares) l change.Keep (w .block) (met a clean)
 
-pub write-cases : (P : Turn → Type 0) (l : State) (a : ℕ) → WriteAnswered P l a → P (writeAnswered l a)
+pub write-cases : (P : Turn → Type 0) (l : State) (t : Table) (w : Target) (a : ℕ) → WriteAnswered P l t w a → P (writeAnswered l t w a)
 unfolding writeAnswered
-write-cases P l a z = branch P (eqb a 0) (z .done) (λ e. branch P (eqb a 3) (z .stops e) (z .fails e))
+write-cases P l t w a z =
+    branch P (eqb a 0) (λ e. branch P (w .verify) (z .verifies e) (z .done e))
+    (λ e. branch P (eqb a 3) (z .stops e) (λ f. next-spare-cases P _ l change.Keep (w .block) (met a clean) (z .moves e f)))
+
+pub record VerifyAnswered (P : Turn → Type 0) (l : State) (w : Target) (a : ℕ) (equal : Bool) : Type 0 where
+  pub stops : eqb a 3 ≡ true → P (finish l change.Keep ending.Latched clean part.Kept)
+  pub done : eqb a 3 ≡ false → equal ≡ true → P (finish l change.Keep ending.Good clean part.Kept)
+  pub fails : eqb a 3 ≡ false → equal ≡ false → P (begin l change.Keep (onPresent (w .block) (w .sector) (met (fault a equal) clean)) part.Kept)
+
+pub verify-cases : (P : Turn → Type 0) (l : State) (w : Target) (a : ℕ) (equal : Bool) → VerifyAnswered P l w a equal → P (verifyAnswered l w a equal)
+unfolding verifyAnswered
+verify-cases P l w a equal z = branch P (eqb a 3) (z .stops) (λ e. branch P equal (z .done e) (z .fails e))
 
 -- IMAGE
 

@@ -1,10 +1,11 @@
--- THE SHAPES OF A TURN: a rule finishes, begins an attempt, or says something; only the start also loads a table. What holds of each
+-- THE SHAPES OF A TURN: a rule finishes, begins a trial, or says something; only the start also loads a table. What holds of each
 -- shape holds of each rule.
 use mathlib.Core.Path.{_≡_, refl}
 use mathlib.Core.Bool.{Bool, true, false}
 use mathlib.Core.List.{List}
 use Prim.Native.Nat.{ℕ, _+_}
 use Rattle.logic.proofs.Bools.{clash}
+use Rattle.geometry.specs.declared.Block.{Block}
 use Rattle.table.specs.declared.Table.{Table}
 use Rattle.drive.specs.declared.Access.{Access}
 use Rattle.drive.specs.declared.Access.the-variants as access
@@ -24,29 +25,25 @@ use Rattle.drive.specs.declared.Turn.{Turn}
 use Rattle.drive.specs.Results.{finish}
 use Rattle.drive.specs.Handshake.{acted}
 use Rattle.drive.specs.Retries.{afterRead}
-use Rattle.drive.specs.Sparing.{attempt}
+use Rattle.drive.specs.Sparing.{begin, counted}
 use Rattle.drive.specs.Access.{withTable, storeAnswered, keptPart, reads, follows}
 use Rattle.drive.specs.Views.{ofAnswer}
 use Rattle.drive.specs.Over.{ofStart}
 use Rattle.records.specs.Turns.{isLoad}
-use Rattle.records.proofs.Ladders.{acted-cases, NextAttempt, Missed, Stopped, Verified, tried-cases, checked-cases, lost-cases, settled-cases, start-cases, write-cases}
+use Rattle.records.proofs.Ladders.{acted-cases, NextSpare, Missed, Stopped, Verified, Judged, tried-cases, checked-cases, lost-cases, settled-cases, start-cases, write-cases, verify-cases}
 
 pub record Shapes (P : Turn → Type 0) (l : State) : Type 0 where
   pub ends : (c : Change) (e : Ending) (s : Seen) (p : Part) → isLoad c ≡ false → P (finish l c e s p)
-  pub tries : (c : Change) (r : Trial) (p : Part) → isLoad c ≡ false → P (attempt l c r p)
+  pub tries : (c : Change) (r : Trial) (p : Part) → isLoad c ≡ false → P (begin l c r p)
   pub says : (k : State) (a : Answer) (p : Part) → ofAnswer a .refused ≡ false → P (record { state = k; answer = a; change = change.Keep; leaves = record { status = status.Kept; part = p } })
 
 module _ (P : Turn → Type 0) (l : State) (z : Shapes P l) (t : Table) where
-  next-spare : (n : ℕ) (c : Change) (r : Trial) (s : Seen) → isLoad c ≡ false → NextAttempt P n l c r s
-  next-spare n c r s k = record { spare = λ e. z .tries c _ _ k; no-spare = λ e. z .ends c _ _ _ k }
+  next-spare : (n : ℕ) (c : Change) (b : Block) (s : Seen) → isLoad c ≡ false → NextSpare P n l c b s
+  next-spare n c b s k = record { spare = λ e. z .tries c _ _ k; no-spare = λ e. z .ends c _ _ _ k }
 
   misses : (r : Trial) (s : Seen) → Missed P l t r s
   misses r s =
-      record {
-        again = λ e. z .tries change.Keep _ _ refl;
-        dead = λ e f. next-spare (t .nspares + 1) change.Kill r s refl;
-        left = λ e f. next-spare (t .nspares) change.Keep r s refl;
-      }
+      record { dead = λ e. next-spare (t .nspares + 1) change.Kill (r .block) s refl; left = λ e. next-spare (t .nspares) change.Keep (r .block) s refl }
 
   stops : (r : Trial) → Stopped P l r
   stops r = record { dead = λ e. z .ends change.Kill _ _ _ refl; present = λ e. z .ends change.Keep _ _ _ refl }
@@ -58,6 +55,9 @@ module _ (P : Turn → Type 0) (l : State) (z : Shapes P l) (t : Table) where
         listed = λ e f. z .ends (change.Remove (r .block)) _ _ _ refl;
         stays = λ e f. z .ends change.Keep _ _ _ refl;
       }
+
+  judges : (r : Trial) → Judged P l t r
+  judges r = record { again = λ e. z .says _ _ _ refl; passes = λ e f. verifies r; fails = λ e f. misses r _ }
 
   pub reads-shape : (o : Outcome) (p : Part) → P (reads o l t p)
   unfolding reads
@@ -76,10 +76,18 @@ module _ (P : Turn → Type 0) (l : State) (z : Shapes P l) (t : Table) where
       start-cases P k l a bs (record { table = λ e. n refl; stops = λ e f. z .says _ _ _ refl; again = λ e f. z .says _ _ _ refl; gives-up = λ e f. z .says _ _ _ refl })
   follows-shape access.Store a bs q n = z .says _ _ _ refl
   follows-shape (access.Read r) a bs q n = reads-shape (afterRead r a) (keptPart r a)
-  follows-shape (access.Write s) a bs q n =
-      write-cases P l a (record { done = λ e. z .ends change.Keep _ _ _ refl; stops = λ e f. z .ends change.Keep _ _ _ refl; fails = λ e f. z .ends change.Keep _ _ _ refl })
+  follows-shape (access.Write w) a bs q n =
+      write-cases P l t w a
+      (record {
+        verifies = λ e f. z .says _ _ _ refl;
+        done = λ e f. z .ends change.Keep _ _ _ refl;
+        stops = λ e f. z .ends change.Keep _ _ _ refl;
+        moves = λ e f. next-spare (t .nspares) change.Keep (w .block) _ refl;
+      })
+  follows-shape (access.Verify w) a bs q n =
+      verify-cases P l w a q (record { stops = λ e. z .ends change.Keep _ _ _ refl; done = λ e f. z .ends change.Keep _ _ _ refl; fails = λ e f. z .tries change.Keep _ _ refl })
   follows-shape (access.TrialWrite r) a bs q n = tried-cases P l t r a (record { done = λ e. z .says _ _ _ refl; stops = λ e. stops r; fails = λ e f. misses r _ })
-  follows-shape (access.TrialRead r) a bs q n = checked-cases P l t r a q (record { verifies = λ e. verifies r; stops = λ e f. stops r; fails = λ e f. misses r _ })
+  follows-shape (access.TrialRead r) a bs q n = checked-cases P l t r a q (record { stops = λ e. stops r; counts = λ e. judges (counted r a q) })
 
   pub acted-shape : (o : Order) → P (acted o l t)
   acted-shape o =
@@ -93,8 +101,8 @@ module _ (P : Turn → Type 0) (l : State) (z : Shapes P l) (t : Table) where
         health = λ e f. z .ends change.Keep _ _ _ refl;
         read = λ b e. z .says _ _ _ refl;
         latched = λ b e f. z .ends change.Keep _ _ _ refl;
-        plain = λ b e f g. z .says _ _ _ refl;
-        verify = λ b e f g. z .says _ _ _ refl;
+        listed = λ b e f g. z .tries change.Keep _ _ refl;
+        write = λ b e f g. z .says _ _ _ refl;
       })
 
 -- Only the start loads a table.

@@ -8,7 +8,7 @@ ghost use lib.ListN.{take};
 ghost use Rattle.geometry.specs.Geometry.{spareOf};
 ghost use Rattle.drive.specs.Words.{kindOf, numberOf, orderOf, isRead, isWrite, isVerify, rowOf, statusOf};
 ghost use Rattle.drive.specs.Results.{inPhase, withMarks, say, refuse, alters, latches, altered, finished, finish, clean, onPresent};
-ghost use Rattle.drive.specs.Records.{retryOk, trialOk, accessOk, phaseOk, stateOk};
+ghost use Rattle.drive.specs.Records.{retryOk, targetOk, trialOk, accessOk, phaseOk, stateOk};
 ghost use Rattle.drive.specs.Retries.{met};
 ghost use Rattle.drive.specs.Sparing.{hasUnused};
 ghost use Rattle.drive.specs.Handshake.{opened};
@@ -31,6 +31,7 @@ use drive::Row;
 use drive::Seen;
 use drive::State;
 use drive::Status;
+use drive::Target;
 use drive::Trial;
 use drive::Turn;
 use geometry::Block;
@@ -57,13 +58,21 @@ fn is_next_unused(n: usize, s: u32) -> bool
     }
 }
 
+// Says whether a write command's write, or its verify, passes code 1.
+pub fn target_ok(w: Target) -> bool
+    ensures { λ x. ⌜ x ≡ targetOk w ⌝ }
+{
+    geometry::is_block(w.block) & geometry::is_sector(w.sector)
+}
+
 // Says whether a trial passes code 1, with n spares listed.
 pub fn trial_ok(n: usize, r: Trial) -> bool
     ensures { λ x. ⌜ x ≡ trialOk n r ⌝ }
 {
     geometry::is_block(r.block)
         & geometry::is_sector(r.sector)
-        & (r.attempts <= 2)
+        & (r.rereads <= 100)
+        & (r.failures <= r.rereads)
         & (!r.spare | is_next_unused(n, r.sector.0))
 }
 
@@ -75,7 +84,8 @@ fn access_ok(n: usize, known: bool, x: Access) -> bool
         Access::Start(k) => k <= 10,
         Access::Store => known,
         Access::Read(r) => known & retry_ok(r),
-        Access::Write(s) => known & geometry::is_sector(s),
+        Access::Write(w) => known & target_ok(w),
+        Access::Verify(w) => known & target_ok(w),
         Access::TrialWrite(r) => known & trial_ok(n, r),
         Access::TrialRead(r) => known & trial_ok(n, r),
     }
@@ -206,7 +216,7 @@ pub fn met(a: u8, s: Seen) -> Seen
     }
 }
 
-// Returns the first attempt on a block's present sector.
+// Returns the trial of a block's present sector, before its first reread.
 pub fn on_present(b: Block, s: Sector, seen: Seen) -> Trial
     ensures { λ r. ⌜ r ≡ onPresent b s seen ⌝ }
 {
@@ -214,7 +224,8 @@ pub fn on_present(b: Block, s: Sector, seen: Seen) -> Trial
         block: b,
         sector: s,
         spare: false,
-        attempts: 1,
+        rereads: 0,
+        failures: 0,
         seen: seen,
     }
 }

@@ -1,10 +1,15 @@
-// The move routine of document 01: attempts on the present sector, then on each next unused spare.
+// Sector trials (document 02, request 4): one write, then a hundred rereads, of the present sector or of
+// the next unused spare.
 ghost use mathlib.Core.Path.{_≡_};
-ghost use mathlib.Core.Bool.{true, cond};
+ghost use mathlib.Core.Bool.{true};
 ghost use mathlib.Core.List.{[]};
-ghost use Prim.Native.Nat.{_+_, _≤_, _<_};
-ghost use lib.Dec.{eqb};
-ghost use Rattle.drive.specs.Sparing.{attempt, once, nextAttempt, missed, stopped, verified, tried, checked};
+ghost use Prim.Native.Nat.{_≤_};
+ghost use Rattle.drive.specs.declared.Access.the-variants as access;
+ghost use Rattle.drive.specs.declared.Phase.the-variants as phase;
+ghost use Rattle.drive.specs.declared.Answer.the-variants as answer;
+ghost use Rattle.drive.specs.Records.{trialOk};
+ghost use Rattle.drive.specs.Results.{say, inPhase};
+ghost use Rattle.drive.specs.Sparing.{begin, nextSpare, missed, stopped, verified, tried, fault, counted, judged, checked};
 ghost use Rattle.records.specs.Turns.{lent};
 use drive::Access;
 use drive::Answer;
@@ -18,12 +23,13 @@ use drive::State;
 use drive::Status;
 use drive::Trial;
 use drive::Turn;
+use geometry::Block;
 use geometry::Sector;
 use table::NextSpare;
 
-// Begins an attempt: asks for its write.
-pub fn attempt(l: State, c: Change, r: Trial, p: Part) -> Turn
-    ensures { λ x. ⌜ x ≡ attempt l c r p ⌝ }
+// Begins a trial: asks for its write.
+pub fn begin(l: State, c: Change, r: Trial, p: Part) -> Turn
+    ensures { λ x. ⌜ x ≡ begin l c r p ⌝ }
 {
     let m = l.marks;
     let s = r.sector;
@@ -42,58 +48,40 @@ pub fn attempt(l: State, c: Change, r: Trial, p: Part) -> Turn
     }
 }
 
-// Returns the first attempt on a spare's sector.
-fn on_spare(at: Sector, r: Trial, s: Seen) -> Trial
-    ensures { λ x. ⌜ x ≡ record { block = r .block; sector = at; spare = true; attempts = 1; seen = s } ⌝ }
+// Returns the trial of a spare's sector, before its first reread.
+fn on_spare(at: Sector, b: Block, s: Seen) -> Trial
+    ensures { λ x. ⌜ x ≡ record { block = b; sector = at; spare = true; rereads = 0; failures = 0; seen = s } ⌝ }
 {
-    let block = r.block;
     Trial {
-        block: block,
+        block: b,
         sector: at,
         spare: true,
-        attempts: 1,
-        seen: s,
-    }
-}
-
-// Returns one attempt more on the same sector.
-fn once(r: Trial, s: Seen) -> Trial
-    requires { ⌜ r .attempts < 2 ⌝ }
-    ensures { λ x. ⌜ x ≡ once r s ⌝ }
-{
-    let block = r.block;
-    let sector = r.sector;
-    Trial {
-        block: block,
-        sector: sector,
-        spare: r.spare,
-        attempts: r.attempts + 1,
+        rereads: 0,
+        failures: 0,
         seen: s,
     }
 }
 
 // Goes to the next unused spare, with n listed by now, or finishes where there is none.
-fn next_attempt(n: usize, l: State, c: Change, r: Trial, s: Seen) -> Turn
-    ensures { λ x. ⌜ x ≡ nextAttempt n l c r s ⌝ }
+pub fn next_spare(n: usize, l: State, c: Change, b: Block, s: Seen) -> Turn
+    ensures { λ x. ⌜ x ≡ nextSpare n l c b s ⌝ }
 {
     match table::next_spare(n) {
-        NextSpare::At(at) => attempt(l, c, on_spare(at, r, s), Part::Kept),
+        NextSpare::At(at) => begin(l, c, on_spare(at, b, s), Part::Kept),
         NextSpare::None => records::finish(l, c, Ending::NoSpare, s, Part::Kept),
     }
 }
 
-// Goes on after an attempt that failed, with n spares listed.
+// Leaves a sector that failed, with n spares listed: a spare dies.
 fn miss(l: State, n: usize, r: Trial, s: Seen) -> Turn
     requires { ⌜ n ≤ 32 ⌝ }
     ensures { λ x. ⌜ x ≡ missed l (lent [] n [] 0) r s ⌝ }
 {
-    if r.attempts < 2 {
-        return attempt(l, Change::Keep, once(r, s), Part::Kept);
-    }
+    let b = r.block;
     if r.spare {
-        return next_attempt(n + 1, l, Change::Kill, r, s);
+        return next_spare(n + 1, l, Change::Kill, b, s);
     }
-    next_attempt(n, l, Change::Keep, r, s)
+    next_spare(n, l, Change::Keep, b, s)
 }
 
 // Stops a trial that was answered 3: a spare under trial dies.
@@ -107,7 +95,7 @@ fn stop(l: State, r: Trial) -> Turn
     records::finish(l, Change::Keep, Ending::Latched, s, Part::Kept)
 }
 
-// Ends a trial that verified. The first m of bads are the bad list.
+// Ends a trial that passed. The first m of bads are the bad list.
 fn verify(l: State, bads: &[u16], m: usize, r: Trial) -> Turn
     ensures { λ x. ⌜ x ≡ verified l (lent [] 0 (now (bads .entry)) m) r ⌝ }
 {
@@ -122,17 +110,24 @@ fn verify(l: State, bads: &[u16], m: usize, r: Trial) -> Turn
     records::finish(l, Change::Keep, Ending::Good, s, Part::Kept)
 }
 
-// Returns what answer a to an attempt's write leads to, with n spares listed.
+// Asks for a reread.
+fn reread(l: State, r: Trial) -> Turn
+    ensures { λ x. ⌜ x ≡ say (inPhase l (phase.Awaiting (access.TrialRead r))) (answer.Read (r .sector)) ⌝ }
+{
+    let s = r.sector;
+    records::say(
+        records::in_phase(l, Phase::Awaiting(Access::TrialRead(r))),
+        Answer::Read(s),
+    )
+}
+
+// Returns what answer a to a trial's write leads to, with n spares listed.
 pub fn tried(l: State, n: usize, r: Trial, a: u8) -> Turn
     requires { ⌜ n ≤ 32 ⌝ }
     ensures { λ x. ⌜ x ≡ tried l (lent [] n [] 0) r a ⌝ }
 {
-    let s = r.sector;
     if a == 0 {
-        return records::say(
-            records::in_phase(l, Phase::Awaiting(Access::TrialRead(r))),
-            Answer::Read(s),
-        );
+        return reread(l, r);
     }
     if a == 3 {
         return stop(l, r);
@@ -140,23 +135,58 @@ pub fn tried(l: State, n: usize, r: Trial, a: u8) -> Turn
     miss(l, n, r, records::met(a, r.seen))
 }
 
-// Returns the answer that a verify counts as: bytes that differ are a CRC error.
-fn as_failure(a: u8) -> u8
-    ensures { λ x. ⌜ x ≡ cond (eqb a 0) 1 a ⌝ }
+// Returns the error that answer a to a verify or a reread counts as, 0 for none. equal: it is 0, with the
+// bytes of the data part; other bytes are a CRC error.
+pub fn fault(a: u8, equal: bool) -> u8
+    ensures { λ x. ⌜ x ≡ fault a equal ⌝ }
 {
+    if equal {
+        return 0;
+    }
     if a == 0 { 1 } else { a }
 }
 
-// Returns what answer a to an attempt's read leads to. equal: it is 0, with the bytes of the data part.
-pub fn checked(l: State, n: usize, bads: &[u16], m: usize, r: Trial, a: u8, equal: bool) -> Turn
-    requires { ⌜ n ≤ 32 ⌝ }
-    ensures { λ x. ⌜ x ≡ checked l (lent [] n (now (bads .entry)) m) r a equal ⌝ }
+// Returns the trial with one reread more.
+fn counted(r: Trial, a: u8, equal: bool) -> Trial
+    requires { ⌜ (r .rereads ≤ 100) × (r .failures ≤ r .rereads) ⌝ }
+    ensures { λ x. ⌜ x ≡ counted r a equal ⌝ }
 {
-    if equal {
+    let block = r.block;
+    let sector = r.sector;
+    let seen = records::met(fault(a, equal), r.seen);
+    let failed = records::bit(!equal, 1);
+    Trial {
+        block: block,
+        sector: sector,
+        spare: r.spare,
+        rereads: r.rereads + 1,
+        failures: r.failures + failed,
+        seen: seen,
+    }
+}
+
+// Goes on after a reread, with n spares listed and the first m of bads as the bad list.
+fn judge(l: State, n: usize, bads: &[u16], m: usize, r: Trial) -> Turn
+    requires { ⌜ n ≤ 32 ⌝ }
+    ensures { λ x. ⌜ x ≡ judged l (lent [] n (now (bads .entry)) m) r ⌝ }
+{
+    let s = r.seen;
+    if r.rereads < 100 {
+        return reread(l, r);
+    }
+    if r.failures <= 30 {
         return verify(l, bads, m, r);
     }
+    miss(l, n, r, s)
+}
+
+// Returns what answer a to a reread leads to. equal: it is 0, with the bytes of the data part.
+pub fn checked(l: State, n: usize, bads: &[u16], m: usize, r: Trial, a: u8, equal: bool) -> Turn
+    requires { ⌜ (n ≤ 32) × (trialOk n r ≡ true) ⌝ }
+    ensures { λ x. ⌜ x ≡ checked l (lent [] n (now (bads .entry)) m) r a equal ⌝ }
+{
     if a == 3 {
         return stop(l, r);
     }
-    miss(l, n, r, records::met(as_failure(a), r.seen))
+    judge(l, n, bads, m, counted(r, a, equal))
 }

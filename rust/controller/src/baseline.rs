@@ -1,6 +1,6 @@
 //! The same calls as ordinary Rust over a `&mut` record, to measure the library
-//! against. It tests in each call what document 01 asks each call to test, and is
-//! run beside the library by `fuzz`.
+//! against. It tests in each call what documents 01 and 02 ask each call to test, and
+//! is run beside the library by `fuzz`.
 
 mod packing;
 
@@ -16,6 +16,10 @@ const RAM: u32 = 0xFF_FFFE;
 const TABLE_IMAGE: u32 = 0xFF_FFFF;
 const HEALTH: u32 = 0xFF_FFFD;
 
+/// Rereads of a trial, and the failures among them with which it passes at most.
+const REREADS: u8 = 100;
+const MOST_FAILURES: u8 = 30;
+
 /// What a command has met.
 #[derive(Clone, Copy, Debug, Default)]
 struct Seen {
@@ -24,7 +28,7 @@ struct Seen {
     timeout: bool,
 }
 
-/// A read command before the move routine.
+/// A read command before any trial.
 #[derive(Clone, Copy, Debug)]
 struct Read {
     block: u16,
@@ -37,14 +41,27 @@ struct Read {
     seen: Seen,
 }
 
-/// An attempt of the move routine.
+/// A write command or a write/verify before any trial, which has met nothing yet.
+#[derive(Clone, Copy, Debug)]
+struct Write {
+    block: u16,
+    sector: u32,
+}
+
+/// The trial of a sector.
 #[derive(Clone, Copy, Debug)]
 struct Trial {
     block: u16,
     sector: u32,
     spare: bool,
-    attempts: u8,
     seen: Seen,
+}
+
+/// The rereads of a trial that were answered, and the failures among them.
+#[derive(Clone, Copy, Debug, Default)]
+struct Rereads {
+    made: u8,
+    failures: u8,
 }
 
 #[derive(Clone, Copy, Debug)]
@@ -56,9 +73,13 @@ enum Phase {
     Start(u8),
     Store,
     Read(Read),
-    Write(u32),
-    TrialWrite(Trial),
-    TrialRead(Trial),
+    /// The one write of a write command.
+    Write(Write),
+    /// The first write of a write/verify, and its first verify.
+    VerifiedWrite(Write),
+    FirstVerify(Write),
+    TrialWrite(Trial, Rereads),
+    TrialRead(Trial, Rereads),
 }
 
 /// The record.
@@ -76,6 +97,34 @@ pub struct Drive {
     count: usize,
     fed: usize,
     phase: Phase,
+}
+
+impl Seen {
+    /// Says whether a verify or a reread failed, and keeps what it met. Other bytes
+    /// than the data part are a CRC error.
+    fn failed(&mut self, buffer: &[u8], answer: u8, bytes: &[u8]) -> bool {
+        let same = answer == 0 && bytes == &buffer[STATUS..];
+        self.crc |= answer != 2 && !same;
+        self.timeout |= answer == 2;
+        !same
+    }
+}
+
+impl Trial {
+    /// That of a block's present sector.
+    fn present(block: u16, sector: u32, seen: Seen) -> Trial {
+        Trial {
+            block,
+            sector,
+            spare: false,
+            seen,
+        }
+    }
+
+    /// That of the sector of a write.
+    fn of(write: Write) -> Trial {
+        Trial::present(write.block, write.sector, Seen::default())
+    }
 }
 
 impl Default for Drive {
@@ -209,15 +258,22 @@ impl Drive {
                     && u16::from(read.seen.errors) + u16::from(read.left) <= 255
                     && read.spent <= 89
             }
-            Phase::Write(sector) => self.known && *sector < SECTORS,
-            Phase::TrialWrite(trial) | Phase::TrialRead(trial) => {
-                self.known
-                    && trial.block < BLOCKS
-                    && trial.sector < SECTORS
-                    && trial.attempts <= 2
-                    && (!trial.spare || self.next_spare() == Some(trial.sector))
+            Phase::Write(write) | Phase::VerifiedWrite(write) | Phase::FirstVerify(write) => {
+                self.known && write.block < BLOCKS && write.sector < SECTORS
+            }
+            Phase::TrialWrite(trial, rereads) | Phase::TrialRead(trial, rereads) => {
+                self.valid_trial(trial)
+                    && rereads.made <= REREADS
+                    && rereads.failures <= rereads.made
             }
         }
+    }
+
+    fn valid_trial(&self, trial: &Trial) -> bool {
+        self.known
+            && trial.block < BLOCKS
+            && trial.sector < SECTORS
+            && (!trial.spare || self.next_spare() == Some(trial.sector))
     }
 
     fn accept(&self, lent: &[u8], length: usize) -> Result<(), Code> {
@@ -352,16 +408,14 @@ impl Drive {
 
     fn begin_write(&mut self, block: u16) -> Answer {
         let sector = self.sector(block);
-        if self.command[0] == 2 || self.bad_at(block).is_some() {
-            return self.attempt(Trial {
-                block,
-                sector,
-                spare: false,
-                attempts: 1,
-                seen: Seen::default(),
-            });
+        if self.bad_at(block).is_some() {
+            return self.try_sector(Trial::present(block, sector, Seen::default()));
         }
-        self.phase = Phase::Write(sector);
+        let write = Write { block, sector };
+        self.phase = match self.command[0] {
+            2 => Phase::VerifiedWrite(write),
+            _ => Phase::Write(write),
+        };
         Answer::Write(Sector(sector))
     }
 
@@ -423,24 +477,30 @@ impl Drive {
                 read_lengths(answer, bytes)?;
                 self.command_read(buffer, read, answer, bytes)
             }
-            Phase::Write(_) => {
+            Phase::Write(write) | Phase::VerifiedWrite(write) => {
                 write_lengths(answer, bytes)?;
-                match answer {
-                    0 => self.finish(buffer, [0; STATUS]),
-                    2 => self.finish(buffer, [0x05, 0, 0, 0]),
-                    _ => self.no_settle(buffer, Seen::default()),
-                }
+                self.written(buffer, Trial::of(write), answer)
             }
-            Phase::TrialWrite(trial) => {
+            Phase::TrialWrite(trial, _) => {
                 write_lengths(answer, bytes)?;
-                self.attempt_written(buffer, trial, answer)
+                self.written(buffer, trial, answer)
             }
-            Phase::TrialRead(trial) => {
+            Phase::FirstVerify(write) => {
                 read_lengths(answer, bytes)?;
-                self.attempt_read(buffer, trial, answer, bytes)
+                self.first_verify(buffer, write, answer, bytes)
+            }
+            Phase::TrialRead(trial, before) => {
+                read_lengths(answer, bytes)?;
+                self.reread(buffer, trial, before, answer, bytes)
             }
             _ => return Err(Code::Place),
         })
+    }
+
+    /// Asks for a read of a sector in this phase.
+    fn ask(&mut self, sector: u32, phase: Phase) -> Answer {
+        self.phase = phase;
+        Answer::Read(Sector(sector))
     }
 
     fn start_read(&mut self, reads: u8, answer: u8, bytes: &[u8]) -> Answer {
@@ -515,63 +575,85 @@ impl Drive {
         if self.latch {
             return self.end(buffer, read.seen, 0x11, 0);
         }
-        self.attempt(Trial {
-            block: read.block,
-            sector: read.sector,
-            spare: false,
-            attempts: 1,
-            seen: read.seen,
-        })
+        self.try_sector(Trial::present(read.block, read.sector, read.seen))
     }
 
-    fn attempt(&mut self, trial: Trial) -> Answer {
-        self.phase = Phase::TrialWrite(trial);
+    fn try_sector(&mut self, trial: Trial) -> Answer {
+        self.phase = Phase::TrialWrite(trial, Rereads::default());
         Answer::Write(Sector(trial.sector))
     }
 
-    fn attempt_written(&mut self, buffer: &mut [u8], mut trial: Trial, answer: u8) -> Answer {
+    /// A write was answered: a timeout goes straight to the next unused spare.
+    fn written(&mut self, buffer: &mut [u8], mut trial: Trial, answer: u8) -> Answer {
         match answer {
-            0 => {
-                self.phase = Phase::TrialRead(trial);
-                Answer::Read(Sector(trial.sector))
-            }
+            0 => self.write_done(buffer, trial),
             2 => {
                 trial.seen.timeout = true;
-                self.attempt_failed(buffer, trial)
+                self.next_trial(buffer, trial)
             }
             _ => self.no_settle(buffer, trial.seen),
         }
     }
 
-    fn attempt_read(
+    fn write_done(&mut self, buffer: &mut [u8], trial: Trial) -> Answer {
+        match self.phase {
+            Phase::VerifiedWrite(write) => self.ask(write.sector, Phase::FirstVerify(write)),
+            Phase::TrialWrite(trial, rereads) => {
+                self.ask(trial.sector, Phase::TrialRead(trial, rereads))
+            }
+            _ => self.end(buffer, trial.seen, 0, 0),
+        }
+    }
+
+    fn first_verify(
         &mut self,
         buffer: &mut [u8],
-        mut trial: Trial,
+        write: Write,
         answer: u8,
         bytes: &[u8],
     ) -> Answer {
+        let mut trial = Trial::of(write);
         match answer {
-            0 if bytes == &buffer[STATUS..] => return self.verified(buffer, trial),
-            0 | 1 => trial.seen.crc = true,
-            2 => trial.seen.timeout = true,
-            _ => return self.no_settle(buffer, trial.seen),
+            3 => self.no_settle(buffer, trial.seen),
+            _ if trial.seen.failed(buffer, answer, bytes) => self.try_sector(trial),
+            _ => self.end(buffer, trial.seen, 0, 0),
         }
-        self.attempt_failed(buffer, trial)
     }
 
-    fn attempt_failed(&mut self, buffer: &mut [u8], mut trial: Trial) -> Answer {
-        if trial.attempts < 2 {
-            trial.attempts += 1;
-            return self.attempt(trial);
+    fn reread(
+        &mut self,
+        buffer: &mut [u8],
+        mut trial: Trial,
+        before: Rereads,
+        answer: u8,
+        bytes: &[u8],
+    ) -> Answer {
+        if answer == 3 {
+            return self.no_settle(buffer, trial.seen);
         }
+        let failed = trial.seen.failed(buffer, answer, bytes);
+        let rereads = Rereads {
+            made: before.made + 1,
+            failures: before.failures + u8::from(failed),
+        };
+        if rereads.made < REREADS {
+            self.ask(trial.sector, Phase::TrialRead(trial, rereads))
+        } else if rereads.failures <= MOST_FAILURES {
+            self.passed(buffer, trial)
+        } else {
+            self.next_trial(buffer, trial)
+        }
+    }
+
+    /// This sector is no good: a spare dies, and the next unused one is tried.
+    fn next_trial(&mut self, buffer: &mut [u8], trial: Trial) -> Answer {
         if trial.spare {
             self.push_spare(DEAD);
         }
         match self.next_spare() {
-            Some(sector) => self.attempt(Trial {
+            Some(sector) => self.try_sector(Trial {
                 sector,
                 spare: true,
-                attempts: 1,
                 ..trial
             }),
             None => self.end(buffer, trial.seen, 0x01, 0x40),
@@ -584,7 +666,7 @@ impl Drive {
         self.changed = true;
     }
 
-    fn verified(&mut self, buffer: &mut [u8], trial: Trial) -> Answer {
+    fn passed(&mut self, buffer: &mut [u8], trial: Trial) -> Answer {
         let mut two = 0;
         if trial.spare {
             if let Some(old) = self.spare_of(trial.block) {
@@ -602,8 +684,8 @@ impl Drive {
     }
 
     fn no_settle(&mut self, buffer: &mut [u8], seen: Seen) -> Answer {
-        if let Phase::TrialWrite(Trial { spare: true, .. })
-        | Phase::TrialRead(Trial { spare: true, .. }) = self.phase
+        if let Phase::TrialWrite(Trial { spare: true, .. }, _)
+        | Phase::TrialRead(Trial { spare: true, .. }, _) = self.phase
         {
             self.push_spare(DEAD);
         }

@@ -15,7 +15,8 @@ const AT_SPARES: usize = 21;
 const AT_BADS: usize = 53;
 
 /// The numbers of a phase. What a phase does not have is 0. A flag is 0 or 1; what
-/// is not 0 is taken as 1.
+/// is not 0 is taken as 1. A trial's rereads are its detail, its failures are in
+/// spent; a write that is read back is marked by first.
 #[derive(Clone, Copy, Debug, Default, PartialEq, Eq)]
 pub struct Stage {
     pub kind: u8,

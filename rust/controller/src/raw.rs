@@ -38,8 +38,9 @@ pub mod kind {
     pub const STORE: u8 = 5;
     pub const READ: u8 = 6;
     pub const WRITE: u8 = 7;
-    pub const TRIAL_WRITE: u8 = 8;
-    pub const TRIAL_READ: u8 = 9;
+    pub const VERIFY: u8 = 8;
+    pub const TRIAL_WRITE: u8 = 9;
+    pub const TRIAL_READ: u8 = 10;
 }
 
 /// `struct bv_reply`: what a call answers.

@@ -97,16 +97,28 @@ fn a_block_that_moves_and_the_store() {
     let (mut drive, mut buffer) = started();
     let data = [0x11; SECTOR_BYTES];
     let mut answer = command(&mut drive, &mut buffer, &[2, 0, 0, 17], &data);
-    for _ in 0..2 {
-        assert_eq!(answer, Answer::Write(Sector(17)));
-        answer = drive.surface(&mut buffer, surface::TIMEOUT, &[]);
+    assert_eq!(answer, Answer::Write(Sector(17)));
+    answer = drive.surface(&mut buffer, surface::GOOD, &[]);
+    assert_eq!(answer, Answer::Read(Sector(17)));
+    // The first verify fails, then 31 rereads of the trial on the same sector.
+    answer = drive.surface(&mut buffer, surface::GOOD, &[0x12; SECTOR_BYTES]);
+    assert_eq!(answer, Answer::Write(Sector(17)));
+    answer = drive.surface(&mut buffer, surface::GOOD, &[]);
+    for reread in 0..100 {
+        assert_eq!(answer, Answer::Read(Sector(17)), "{reread}");
+        answer = match reread {
+            0..31 => drive.surface(&mut buffer, surface::TIMEOUT, &[]),
+            _ => drive.surface(&mut buffer, surface::GOOD, &data),
+        };
     }
     assert_eq!(answer, Answer::Write(Sector(4928)));
     answer = drive.surface(&mut buffer, surface::GOOD, &[]);
-    assert_eq!(answer, Answer::Read(Sector(4928)));
-    answer = drive.surface(&mut buffer, surface::GOOD, &data);
+    for reread in 0..100 {
+        assert_eq!(answer, Answer::Read(Sector(4928)), "{reread}");
+        answer = drive.surface(&mut buffer, surface::GOOD, &data);
+    }
     assert_eq!(answer, Answer::Finished);
-    assert_eq!(buffer[..4], [0x04, 0x04, 0x80, 0]);
+    assert_eq!(buffer[..4], [0x0C, 0x04, 0x80, 0]);
 
     assert_eq!(drive.raise(&mut buffer), Answer::Store);
     let mut lent = [0; SECTOR_BYTES];
@@ -250,7 +262,7 @@ fn codes_in_their_order() {
 #[test]
 fn records_that_are_none() {
     let changes: [fn(&mut Fields); 8] = [
-        |record| record.stage.kind = 10,
+        |record| record.stage.kind = kind::TRIAL_READ + 1,
         |record| record.stage.kind = 255,
         |record| (record.stage.kind, record.stage.detail) = (kind::OFFER, 5),
         |record| (record.stage.kind, record.stage.detail) = (kind::START, 11),
@@ -307,11 +319,13 @@ fn what_a_board_may_look_at() {
     let asked = command(&mut drive, &mut buffer, &[2, 0, 0, 17], &[]);
     assert_eq!(
         (asked, drive.phase()),
-        (Answer::Write(Sector(17)), kind::TRIAL_WRITE)
+        (Answer::Write(Sector(17)), kind::WRITE)
     );
-    for _ in 0..2 {
-        drive.surface(&mut buffer, surface::TIMEOUT, &[]);
-    }
+    let asked = drive.surface(&mut buffer, surface::TIMEOUT, &[]);
+    assert_eq!(
+        (asked, drive.phase()),
+        (Answer::Write(Sector(4928)), kind::TRIAL_WRITE)
+    );
     assert!(!drive.has_unstored() && !drive.is_latched());
     // A spare under trial dies of answer 3.
     let done = drive.surface(&mut buffer, surface::NO_SETTLE, &[]);

@@ -2,16 +2,19 @@
 //! "Acting on a command" and "Codes").
 //!
 //! `record` has the record and the test of code 1, `acting` what a command does
-//! once it is acted on. Here are the calls: what each refuses, in the order of
-//! the codes, and the handshake.
+//! once it is acted on, `trial` its writes and the trials of sectors. Here are the
+//! calls: what each refuses, in the order of the codes, and the handshake.
 
 mod acting;
 mod near;
 mod record;
 #[cfg(test)]
 mod tests;
+mod trial;
 
-pub use record::{Awaited, Job, Moving, Offer, Phase, Place, Reading, Record, Stage, Step};
+pub use record::{
+    Awaited, Awaits, Job, Offer, Phase, Place, Reading, Record, Rereads, Stage, Step, Trial,
+};
 
 use crate::coverage::met;
 use crate::geometry::{Sector, SECTOR_BYTES, TABLE};
@@ -31,6 +34,12 @@ pub const MOST_DATA: usize = SECTOR_BYTES + 1;
 
 /// Reads of 4960 that a start makes at most.
 pub const MOST_START_READS: u32 = 10;
+
+/// Rereads that a trial makes.
+pub const TRIAL_REREADS: u32 = 100;
+
+/// Failures among them with which a trial passes, at most.
+pub const TRIAL_FAILURES: u32 = 30;
 
 /// The byte with which a lower goes on.
 pub const GO_ON: u8 = 0x55;
@@ -380,16 +389,38 @@ impl Record {
                 let outcome = write_outcome(answer, bytes)?;
                 self.plain_write(buffer, job, outcome)
             }
-            Phase::Moving(job, moving) => match moving.step {
+            Phase::Verifying { job, sector, step } => match step {
                 Step::Write => {
                     let outcome = write_outcome(answer, bytes)?;
-                    self.move_write(buffer, job, moving, outcome)
+                    self.verified_write(buffer, job, sector, outcome)
                 }
                 Step::Verify => {
                     let outcome = read_outcome(answer, bytes)?;
-                    self.move_verify(buffer, job, moving, outcome)
+                    self.first_verify(buffer, job, sector, outcome)
                 }
             },
+            Phase::Trying(job, trial) => return self.tried(buffer, job, trial, answer, bytes),
+        })
+    }
+
+    /// An access of a trial was answered.
+    fn tried(
+        &mut self,
+        buffer: &mut [u8],
+        job: Job,
+        trial: Trial,
+        answer: u8,
+        bytes: &[u8],
+    ) -> Result<Answer, Code> {
+        Ok(match trial.awaits {
+            Awaits::Write => {
+                let outcome = write_outcome(answer, bytes)?;
+                self.trial_write(buffer, job, trial.place, outcome)
+            }
+            Awaits::Reread(before) => {
+                let outcome = read_outcome(answer, bytes)?;
+                self.trial_reread(buffer, job, trial.place, before, outcome)
+            }
         })
     }
 

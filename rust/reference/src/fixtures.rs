@@ -202,7 +202,10 @@ mod tests {
     #[test]
     fn names_are_known() {
         let paths: Vec<String> = all().into_iter().map(|fixture| fixture.path).collect();
-        assert_eq!(paths[..2], ["crates/test_images/stdin", "crates/test_images/stdout"]);
+        assert_eq!(
+            paths[..2],
+            ["crates/test_images/stdin", "crates/test_images/stdout"]
+        );
         for (pair, stored) in paths[2..].chunks(2).zip(scripts::all()) {
             let path = format!("tests/scripts/{}", stored.name);
             assert_eq!(pair, [format!("{path}.script"), format!("{path}.expected")]);

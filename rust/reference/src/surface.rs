@@ -145,10 +145,14 @@ pub fn obeys(sectors: &Sectors, access: Access, sent: &[u8], outcome: &Outcome) 
 /// How the surface behaves for a while.
 #[derive(Clone, Copy, Debug, PartialEq, Eq)]
 pub enum Mood {
-    /// Nearly all accesses are good.
+    /// All accesses are good, but for reads of spoiled sectors.
+    Fine,
+    /// Nearly all are.
     Calm,
     /// Half of the reads are.
     Rough,
+    /// Of a trial's rereads about as many fail as just pass.
+    Marginal,
     /// All writes are done, but no read is good.
     Blind,
     /// Reads are good, but no write is done.
@@ -164,14 +168,16 @@ pub enum Mood {
 }
 
 /// Moods to turn to. Those that come more often stand there more often.
-pub const MOODS: [Mood; 13] = [
+pub const MOODS: [Mood; 15] = [
     Mood::Calm,
     Mood::Calm,
     Mood::Calm,
+    Mood::Marginal,
+    Mood::Marginal,
+    Mood::Marginal,
+    Mood::Marginal,
     Mood::Rough,
     Mood::Rough,
-    Mood::Rough,
-    Mood::Worn,
     Mood::Worn,
     Mood::Worn,
     Mood::Worn,
@@ -227,8 +233,10 @@ impl Policy {
     fn chances(&self, sector: Sector) -> (u32, u32, u32) {
         let weak = sector.number().is_multiple_of(3);
         match self.mood {
+            Mood::Fine => (100, 0, 100),
             Mood::Calm => (96, 2, 98),
             Mood::Rough => (50, 35, 75),
+            Mood::Marginal => (70, 25, 97),
             Mood::Blind => (0, 60, 100),
             Mood::Stuck => (70, 20, 0),
             Mood::Worn if weak => (0, 70, 80),
@@ -254,8 +262,8 @@ impl Policy {
         if self.rng.below(100) >= done {
             return self.no_answer();
         }
-        let calm = matches!(self.mood, Mood::Calm);
-        let spoils = self.rng.one_in(if calm { 40 } else { 6 });
+        let mild = matches!(self.mood, Mood::Fine | Mood::Calm | Mood::Marginal);
+        let spoils = self.rng.one_in(if mild { 40 } else { 6 });
         Outcome::done(match spoils {
             true => Left::Spoiled,
             false => Left::Held(sent.to_vec()),
@@ -292,7 +300,7 @@ impl Policy {
         let other = plain_bytes(&mut self.rng);
         let mut outcome = match access {
             Access::Read(_) => match self.rng.below(3) {
-                0 => Outcome::new(self.rng.pick(&[2, 3]), vec![]),
+                0 => self.no_answer(),
                 1 => Outcome::new(1, other.clone()),
                 _ => return Outcome::new(0, other),
             },

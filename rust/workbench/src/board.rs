@@ -2,6 +2,7 @@
 //! controller asks for as it was ordered, holds it against the surface's rules, and
 //! tells the history of every call.
 
+use controller::raw::kind;
 use controller::{Answer, Drive, BUFFER, SECTOR_BYTES, STATUS};
 use reference::drive::Call;
 use reference::geometry::{Sector, TABLE};
@@ -18,7 +19,18 @@ use crate::surface;
 pub enum Purpose {
     Read,
     Write,
+    /// The write of a trial.
+    TrialWrite,
+    /// A read of a trial.
+    Reread,
     Store,
+}
+
+impl Purpose {
+    /// Says whether it reads.
+    pub fn reads(self) -> bool {
+        matches!(self, Purpose::Read | Purpose::Reread)
+    }
 }
 
 /// An access that was done.
@@ -103,7 +115,7 @@ impl Board {
     /// Makes a call and does the accesses that it leads to.
     pub fn turn(&mut self, call: &Call, done: &mut Vec<Accessed>) -> Answer {
         let mut answer = self.call(call);
-        while let Some((purpose, sector)) = asked(answer) {
+        while let Some((purpose, sector)) = asked(answer, self.drive.phase()) {
             answer = self.access(purpose, sector, done);
         }
         if !matches!(answer, Answer::Refused(_)) {
@@ -134,11 +146,11 @@ impl Board {
     /// Does one access as it is ordered, and tells the controller how it went.
     fn access(&mut self, purpose: Purpose, sector: Sector, done: &mut Vec<Accessed>) -> Answer {
         let (access, sent) = match purpose {
-            Purpose::Read => (Access::Read(sector), vec![]),
-            Purpose::Write => (Access::Write(sector), self.data().to_vec()),
+            Purpose::Read | Purpose::Reread => (Access::Read(sector), vec![]),
+            Purpose::Write | Purpose::TrialWrite => (Access::Write(sector), self.data().to_vec()),
             Purpose::Store => (Access::Write(sector), self.image_to_store()),
         };
-        let effect = self.faults.order(access);
+        let effect = self.faults.order(purpose, sector);
         let outcome = surface::outcome(&self.platter, access, &sent, effect);
         assert!(
             obeys(self.platter.sectors(), access, &sent, &outcome),
@@ -162,12 +174,14 @@ impl Board {
     }
 }
 
-/// The access that an answer asks for.
-fn asked(answer: Answer) -> Option<(Purpose, Sector)> {
-    let (purpose, number) = match answer {
-        Answer::Read(sector) => (Purpose::Read, sector.number()),
-        Answer::Write(sector) => (Purpose::Write, sector.number()),
-        Answer::Store => (Purpose::Store, TABLE.number()),
+/// The access that an answer asks for in a phase.
+fn asked(answer: Answer, phase: u8) -> Option<(Purpose, Sector)> {
+    let (purpose, number) = match (answer, phase) {
+        (Answer::Read(sector), kind::TRIAL_READ) => (Purpose::Reread, sector.number()),
+        (Answer::Read(sector), _) => (Purpose::Read, sector.number()),
+        (Answer::Write(sector), kind::TRIAL_WRITE) => (Purpose::TrialWrite, sector.number()),
+        (Answer::Write(sector), _) => (Purpose::Write, sector.number()),
+        (Answer::Store, _) => (Purpose::Store, TABLE.number()),
         _ => return None,
     };
     let sector = Sector::new(number).expect("the controller asks for sectors alone");

@@ -5,7 +5,8 @@ use std::collections::{HashMap, VecDeque};
 
 use reference::geometry::{Sector, TABLE};
 use reference::rng::Rng;
-use reference::surface::Access;
+
+use crate::board::Purpose;
 
 /// What one access is ordered to do.
 #[derive(Clone, Copy, Debug, PartialEq, Eq)]
@@ -20,18 +21,22 @@ pub enum Effect {
 }
 
 /// Which accesses of a sector are meant. A store is a write of sector 4960.
-#[derive(Clone, Copy, Debug, PartialEq, Eq, Hash)]
+#[derive(Clone, Copy, Debug, PartialEq, Eq)]
 pub enum Kind {
+    /// All reads, those of trials too.
     Reads,
+    /// The reads of trials alone.
+    Rereads,
     Writes,
 }
 
 impl Kind {
-    /// The kind of an access.
-    pub fn of(access: Access) -> Kind {
-        match access {
-            Access::Read(_) => Kind::Reads,
-            Access::Write(_) => Kind::Writes,
+    /// Says whether accesses for this purpose are meant.
+    fn covers(self, purpose: Purpose) -> bool {
+        match self {
+            Kind::Reads => purpose.reads(),
+            Kind::Rereads => purpose == Purpose::Reread,
+            Kind::Writes => !purpose.reads(),
         }
     }
 }
@@ -43,9 +48,11 @@ pub enum Fault {
     InTurn(VecDeque<(u32, Effect)>),
     /// All from now on.
     All(Effect),
-    /// Every so many accesses; `seen` counts those it was asked about.
-    Every {
-        every: u32,
+    /// Of every `of` accesses `fails`, evenly spread: of any `of` in a row exactly so
+    /// many. `seen` counts those it was asked about, from 0 again after `of`.
+    Spread {
+        fails: u32,
+        of: u32,
         seen: u32,
         effect: Effect,
     },
@@ -55,6 +62,16 @@ impl Fault {
     /// The next so many accesses, one at least.
     pub fn next(times: u32, effect: Effect) -> Fault {
         Fault::InTurn(VecDeque::from([(times, effect)]))
+    }
+
+    /// Of every `of` accesses `fails`, `of` not 0.
+    pub fn spread(fails: u32, of: u32, effect: Effect) -> Fault {
+        Fault::Spread {
+            fails,
+            of,
+            seen: 0,
+            effect,
+        }
     }
 
     /// What it orders for the next access, nothing if it lets it pass.
@@ -70,13 +87,16 @@ impl Fault {
                 Some(effect)
             }
             Fault::All(effect) => Some(*effect),
-            Fault::Every {
-                every,
+            Fault::Spread {
+                fails,
+                of,
                 seen,
                 effect,
             } => {
-                *seen = (*seen + 1) % *every;
-                (*seen == 0).then_some(*effect)
+                let due = |seen: u32| u64::from(seen) * u64::from(*fails) / u64::from(*of);
+                let is_due = due(*seen + 1) > due(*seen);
+                *seen = (*seen + 1) % *of;
+                is_due.then_some(*effect)
             }
         }
     }
@@ -98,14 +118,14 @@ impl Random {
     }
 
     /// The table's sector is never made unreadable: without it there is no drive.
-    fn order(&mut self, access: Access) -> Option<Effect> {
+    fn order(&mut self, purpose: Purpose, sector: Sector) -> Option<Effect> {
         if self.rng.below(self.of) >= self.faults {
             return None;
         }
-        Some(match (access, self.rng.below(100)) {
+        Some(match (purpose.reads(), self.rng.below(100)) {
             (_, 0) => Effect::NoSettle,
-            (Access::Read(_), 1..=80) => Effect::Crc,
-            (Access::Write(sector), 1..=40) if sector != TABLE => Effect::Unreadable,
+            (true, 1..=80) => Effect::Crc,
+            (false, 1..=40) if sector != TABLE => Effect::Unreadable,
             _ => Effect::Timeout,
         })
     }
@@ -114,14 +134,14 @@ impl Random {
 /// All that was ordered.
 #[derive(Clone, Debug, Default)]
 pub struct Faults {
-    planned: HashMap<(Sector, Kind), Vec<Fault>>,
+    planned: HashMap<Sector, Vec<(Kind, Fault)>>,
     random: Option<Random>,
 }
 
 impl Faults {
     /// Plans one more fault, to be asked after those that this sector has.
     pub fn add(&mut self, sector: Sector, kind: Kind, fault: Fault) {
-        self.planned.entry((sector, kind)).or_default().push(fault);
+        self.planned.entry(sector).or_default().push((kind, fault));
     }
 
     /// From now on random faults come too, these and no others.
@@ -136,18 +156,17 @@ impl Faults {
 
     /// Forgets what was planned for a sector.
     pub fn clear_sector(&mut self, sector: Sector) {
-        self.planned.remove(&(sector, Kind::Reads));
-        self.planned.remove(&(sector, Kind::Writes));
+        self.planned.remove(&sector);
     }
 
     /// What this access is ordered to do: what the first planned fault says that
     /// does not let it pass, else a random fault, else good.
-    pub fn order(&mut self, access: Access) -> Effect {
-        let kind = Kind::of(access);
-        let planned = self.planned.get_mut(&(access.sector(), kind));
-        planned
-            .and_then(|faults| faults.iter_mut().find_map(Fault::order))
-            .or_else(|| self.random.as_mut()?.order(access))
+    pub fn order(&mut self, purpose: Purpose, sector: Sector) -> Effect {
+        let planned = self.planned.get_mut(&sector).into_iter().flatten();
+        let mut meant = planned.filter(|(kind, _)| kind.covers(purpose));
+        meant
+            .find_map(|(_, fault)| fault.order())
+            .or_else(|| self.random.as_mut()?.order(purpose, sector))
             .unwrap_or(Effect::Good)
     }
 }
@@ -163,8 +182,14 @@ mod tests {
     /// What the next reads of sector 17 are ordered to do.
     fn reads(faults: &mut Faults, count: usize) -> Vec<Effect> {
         (0..count)
-            .map(|_| faults.order(Access::Read(sector(17))))
+            .map(|_| faults.order(Purpose::Read, sector(17)))
             .collect()
+    }
+
+    /// How many of the next rereads of sector 17 are ordered to fail.
+    fn failing(faults: &mut Faults, count: usize) -> usize {
+        let rereads = (0..count).map(|_| faults.order(Purpose::Reread, sector(17)));
+        rereads.filter(|&effect| effect != Good).count()
     }
 
     fn with(planned: &[Fault]) -> Faults {
@@ -191,15 +216,52 @@ mod tests {
 
     #[test]
     fn every_third() {
-        let mut faults = with(&[Fault::Every {
-            every: 3,
-            seen: 0,
-            effect: NoSettle,
-        }]);
+        let mut faults = with(&[Fault::spread(1, 3, NoSettle)]);
         assert_eq!(
             reads(&mut faults, 7),
             [Good, Good, NoSettle, Good, Good, NoSettle, Good]
         );
+    }
+
+    #[test]
+    fn of_any_hundred_in_a_row_so_many_fail() {
+        for fails in [0, 1, 30, 31, 50, 99, 100] {
+            let mut faults = Faults::default();
+            let fault = Fault::spread(fails, 100, Crc);
+            faults.add(sector(17), Kind::Rereads, fault);
+            failing(&mut faults, 37);
+            for _ in 0..3 {
+                assert_eq!(failing(&mut faults, 100), fails as usize);
+            }
+        }
+    }
+
+    #[test]
+    fn a_share_of_the_most_that_can_be_said() {
+        let mut faults = with(&[Fault::spread(u32::MAX, u32::MAX, Crc)]);
+        assert_eq!(reads(&mut faults, 3), [Crc; 3]);
+        let mut faults = with(&[Fault::spread(1, u32::MAX, Crc)]);
+        assert_eq!(reads(&mut faults, 3), [Good; 3]);
+    }
+
+    #[test]
+    fn faults_of_rereads_leave_other_reads_alone() {
+        let mut faults = Faults::default();
+        faults.add(sector(17), Kind::Rereads, Fault::next(2, Crc));
+        assert_eq!(reads(&mut faults, 3), [Good; 3]);
+        assert_eq!(failing(&mut faults, 5), 2);
+    }
+
+    #[test]
+    fn faults_of_reads_and_rereads_are_asked_in_the_order_of_their_lines() {
+        let mut faults = Faults::default();
+        faults.add(sector(17), Kind::Reads, Fault::next(2, Timeout));
+        faults.add(sector(17), Kind::Rereads, Fault::All(Crc));
+        let mut next = |purpose| faults.order(purpose, sector(17));
+        assert_eq!(next(Purpose::Reread), Timeout);
+        assert_eq!(next(Purpose::Read), Timeout);
+        assert_eq!(next(Purpose::Read), Good);
+        assert_eq!(next(Purpose::Reread), Crc);
     }
 
     #[test]
@@ -212,11 +274,7 @@ mod tests {
 
     #[test]
     fn an_access_that_was_answered_is_not_counted_again() {
-        let every = Fault::Every {
-            every: 2,
-            seen: 0,
-            effect: Timeout,
-        };
+        let every = Fault::spread(1, 2, Timeout);
         let mut faults = with(&[Fault::next(3, Crc), every]);
         assert_eq!(
             reads(&mut faults, 7),
@@ -227,8 +285,10 @@ mod tests {
     #[test]
     fn other_sectors_and_writes_are_left_alone() {
         let mut faults = with(&[Fault::All(Crc)]);
-        assert_eq!(faults.order(Access::Read(sector(16))), Good);
-        assert_eq!(faults.order(Access::Write(sector(17))), Good);
+        assert_eq!(faults.order(Purpose::Read, sector(16)), Good);
+        assert_eq!(faults.order(Purpose::Write, sector(17)), Good);
+        assert_eq!(faults.order(Purpose::TrialWrite, sector(17)), Good);
+        assert_eq!(faults.order(Purpose::Reread, sector(17)), Crc);
         assert_eq!(reads(&mut faults, 1), [Crc]);
         faults.clear_sector(sector(17));
         assert_eq!(reads(&mut faults, 1), [Good]);
@@ -238,9 +298,12 @@ mod tests {
     fn random_faults_leave_the_table_readable() {
         let mut faults = Faults::default();
         faults.set_random(Random::new(7, 1, 1));
-        let mut met = |access| (0..1000).any(|_| faults.order(access) == Effect::Unreadable);
-        assert!(!met(Access::Write(TABLE)));
-        assert!(met(Access::Write(sector(17))));
+        let mut met = |purpose, sector| {
+            (0..1000).any(|_| faults.order(purpose, sector) == Effect::Unreadable)
+        };
+        assert!(!met(Purpose::Store, TABLE));
+        assert!(met(Purpose::Write, sector(17)));
+        assert!(met(Purpose::TrialWrite, sector(17)));
     }
 
     #[test]

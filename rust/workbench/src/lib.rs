@@ -4,10 +4,10 @@
 //! `surface` answers an access by the two. `board` puts them under the proved
 //! controller, with `history` beside it, and `host` makes the host's commands.
 //! `plan` reads a line of a plan, with its `data`, and `run` does it; `traffic` makes
-//! random commands. `health` has the figures of the health block. `show`, `status` and
-//! `summary` say what happened, `progress` how far a long line is, and `picture` draws
-//! it. `image_files` brings images on a platter and takes them off; `files` reads and
-//! writes all files. The command line is in the package `usage`.
+//! random commands. `health` has the figures of the health block. `show`, `status`,
+//! `trials`, `trace` and `summary` say what happened, `progress` how far a long line is,
+//! and `picture` draws it. `image_files` brings images on a platter and takes them off;
+//! `files` reads and writes all files. The command line is in the package `usage`.
 
 pub mod board;
 pub mod data;
@@ -26,4 +26,6 @@ pub mod show;
 pub mod status;
 pub mod summary;
 pub mod surface;
+pub mod trace;
 pub mod traffic;
+pub mod trials;

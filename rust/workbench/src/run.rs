@@ -16,7 +16,7 @@ use crate::picture::{Moment, Outcome};
 use crate::plan::{self, Line};
 use crate::platter::Platter;
 use crate::progress::Progress;
-use crate::{show, summary};
+use crate::{show, summary, trace};
 
 /// How a plan is run.
 #[derive(Clone, Debug, Default)]
@@ -25,7 +25,7 @@ pub struct Settings {
     pub platter: Option<PathBuf>,
     /// Where the files are sought that a plan names.
     pub folder: PathBuf,
-    /// Each access is shown.
+    /// Accesses are shown too.
     pub trace: bool,
     /// What happens is kept, for a picture.
     pub moments: bool,
@@ -220,11 +220,11 @@ impl<W: Write> Run<W> {
         if !self.settings.trace {
             return Ok(());
         }
-        for accessed in &report.accesses {
-            writeln!(self.out, "    {}", show::access(accessed))?;
+        for line in trace::lines(&report.accesses) {
+            writeln!(self.out, "    {line}")?;
         }
         if let End::Finished(status) = report.end {
-            writeln!(self.out, "    {}", show::status_line(status))?;
+            writeln!(self.out, "    {}", trace::status_line(status))?;
         }
         Ok(())
     }
@@ -237,7 +237,7 @@ impl<W: Write> Run<W> {
         self.moments.push(Moment {
             heading: None,
             command: name.to_string(),
-            accesses: report.accesses.iter().map(show::mark).collect(),
+            accesses: trace::marks(&report.accesses),
             outcome: show::outcome(report),
         });
     }

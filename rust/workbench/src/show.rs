@@ -1,12 +1,12 @@
 //! What happened, in lines that a person likes to read.
 
 use controller::{Code, Offer};
-use reference::geometry::{spare, SPARES};
+use reference::geometry::{spare, Sector, SPARES};
 
 use crate::board::{Accessed, Purpose};
 use crate::health::Health;
 use crate::host::{Change, End, Report};
-use crate::picture::{Mark, Outcome};
+use crate::picture::Outcome;
 use crate::{status, surface};
 
 /// So many of a thing.
@@ -26,19 +26,24 @@ pub fn count_or_no(number: u64, one: &str, more: &str) -> String {
 /// A store in words, then so many accesses and faults of each kind.
 pub fn folded(accesses: &[Accessed]) -> Vec<String> {
     let own: Vec<&Accessed> = accesses.iter().filter(|a| !is_store(a)).collect();
-    let purpose = |wanted| own.iter().filter(|a| a.purpose == wanted).count() as u64;
+    let reads = own.iter().filter(|a| a.purpose.reads()).count() as u64;
     let answer = |wanted| own.iter().filter(|a| a.answer == wanted).count() as u64;
     let counts = [
-        (purpose(Purpose::Read), "read", "reads"),
-        (purpose(Purpose::Write), "write", "writes"),
+        (reads, "read", "reads"),
+        (own.len() as u64 - reads, "write", "writes"),
         (answer(surface::CRC), "CRC error", "CRC errors"),
         (answer(surface::TIMEOUT), "timeout", "timeouts"),
         (answer(surface::NO_SETTLE), "no settle", "no settles"),
     ];
-    let met = counts.into_iter().filter(|(number, _, _)| *number > 0);
-    let counted = met.map(|(number, one, more)| count(number, one, more));
     let stores = accesses.iter().filter(|a| is_store(a));
-    stores.map(store).chain(counted).collect()
+    stores.map(store).chain(met(counts)).collect()
+}
+
+/// Counts in words, without those that are 0.
+pub fn met<const N: usize>(counts: [(u64, &str, &str); N]) -> Vec<String> {
+    let met = counts.into_iter().filter(|(number, _, _)| *number > 0);
+    met.map(|(number, one, more)| count(number, one, more))
+        .collect()
 }
 
 /// Whether an access is a store, which belongs to no command.
@@ -87,7 +92,7 @@ fn at_spare(report: &Report) -> Option<String> {
         return None;
     }
     let first = first_access(&report.accesses)?;
-    let k = (0..SPARES).find(|&k| spare(k) == Some(first.sector))?;
+    let k = spare_at(first.sector)?;
     Some(format!("in {}", spare_name(k)))
 }
 
@@ -152,64 +157,49 @@ fn bad_change(change: &Change) -> Option<&'static str> {
     }
 }
 
-/// Moves and dead spares, a line for each.
+/// Moves and dead spares, a line for each; neighbours that died are one line.
 pub fn spare_changes(changes: &[Change]) -> Vec<String> {
-    changes
-        .iter()
-        .filter_map(|change| match change {
-            Change::Moved { block, from, spare } => Some(format!(
-                "block {} moved from sector {} to {}",
-                block.number(),
-                from.number(),
-                spare_name(*spare)
-            )),
-            Change::Died { spare } => Some(format!("{} is dead", spare_name(*spare))),
-            Change::EnteredBad | Change::RemovedBad => None,
-        })
-        .collect()
+    let runs = changes.chunk_by(|one, next| match (one, next) {
+        (Change::Died { spare: k }, Change::Died { spare: l }) => k + 1 == *l,
+        _ => false,
+    });
+    runs.filter_map(|run| match run {
+        [Change::Moved { block, from, spare }] => Some(format!(
+            "block {} moved from sector {} to {}",
+            block.number(),
+            from.number(),
+            spare_name(*spare)
+        )),
+        [Change::Died { spare }] => Some(format!("{} is dead", spare_name(*spare))),
+        [Change::Died { spare: k }, .., Change::Died { spare: l }] => {
+            let spares: Vec<usize> = (*k..=*l).collect();
+            Some(format!("{} are dead", spare_names(&spares)))
+        }
+        _ => None,
+    })
+    .collect()
 }
 
 /// A spare and its sector.
 pub fn spare_name(k: usize) -> String {
+    format!("spare {k} (sector {})", spare_sector(k))
+}
+
+/// Several spares and their sectors.
+pub fn spare_names(spares: &[usize]) -> String {
+    let numbers: Vec<u32> = spares.iter().map(|&k| k as u32).collect();
+    let sectors: Vec<u32> = spares.iter().map(|&k| spare_sector(k)).collect();
+    format!("spares {} (sectors {})", ranges(&numbers), ranges(&sectors))
+}
+
+fn spare_sector(k: usize) -> u32 {
     let sector = spare(k).expect("a table has 32 spares at most");
-    format!("spare {k} (sector {})", sector.number())
+    sector.number()
 }
 
-/// One access, for a trace.
-pub fn access(accessed: &Accessed) -> String {
-    let purpose = match accessed.purpose {
-        Purpose::Read => "read",
-        Purpose::Write => "write",
-        Purpose::Store => "store",
-    };
-    let how = match (accessed.answer, accessed.purpose) {
-        (surface::GOOD, Purpose::Read) => "good",
-        (surface::GOOD, _) if accessed.unreadable => "done, and the sector is unreadable",
-        (surface::GOOD, _) => "done",
-        (surface::CRC, _) => "CRC error",
-        (surface::TIMEOUT, _) => "timeout",
-        _ => "no settle",
-    };
-    format!("{purpose} sector {}: {how}", accessed.sector.number())
-}
-
-/// The status bytes, for a trace.
-pub fn status_line(bytes: [u8; 4]) -> String {
-    let [one, two, three, four] = bytes;
-    let words = status::all_words(bytes);
-    format!("status {one:02x} {two:02x} {three:02x} {four:02x}: {words}")
-}
-
-/// An access as a picture marks it.
-pub fn mark(accessed: &Accessed) -> Mark {
-    match (accessed.answer, accessed.purpose) {
-        (surface::CRC, _) => Mark::CrcError,
-        (surface::TIMEOUT, _) => Mark::Timeout,
-        (surface::NO_SETTLE, _) => Mark::NoSettle,
-        (_, Purpose::Read) => Mark::Read,
-        (_, Purpose::Write) => Mark::Write,
-        (_, Purpose::Store) => Mark::Store,
-    }
+/// The spare that a sector is.
+pub fn spare_at(sector: Sector) -> Option<usize> {
+    (0..SPARES).find(|&k| spare(k) == Some(sector))
 }
 
 /// A command's end as a picture shows it.
@@ -223,7 +213,7 @@ pub fn outcome(report: &Report) -> Outcome {
         (End::Finished(bytes), _) if bytes[0] & status::NOT_55 != 0 => Outcome::None,
         (End::Finished(bytes), _) if !status::good(bytes) => Outcome::Failed,
         (End::Finished(_), Some((block, k))) => {
-            let sector = spare(k).expect("a table has 32 spares at most").number();
+            let sector = spare_sector(k);
             Outcome::Spared { block, sector }
         }
         (End::Finished(_), None) => Outcome::Good,
@@ -247,7 +237,6 @@ pub fn ranges(numbers: &[u32]) -> String {
 #[cfg(test)]
 mod tests {
     use super::*;
-    use reference::geometry::Sector;
 
     fn done(purpose: Purpose, answer: u8) -> Accessed {
         Accessed {
@@ -292,6 +281,21 @@ mod tests {
     }
 
     #[test]
+    fn the_accesses_of_a_trial_count() {
+        let trial = [
+            done(Purpose::TrialWrite, 0),
+            done(Purpose::Reread, 1),
+            done(Purpose::Reread, 0),
+        ];
+        let first = [done(Purpose::Write, 0), done(Purpose::Read, 2)];
+        let report = report([&first[..], &trial].concat(), [0x0C, 0, 0, 0]);
+        assert_eq!(
+            command(&report),
+            "3 reads, 2 writes, 1 CRC error, 1 timeout, good"
+        );
+    }
+
+    #[test]
     fn a_store_is_told_apart() {
         let accesses = vec![done(Purpose::Store, 0), done(Purpose::Read, 0)];
         assert_eq!(
@@ -315,6 +319,18 @@ mod tests {
             health(&stored, figures),
             "table not stored (timeout), 31 spares unused, 1 bad block, no latch, \
              unstored changes, first since start or reset"
+        );
+    }
+
+    #[test]
+    fn neighbours_that_died_are_one_line() {
+        let died = |spare| Change::Died { spare };
+        assert_eq!(
+            spare_changes(&[died(0), died(2), died(3), died(4)]),
+            [
+                "spare 0 (sector 4928) is dead",
+                "spares 2..4 (sectors 4930..4932) are dead",
+            ]
         );
     }
 

@@ -138,6 +138,9 @@ fn pictures() {
     let here = folder("pictures");
     let (status, _, _) = workbench(&here, &["run", "--platter", "p", "week"], "");
     assert_eq!(status, 0);
+    let lost = "start\nfault sector 30 writes next 1 unreadable\nwrite 30 \"lost\"\n";
+    let (status, _, _) = workbench(&here, &["run", "--platter", "p"], lost);
+    assert_eq!(status, 0);
     let line = ">block 17 → spare 0 (sector 4928)</text>";
     let svg = picture(&here, "picture", "p");
     assert!(svg.contains(line) && svg.contains(", 1 unreadable sector<"));

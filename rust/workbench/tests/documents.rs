@@ -30,10 +30,10 @@ fn agree(shown: &[&str], output: &str) {
 #[test]
 fn the_readme_shows_the_week_and_the_spares() {
     let week = shown(README, "with faults ordered up day by day:\n");
-    assert_eq!(week.len(), 7);
+    assert_eq!(week.len(), 9);
     agree(&week, include_str!("../../../plans/week.expected"));
     let spares = shown(README, "plays it:\n");
-    assert_eq!(spares.len(), 4);
+    assert_eq!(spares.len(), 10);
     agree(&spares, include_str!("../../../plans/spares.expected"));
 }
 
@@ -43,7 +43,7 @@ fn the_guide_shows_the_first_plan() {
     assert_eq!(plan.len(), 6);
     agree(&plan, include_str!("../../../plans/first.plan"));
     let output = shown(GUIDE, "so a spare takes the block:\n");
-    assert_eq!(output.len(), 15);
+    assert_eq!(output.len(), 17);
     agree(&output, include_str!("../../../plans/first.expected"));
 }
 

@@ -169,10 +169,16 @@ fn rooms_missing(line: &str) -> Option<Vec<String>> {
 #[test]
 fn every_rule_has_its_rooms() {
     let rules = document("docs/RULES.md");
-    let rows: Vec<_> = rules.lines().filter(|line| line.contains('`')).filter_map(rooms_missing).collect();
+    let rows: Vec<_> = rules
+        .lines()
+        .filter(|line| line.contains('`'))
+        .filter_map(rooms_missing)
+        .collect();
     assert!(rows.len() > 15, "{} rows", rows.len());
     assert_eq!(rows.concat(), [""; 0]);
-    let wrong = rules.replace("| `Sparing` |", "| `Sparring` |");
+    let wrong = rules.replace("| `Sparing`, ", "| `Sparring`, ");
     let rows: Vec<_> = wrong.lines().filter_map(rooms_missing).collect();
-    assert!(rows.concat().contains(&String::from("drive/specs/Sparring")));
+    assert!(rows
+        .concat()
+        .contains(&String::from("drive/specs/Sparring")));
 }

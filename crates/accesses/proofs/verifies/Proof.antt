@@ -18,8 +18,8 @@ enum-told-4 c = search needs
 enum-known-p : tie.Need-enum-known-p
 enum-known-p c = search needs
 
-is-trial-read-requires : tie.Need-is-trial-read-requires
-is-trial-read-requires c κs = search needs
+is-compared-requires : tie.Need-is-compared-requires
+is-compared-requires c κs = search needs
 
 returns : tie.Need-returns
 returns c = rw (c .enum-told .given .1)
@@ -34,7 +34,7 @@ returns-4 : tie.Need-returns-4
 returns-4 c = rw (c .enum-told4 .given .1)
 
 returns-5 : tie.Need-returns-5
-returns-5 c = rw (c .is-trial-read .ensures, c .before .before .p .given .1)
+returns-5 c = rw (c .is-compared .ensures, c .before .before .p .given .1)
 
 pub verifies-spec : {M : Type 1} → statement M
 verifies-spec =
@@ -45,7 +45,7 @@ verifies-spec =
     enum-told-3
     enum-told-4
     enum-known-p
-    is-trial-read-requires
+    is-compared-requires
     returns
     returns-2
     returns-3

@@ -9,9 +9,6 @@ use borrow.Author.Needs.{needs}
 use Rattle.acting.proofs.write.Statement.{statement}
 use Rattle.acting.proofs.write.Tie as tie
 
-is-write-requires : tie.Need-is-write-requires
-is-write-requires c κs = search needs
-
 cut-requires : tie.Need-cut-requires
 cut-requires c κs = search needs
 
@@ -24,46 +21,45 @@ listed-bad-requires c κs = search needs
 cut-requires-2 : tie.Need-cut-requires-2
 cut-requires-2 c κs = search needs
 
-plain-write-requires : tie.Need-plain-write-requires
-plain-write-requires c κs =
-    let s = c .before .before .before .before .before .before .before .before in
+first-trial-requires : tie.Need-first-trial-requires
+first-trial-requires c κs =
+    let s = c .before .before .before .before .before .before .before in
     (s .pre .0, rw (c .cut2 .ensures) (omega (arith, length-take (s .args .n) (now (s .args .spares)), s .pre .1)))
 
 returns : tie.Need-returns
 unfolding writes
 returns c =
     let p = c .before .before .before in
-    let a = p .before .before .before .before .before .before .args in
+    let a = p .before .before .before .before .before .args in
     let k : p .listed-bad .result ≡ memberOf (a .o .number) (take (a .m) (now (a .bads))) = rw (p .listed-bad .ensures, p .before .block-of .ensures, p .before .before .cut .ensures) in
-    rw (c .plain-write .ensures, c .before .cut2 .ensures, ← p .before .before .before .is-write .ensures, ← k, c .before .before .if1 .taken)
+    rw (c .first-trial .ensures, c .before .cut2 .ensures, ← k, c .before .before .if1 .taken)
 
 cut-requires-3 : tie.Need-cut-requires-3
 cut-requires-3 c κs = search needs
 
-first-attempt-requires : tie.Need-first-attempt-requires
-first-attempt-requires c κs =
-    let s = c .before .before .before .before .before .before .before .before in
+first-write-requires : tie.Need-first-write-requires
+first-write-requires c κs =
+    let s = c .before .before .before .before .before .before .before in
     (s .pre .0, rw (c .cut3 .ensures) (omega (arith, length-take (s .args .n) (now (s .args .spares)), s .pre .1)))
 
 returns-2 : tie.Need-returns-2
 unfolding writes
 returns-2 c =
     let p = c .before .before .before in
-    let a = p .before .before .before .before .before .before .args in
+    let a = p .before .before .before .before .before .args in
     let k : p .listed-bad .result ≡ memberOf (a .o .number) (take (a .m) (now (a .bads))) = rw (p .listed-bad .ensures, p .before .block-of .ensures, p .before .before .cut .ensures) in
-    rw (c .first-attempt .ensures, c .before .cut3 .ensures, ← p .before .before .before .is-write .ensures, ← k, c .before .before .if1 .left)
+    rw (c .first-write .ensures, c .before .cut3 .ensures, ← k, c .before .before .if1 .left)
 
 pub write-spec : {M : Type 1} → statement M
 write-spec =
     tie.close
     (tie.spec
-    is-write-requires
     cut-requires
     block-of-requires
     listed-bad-requires
     cut-requires-2
-    plain-write-requires
+    first-trial-requires
     returns
     cut-requires-3
-    first-attempt-requires
+    first-write-requires
     returns-2)

@@ -22,12 +22,12 @@ returns-2 c = rw (c .finish2 .ensures, le-ltb _ _ (c .before .before .if1 .left)
 on-present-requires : tie.Need-on-present-requires
 on-present-requires c κs = search needs
 
-attempt-requires : tie.Need-attempt-requires
-attempt-requires c κs = search needs
+begin-requires : tie.Need-begin-requires
+begin-requires c κs = search needs
 
 returns-3 : tie.Need-returns-3
 unfolding settled
-returns-3 c = rw (c .attempt .ensures, c .before .on-present .ensures, le-ltb _ _ (c .before .before .before .if1 .left), c .before .before .if2 .left)
+returns-3 c = rw (c .begin .ensures, c .before .on-present .ensures, le-ltb _ _ (c .before .before .before .if1 .left), c .before .before .if2 .left)
 
 pub settle-spec : {M : Type 1} → statement M
 settle-spec =
@@ -38,5 +38,5 @@ settle-spec =
     finish-requires-2
     returns-2
     on-present-requires
-    attempt-requires
+    begin-requires
     returns-3)

@@ -5,15 +5,12 @@ use borrow.Author.Needs.{needs}
 use Rattle.sparing.proofs.tried.Statement.{statement}
 use Rattle.sparing.proofs.tried.Tie as tie
 
-in-phase-requires : tie.Need-in-phase-requires
-in-phase-requires c κs = search needs
-
-say-requires : tie.Need-say-requires
-say-requires c κs = search needs
+reread-requires : tie.Need-reread-requires
+reread-requires c κs = search needs
 
 returns : tie.Need-returns
 unfolding tried
-returns c = rw (c .say .ensures, c .before .in-phase .ensures, eq-eqb _ _ (c .before .before .if1 .taken))
+returns c = rw (c .reread .ensures, eq-eqb _ _ (c .before .if1 .taken))
 
 stop-requires : tie.Need-stop-requires
 stop-requires c κs = search needs
@@ -36,8 +33,7 @@ pub tried-spec : {M : Type 1} → statement M
 tried-spec =
     tie.close
     (tie.spec
-    in-phase-requires
-    say-requires
+    reread-requires
     returns
     stop-requires
     returns-2

@@ -1,7 +1,7 @@
 //! The baseline's record from the library's numbers and back, for the comparison
 //! on records that no call returned.
 
-use super::{Drive, Phase, Read, Seen, Trial};
+use super::{Drive, Phase, Read, Rereads, Seen, Trial, Write};
 use crate::fields::{Fields, Flags, Stage};
 use crate::raw::kind;
 use crate::Offer;
@@ -65,9 +65,11 @@ fn phase(stage: &Stage) -> Phase {
             good: stage.good != 0,
             seen: seen(stage),
         }),
-        kind::WRITE => Phase::Write(stage.sector.into()),
-        kind::TRIAL_WRITE => Phase::TrialWrite(trial(stage)),
-        kind::TRIAL_READ => Phase::TrialRead(trial(stage)),
+        kind::WRITE if stage.first == 0 => Phase::Write(write(stage)),
+        kind::WRITE => Phase::VerifiedWrite(write(stage)),
+        kind::VERIFY => Phase::FirstVerify(write(stage)),
+        kind::TRIAL_WRITE => Phase::TrialWrite(trial(stage), rereads(stage)),
+        kind::TRIAL_READ => Phase::TrialRead(trial(stage), rereads(stage)),
         other => unreachable!("{other} is no phase"),
     }
 }
@@ -83,13 +85,26 @@ fn offer(byte: u8) -> Offer {
     }
 }
 
+fn write(stage: &Stage) -> Write {
+    Write {
+        block: stage.block,
+        sector: stage.sector.into(),
+    }
+}
+
 fn trial(stage: &Stage) -> Trial {
     Trial {
         block: stage.block,
         sector: stage.sector.into(),
         spare: stage.spare != 0,
-        attempts: stage.detail,
         seen: seen(stage),
+    }
+}
+
+fn rereads(stage: &Stage) -> Rereads {
+    Rereads {
+        made: stage.detail,
+        failures: stage.spent,
     }
 }
 
@@ -120,12 +135,11 @@ fn stage(phase: &Phase) -> Stage {
         },
         Phase::Store => at(kind::STORE),
         Phase::Read(read) => of_read(read),
-        Phase::Write(sector) => Stage {
-            sector: *sector as u16,
-            ..at(kind::WRITE)
-        },
-        Phase::TrialWrite(trial) => of_trial(kind::TRIAL_WRITE, trial),
-        Phase::TrialRead(trial) => of_trial(kind::TRIAL_READ, trial),
+        Phase::Write(write) => of_write(kind::WRITE, false, write),
+        Phase::VerifiedWrite(write) => of_write(kind::WRITE, true, write),
+        Phase::FirstVerify(write) => of_write(kind::VERIFY, true, write),
+        Phase::TrialWrite(trial, rereads) => of_trial(kind::TRIAL_WRITE, trial, rereads),
+        Phase::TrialRead(trial, rereads) => of_trial(kind::TRIAL_READ, trial, rereads),
     }
 }
 
@@ -143,12 +157,23 @@ fn of_read(read: &Read) -> Stage {
     }
 }
 
-fn of_trial(kind: u8, trial: &Trial) -> Stage {
+fn of_write(kind: u8, verified: bool, write: &Write) -> Stage {
     Stage {
         kind,
-        detail: trial.attempts,
+        block: write.block,
+        sector: write.sector as u16,
+        first: verified.into(),
+        ..Stage::default()
+    }
+}
+
+fn of_trial(kind: u8, trial: &Trial, rereads: &Rereads) -> Stage {
+    Stage {
+        kind,
+        detail: rereads.made,
         block: trial.block,
         sector: trial.sector as u16,
+        spent: rereads.failures,
         spare: trial.spare.into(),
         ..of_seen(&trial.seen)
     }

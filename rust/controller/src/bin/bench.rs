@@ -110,12 +110,16 @@ impl What {
     }
 }
 
-/// Reads before the move routine, the last of them good.
+/// Reads before any trial, the last of them good.
 const READS: usize = 1 + 255 + 90;
 
-/// The accesses of the longest read.
+/// Rereads of a trial.
+const REREADS: usize = 100;
+
+/// The accesses of the longest read: a trial of the present sector and of each
+/// unused spare.
 fn longest(spares: usize) -> usize {
-    READS + 4 * (33 - spares)
+    READS + (1 + REREADS) * (33 - spares)
 }
 
 /// The calls that the work makes.
@@ -256,9 +260,11 @@ impl<D: Calls> Once for Work<D> {
                     drive.surface(buffer, 1, &self.bytes);
                 }
                 drive.surface(buffer, 0, &self.bytes);
-                for _ in 0..2 * (33 - self.spares) {
-                    drive.surface(buffer, 0, &[]);
-                    finished = drive.surface(buffer, 1, &self.bytes);
+                for access in 0..longest(self.spares) - READS {
+                    finished = match access % (1 + REREADS) {
+                        0 => drive.surface(buffer, 0, &[]),
+                        _ => drive.surface(buffer, 1, &self.bytes),
+                    };
                 }
             }
         }
@@ -272,7 +278,7 @@ const WORKS: [(&str, What, u32); 4] = [
     ("read", What::Read, 2000),
     ("write", What::Write, 1500),
     ("table", What::Table, 1500),
-    ("longest", What::Longest, 30),
+    ("longest", What::Longest, 4),
 ];
 
 /// Short runs, so that one of them is not disturbed.

@@ -117,9 +117,13 @@ impl Made {
                 self.block();
                 self.sector();
             }
-            kind::WRITE => self.sector(),
+            kind::WRITE | kind::VERIFY => {
+                self.block();
+                self.sector();
+            }
             kind::TRIAL_WRITE | kind::TRIAL_READ => {
-                self.details([2, 3]);
+                self.details([100, 101]);
+                self.failures();
                 self.with(|drive| drive.stage.errors = 255);
                 self.block();
                 match self.sound.stage.spare {
@@ -145,6 +149,15 @@ impl Made {
         }
         for spent in [89, 90] {
             self.with(|drive| drive.stage.spent = spent);
+        }
+    }
+
+    /// A trial's failures beside its rereads.
+    fn failures(&mut self) {
+        let inside = [(0, 0), (50, 50), (100, 100)];
+        let outside = [(1, 0), (51, 50), (101, 100)];
+        for (failures, rereads) in inside.into_iter().chain(outside) {
+            self.with(|drive| (drive.stage.spent, drive.stage.detail) = (failures, rereads));
         }
     }
 

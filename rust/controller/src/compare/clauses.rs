@@ -34,16 +34,21 @@ const ALL: &[&str] = &[
     "reread",
     "further-read",
     "plain-write",
+    "verified-write",
+    "first-verify",
     "present-write",
-    "present-verify",
+    "present-reread",
     "spare-write",
-    "spare-verify",
+    "spare-reread",
 ];
 
 /// Those with no spare under trial, in which all spares may be listed.
-const NO_TRIAL: &[&str] = ALL.split_at(12).0;
+const NO_SPARE: &[&str] = ALL.split_at(14).0;
 
 /// Those in which a spare is under trial.
+const SPARE: &[&str] = ALL.split_at(14).1;
+
+/// The trials of sectors.
 const TRIAL: &[&str] = ALL.split_at(12).1;
 
 /// Those that need no table.
@@ -54,23 +59,8 @@ const ACCESS: &[&str] = ALL.split_at(5).1;
 
 /// Those with a pending block, and those with a pending sector that need not be
 /// the next unused spare.
-const BLOCK: &[&str] = &[
-    "first-read",
-    "reread",
-    "further-read",
-    "present-write",
-    "present-verify",
-    "spare-write",
-    "spare-verify",
-];
-const SECTOR: &[&str] = &[
-    "first-read",
-    "reread",
-    "further-read",
-    "plain-write",
-    "present-write",
-    "present-verify",
-];
+const BLOCK: &[&str] = ALL.split_at(6).1;
+const SECTOR: &[&str] = NO_SPARE.split_at(6).1;
 
 /// The reads of a read command.
 const READ: &[&str] = &["first-read", "reread", "further-read"];
@@ -83,13 +73,10 @@ const NONE_LEFT: &[&str] = &[
     "first-read",
     "further-read",
     "present-write",
-    "present-verify",
+    "present-reread",
     "spare-write",
-    "spare-verify",
+    "spare-reread",
 ];
-
-/// The attempts of the move routine.
-const ATTEMPT: &[&str] = ALL.split_at(10).1;
 
 const START: &[&str] = &["starting"];
 
@@ -107,7 +94,7 @@ const fn side(
 
 /// Lists the sides that no call refuses.
 const AT: &[Side] = &[
-    side("spares.count-32", NO_TRIAL, |d| d.nspares == 32),
+    side("spares.count-32", NO_SPARE, |d| d.nspares == 32),
     side("spares.first-9727", ALL, |d| first(spares(d)) == Some(9727)),
     side("spares.last-9727", ALL, |d| last_spare(d) == Some(9727)),
     side("spares.first-dead", ALL, |d| first(spares(d)) == Some(DEAD)),
@@ -141,17 +128,24 @@ const AT: &[Side] = &[
     side("table.known", ALL, |d| d.flags.known == 1),
     side("table.none", NO_TABLE, |d| d.flags.known == 0),
     side("start.reads-10", START, |d| d.stage.detail == 10),
-    side("attempts.2", ATTEMPT, |d| d.stage.detail == 2),
+    side("trial.rereads-100", TRIAL, |d| d.stage.detail == 100),
+    side("trial.failures-0-of-0", TRIAL, |d| failures(d) == (0, 0)),
+    side("trial.failures-50-of-50", TRIAL, |d| {
+        failures(d) == (50, 50)
+    }),
+    side("trial.failures-100-of-100", TRIAL, |d| {
+        failures(d) == (100, 100)
+    }),
     side("sector.9791", SECTOR, |d| d.stage.sector == 9791),
     side("block.9727", BLOCK, |d| d.stage.block == 9727),
-    side("trial.listed-0-spare-0", TRIAL, |d| trial(d, 0, 4928)),
-    side("trial.listed-3-spare-3", TRIAL, |d| trial(d, 3, 4931)),
-    side("trial.listed-31-spare-31", TRIAL, |d| trial(d, 31, 4959)),
+    side("trial.listed-0-spare-0", SPARE, |d| trial(d, 0, 4928)),
+    side("trial.listed-3-spare-3", SPARE, |d| trial(d, 3, 4931)),
+    side("trial.listed-31-spare-31", SPARE, |d| trial(d, 31, 4959)),
 ];
 
 /// Lists the sides that every call but start refuses.
 const BEYOND: &[Side] = &[
-    side("spares.count-33", NO_TRIAL, |d| d.nspares == 33),
+    side("spares.count-33", NO_SPARE, |d| d.nspares == 33),
     side("spares.first-9728", ALL, |d| first(spares(d)) == Some(9728)),
     side("spares.last-9728", ALL, |d| last_spare(d) == Some(9728)),
     side("spares.first-65533", ALL, |d| {
@@ -193,17 +187,24 @@ const BEYOND: &[Side] = &[
     side("spent.90", READ, |d| d.stage.spent == 90),
     side("table.none", ACCESS, |d| d.flags.known == 0),
     side("start.reads-11", START, |d| d.stage.detail == 11),
-    side("attempts.3", ATTEMPT, |d| d.stage.detail == 3),
+    side("trial.rereads-101", TRIAL, |d| d.stage.detail == 101),
+    side("trial.failures-1-of-0", TRIAL, |d| failures(d) == (1, 0)),
+    side("trial.failures-51-of-50", TRIAL, |d| {
+        failures(d) == (51, 50)
+    }),
+    side("trial.failures-101-of-100", TRIAL, |d| {
+        failures(d) == (101, 100)
+    }),
     side("sector.9792", SECTOR, |d| d.stage.sector == 9792),
     side("block.9728", BLOCK, |d| d.stage.block == 9728),
-    side("trial.listed-0-sector-4927", TRIAL, |d| trial(d, 0, 4927)),
-    side("trial.listed-0-spare-1", TRIAL, |d| trial(d, 0, 4929)),
-    side("trial.listed-3-spare-2", TRIAL, |d| trial(d, 3, 4930)),
-    side("trial.listed-3-spare-4", TRIAL, |d| trial(d, 3, 4932)),
-    side("trial.listed-31-spare-30", TRIAL, |d| trial(d, 31, 4958)),
-    side("trial.listed-31-sector-4960", TRIAL, |d| trial(d, 31, 4960)),
-    side("trial.listed-32-spare-31", TRIAL, |d| trial(d, 32, 4959)),
-    side("trial.listed-32-sector-4960", TRIAL, |d| trial(d, 32, 4960)),
+    side("trial.listed-0-sector-4927", SPARE, |d| trial(d, 0, 4927)),
+    side("trial.listed-0-spare-1", SPARE, |d| trial(d, 0, 4929)),
+    side("trial.listed-3-spare-2", SPARE, |d| trial(d, 3, 4930)),
+    side("trial.listed-3-spare-4", SPARE, |d| trial(d, 3, 4932)),
+    side("trial.listed-31-spare-30", SPARE, |d| trial(d, 31, 4958)),
+    side("trial.listed-31-sector-4960", SPARE, |d| trial(d, 31, 4960)),
+    side("trial.listed-32-spare-31", SPARE, |d| trial(d, 32, 4959)),
+    side("trial.listed-32-sector-4960", SPARE, |d| trial(d, 32, 4960)),
 ];
 
 /// The entries in use; none if the count is more than there are places.
@@ -260,6 +261,11 @@ fn rereads(drive: &Fields) -> (u8, u8) {
     (drive.stage.errors, drive.stage.left)
 }
 
+/// A trial's failures, and its rereads.
+fn failures(drive: &Fields) -> (u8, u8) {
+    (drive.stage.spent, drive.stage.detail)
+}
+
 /// True if this sector is under trial with so many spares listed.
 fn trial(drive: &Fields, listed: u16, sector: u16) -> bool {
     (drive.nspares, drive.stage.sector) == (listed, sector)
@@ -277,11 +283,13 @@ fn phase(stage: &Stage) -> &'static str {
         (kind::READ, _) if stage.first == 1 => "first-read",
         (kind::READ, _) if stage.left > 0 => "reread",
         (kind::READ, _) => "further-read",
-        (kind::WRITE, _) => "plain-write",
+        (kind::WRITE, _) if stage.first == 0 => "plain-write",
+        (kind::WRITE, _) => "verified-write",
+        (kind::VERIFY, _) => "first-verify",
         (kind::TRIAL_WRITE, 0) => "present-write",
-        (kind::TRIAL_READ, 0) => "present-verify",
+        (kind::TRIAL_READ, 0) => "present-reread",
         (kind::TRIAL_WRITE, _) => "spare-write",
-        (kind::TRIAL_READ, _) => "spare-verify",
+        (kind::TRIAL_READ, _) => "spare-reread",
         _ => "none",
     }
 }

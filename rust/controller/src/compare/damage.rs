@@ -73,14 +73,33 @@ fn command(block: u16, rng: &mut Rng) -> [u8; 6] {
 
 fn stage(drive: &Fields, rng: &mut Rng) -> Stage {
     let mut stage = Stage {
-        kind: rng.below(10) as u8,
+        kind: rng.below(11) as u8,
         ..Stage::default()
     };
+    numbers(&mut stage, rng);
+    let mark = |rng: &mut Rng| u16::from(rng.one_in(2));
+    if stage.kind >= kind::READ {
+        stage.block = rng.pick(&[0, 17, 4927, 4928, 9727, 9728]);
+        stage.sector = sector(drive, rng);
+    }
+    if matches!(
+        stage.kind,
+        kind::READ | kind::TRIAL_WRITE | kind::TRIAL_READ
+    ) {
+        stage.errors = rng.pick(&[0, 0, 1, 2, 155, 254, 255]);
+        stage.crc = mark(rng);
+        stage.timeout = mark(rng);
+    }
+    stage
+}
+
+/// Sets what one kind of phase alone has.
+fn numbers(stage: &mut Stage, rng: &mut Rng) {
     let mark = |rng: &mut Rng| u16::from(rng.one_in(2));
     match stage.kind {
         kind::OFFER => stage.detail = rng.pick(&[1, 2, 3, 4, 6]),
         kind::START => stage.detail = rng.pick(&[0, 1, 9, 10, 11]),
-        kind::WRITE => stage.sector = sector(drive, rng),
+        kind::WRITE | kind::VERIFY => stage.first = mark(rng),
         kind::READ => {
             stage.first = mark(rng);
             stage.left = rng.pick(&[0, 0, 1, 2, 100, 254, 255]);
@@ -88,23 +107,17 @@ fn stage(drive: &Fields, rng: &mut Rng) -> Stage {
             stage.threshold = rng.pick(&[0, 1, 3, 255]);
             stage.good = mark(rng);
         }
-        kind::TRIAL_WRITE | kind::TRIAL_READ => {
-            stage.detail = rng.pick(&[0, 1, 1, 2, 2, 3]);
+        kind::TRIAL_WRITE => {
+            stage.detail = rng.pick(&[0, 0, 0, 0, 1, 100]);
+            stage.spare = mark(rng);
+        }
+        kind::TRIAL_READ => {
+            stage.detail = rng.pick(&[0, 1, 30, 31, 98, 99, 99, 99, 100, 101]);
+            stage.spent = rng.pick(&[0, 0, 1, 29, 30, 30, 31, 99, 100]);
             stage.spare = mark(rng);
         }
         _ => {}
     }
-    if matches!(
-        stage.kind,
-        kind::READ | kind::TRIAL_WRITE | kind::TRIAL_READ
-    ) {
-        stage.block = rng.pick(&[0, 17, 4927, 4928, 9727, 9728]);
-        stage.sector = sector(drive, rng);
-        stage.errors = rng.pick(&[0, 0, 1, 2, 155, 254, 255]);
-        stage.crc = mark(rng);
-        stage.timeout = mark(rng);
-    }
-    stage
 }
 
 /// A sector in or out of range, the next unused spare often.
@@ -136,7 +149,7 @@ fn field(drive: &mut Fields, rng: &mut Rng) {
     const ENTRIES: [u16; 8] = [0, 17, 9727, 9728, 65_533, DEAD, 65_535, 512];
     let byte = match rng.below(12) {
         0 => rng.byte(),
-        _ => rng.pick(&[0, 1, 2, 3, 6, 9, 10, 11, 89, 90, 255]),
+        _ => rng.pick(&[0, 1, 2, 3, 6, 9, 10, 11, 30, 31, 89, 90, 99, 100, 101, 255]),
     };
     let mark = rng.pick(&[0, 1, 2, 255, 256, 65_535]);
     let stage = &mut drive.stage;
@@ -157,7 +170,7 @@ fn field(drive: &mut Fields, rng: &mut Rng) {
             }
         }
         11 => stage.block = rng.pick(&ENTRIES),
-        12 => stage.kind = rng.pick(&[0, 1, 2, 3, 4, 5, 6, 7, 8, 9, 10, 11, 255]),
+        12 => stage.kind = rng.pick(&[0, 1, 2, 3, 4, 5, 6, 7, 8, 9, 10, 11, 12, 255]),
         13 => stage.detail = byte,
         14 => stage.first = mark,
         15 => stage.left = byte,
@@ -273,8 +286,9 @@ fn health_read() -> Fields {
     }
 }
 
-/// Two sound records of a kind: for kinds with attempts on the present sector and
-/// on a spare, for reads with the first read and a reread awaited.
+/// Two sound records of a kind: for trials on the present sector and on a spare,
+/// for writes with none to verify and with one, for reads with the first read and a
+/// reread awaited.
 fn specimens(kind: u8) -> [Fields; 2] {
     let mut drive = Fields {
         nspares: 3,
@@ -300,18 +314,28 @@ fn specimens(kind: u8) -> [Fields; 2] {
             (drive.stage.first, drive.stage.left) = (1, 2);
             (other.stage.left, other.stage.errors) = (1, 1);
         }
-        kind::TRIAL_WRITE | kind::TRIAL_READ => {
-            (drive.stage.detail, other.stage.detail) = (1, 2);
-            (other.stage.spare, other.stage.sector) = (1, 4931);
+        kind::WRITE => other.stage.first = 1,
+        kind::VERIFY => {
+            (drive.stage.first, other.stage.first) = (1, 1);
+            other.flags.changed = 1;
         }
+        kind::TRIAL_WRITE | kind::TRIAL_READ => other.stage.spare = 1,
         _ => other.flags.changed = 1,
+    }
+    if kind == kind::TRIAL_READ {
+        // The last reread, with as many failures as pass.
+        (drive.stage.detail, drive.stage.spent) = (99, 30);
+        (other.stage.detail, other.stage.spent) = (99, 30);
     }
     if kind == kind::OFFER {
         other.command[0] = 1;
     }
-    if matches!(kind, kind::READ | kind::TRIAL_WRITE | kind::TRIAL_READ) {
+    if kind >= kind::READ {
         (drive.stage.block, other.stage.block) = (17, 17);
-        drive.stage.sector = 17;
+        (drive.stage.sector, other.stage.sector) = (17, 17);
+    }
+    if other.stage.spare == 1 {
+        other.stage.sector = 4931;
     }
     [drive, other]
 }

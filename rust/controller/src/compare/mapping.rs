@@ -3,7 +3,9 @@
 use std::vec;
 use std::vec::Vec;
 
-use reference::controller::{Job, Moving, Offer, Phase, Place, Reading, Record, Stage, Step};
+use reference::controller::{
+    Awaits, Job, Offer, Phase, Place, Reading, Record, Rereads, Stage, Step, Trial, TRIAL_REREADS,
+};
 use reference::drive::Call;
 use reference::image::DEAD;
 
@@ -81,22 +83,34 @@ fn phase(stage: &fields::Stage) -> Option<Phase> {
         },
         kind::STORE => Phase::Storing,
         kind::READ => Phase::Reading(job(stage), reading(stage)),
-        kind::WRITE => Phase::Writing {
-            job: NO_JOB,
+        kind::WRITE if !flag(stage.first) => Phase::Writing {
+            job: clean_job(stage),
             sector: stage.sector.into(),
         },
-        kind::TRIAL_WRITE | kind::TRIAL_READ => Phase::Moving(job(stage), moving(stage)),
+        kind::WRITE => verifying(stage, Step::Write),
+        kind::VERIFY => verifying(stage, Step::Verify),
+        kind::TRIAL_WRITE | kind::TRIAL_READ => Phase::Trying(job(stage), trial(stage)),
         _ => return None,
     })
 }
 
-/// The library keeps nothing of a plain write but its sector.
-const NO_JOB: Job = Job {
-    block: 0,
-    crc: false,
-    timeout: false,
-    errors: 0,
-};
+/// Returns the job of a write command before any trial, which has met nothing yet.
+fn clean_job(stage: &fields::Stage) -> Job {
+    Job {
+        block: u32::from(stage.block),
+        crc: false,
+        timeout: false,
+        errors: 0,
+    }
+}
+
+fn verifying(stage: &fields::Stage, step: Step) -> Phase {
+    Phase::Verifying {
+        job: clean_job(stage),
+        sector: stage.sector.into(),
+        step,
+    }
+}
 
 fn job(stage: &fields::Stage) -> Job {
     Job {
@@ -128,9 +142,14 @@ fn reading(stage: &fields::Stage) -> Reading {
     }
 }
 
-fn moving(stage: &fields::Stage) -> Moving {
+fn trial(stage: &fields::Stage) -> Trial {
     let spares = FIRST_SPARE..FIRST_SPARE + SPARES;
-    Moving {
+    let rereads = Rereads {
+        made: u32::from(stage.detail),
+        failures: u32::from(stage.spent),
+    };
+    let refused = rereads.made > TRIAL_REREADS || rereads.failures > rereads.made;
+    Trial {
         place: match (flag(stage.spare), u32::from(stage.sector)) {
             (false, sector) => Place::Present(sector),
             (true, sector) if spares.contains(&sector) => {
@@ -139,10 +158,11 @@ fn moving(stage: &fields::Stage) -> Moving {
             // No spare at all is not the next unused one either.
             (true, _) => Place::Spare(usize::MAX),
         },
-        attempt: u32::from(stage.detail),
-        step: match stage.kind {
-            kind::TRIAL_WRITE => Step::Write,
-            _ => Step::Verify,
+        awaits: match stage.kind {
+            // The reference has no rereads beside the write: such as are refused
+            // are put where it has.
+            kind::TRIAL_WRITE if !refused => Awaits::Write,
+            _ => Awaits::Reread(rereads),
         },
     }
 }
@@ -150,18 +170,11 @@ fn moving(stage: &fields::Stage) -> Moving {
 /// Whether two records are the same to every later call: command bytes and the
 /// data count are told apart only where a command is on its way.
 pub fn alike(one: &Record, other: &Record) -> bool {
-    let plain = |record: &Record| match record.phase {
-        Phase::Writing { sector, .. } => Phase::Writing {
-            job: NO_JOB,
-            sector,
-        },
-        phase => phase,
-    };
-    let phase = plain(one);
+    let phase = one.phase;
     let command = matches!(phase, Phase::Command | Phase::Data)
         || matches!(phase, Phase::Offered(offer) if offer != Offer::Command);
     let data = matches!(phase, Phase::Data | Phase::Offered(Offer::Act));
-    phase == plain(other)
+    phase == other.phase
         && one.spares == other.spares
         && one.bads == other.bads
         && (one.known, one.changed) == (other.known, other.changed)
@@ -172,8 +185,10 @@ pub fn alike(one: &Record, other: &Record) -> bool {
 
 /// Whether the two implementations must do the same at a call on a valid record.
 /// Where document 01 is silent, as no call returns such a record, they may differ:
-/// in going on with command bytes or counts that do not go with the offer, and at
-/// a read's answer with marks that do not go with its stage.
+/// in going on with command bytes or counts that do not go with the offer, at a
+/// read's answer with marks that do not go with its stage, at a trial's write
+/// with rereads before it, and at the verify of a block in the bad list, whose
+/// writes begin with a trial.
 pub fn settled(numbers: &Fields, call: &Call) -> bool {
     let (stage, opcode, count) = (&numbers.stage, numbers.command[0], numbers.count);
     match (call, stage.kind, stage.detail) {
@@ -187,6 +202,11 @@ pub fn settled(numbers: &Fields, call: &Call) -> bool {
         }
         (Call::Surface(..), kind::READ, _) if stage.left > 0 => stage.spent == 0,
         (Call::Surface(..), kind::READ, _) => stage.good == 0,
+        (Call::Surface(0, _), kind::TRIAL_WRITE, rereads) => (rereads, stage.spent) == (0, 0),
+        (Call::Surface(0, _), kind::VERIFY, _) => match numbers.bad_list() {
+            Some(bads) => !bads.contains(&stage.block),
+            None => true,
+        },
         _ => true,
     }
 }
@@ -253,16 +273,29 @@ mod tests {
         assert!(valid(&drive));
         drive.stage.spent = 90;
         assert!(!valid(&drive));
-        drive.stage = fields::Stage {
-            kind: kind::TRIAL_READ,
-            spare: 1,
-            sector: 4928,
-            ..fields::Stage::default()
-        };
-        assert!(valid(&drive));
-        for sector in [0, 4927, 4929, 4959, 4960, u16::MAX] {
-            drive.stage.sector = sector;
-            assert!(!valid(&drive), "{sector}");
+        for kind in [kind::TRIAL_WRITE, kind::TRIAL_READ] {
+            drive.stage = fields::Stage {
+                kind,
+                spare: 1,
+                sector: 4928,
+                ..fields::Stage::default()
+            };
+            assert!(valid(&drive));
+            for sector in [0, 4927, 4929, 4959, 4960, u16::MAX] {
+                drive.stage.sector = sector;
+                assert!(!valid(&drive), "{sector}");
+            }
+            drive.stage.sector = 4928;
+            for (rereads, failures, passes) in [
+                (100, 100, true),
+                (101, 0, false),
+                (255, 0, false),
+                (0, 1, false),
+                (99, 100, false),
+            ] {
+                (drive.stage.detail, drive.stage.spent) = (rereads, failures);
+                assert_eq!(valid(&drive), passes, "{rereads} {failures}");
+            }
         }
     }
 }

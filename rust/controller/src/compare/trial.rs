@@ -1,5 +1,5 @@
-//! The seven calls on a record that no call returned, and verifies with one byte
-//! wrong.
+//! The seven calls on a record that no call returned, and verifies and rereads with
+//! one byte wrong.
 
 use std::format;
 use std::string::String;
@@ -86,12 +86,13 @@ fn surface(filled: u8, rng: &mut Rng) -> Call {
     }
 }
 
-/// Answers verifies with bytes that differ from the data part in one place alone,
-/// in every place, and says what is not as it must be. Gives the number of calls.
+/// Answers verifies and rereads with bytes that differ from the data part in one
+/// place alone, in every place, and says what is not as it must be. Gives the number
+/// of calls.
 pub fn every_place(rng: &mut Rng) -> Result<u64, String> {
     let mut calls = 0;
     let mut verifies = damage::sound_ones();
-    verifies.retain(|record| record.stage.kind == kind::TRIAL_READ);
+    verifies.retain(|record| matches!(record.stage.kind, kind::VERIFY | kind::TRIAL_READ));
     for place in 0..SECTOR_BYTES {
         for record in &verifies {
             let lent: Vec<u8> = (0..BUFFER).map(|_| rng.byte()).collect();
@@ -123,7 +124,7 @@ mod tests {
     #[test]
     fn a_verify_looks_at_every_byte() {
         let calls = every_place(&mut Rng::new(2)).expect("agreement");
-        // On the present sector and on a spare.
-        assert_eq!(calls, 2 * SECTOR_BYTES as u64);
+        // Two verifies, and rereads of the present sector and of a spare.
+        assert_eq!(calls, 4 * SECTOR_BYTES as u64);
     }
 }

@@ -1,12 +1,11 @@
 //! Acting on a command: the checks before any access, the reads of a read
-//! command, the move routine, the plain write, and the finish.
+//! command, and the finish.
 
 use super::{
-    data, data_mut, near, Answer, Job, Moving, Offer, Phase, Place, ReadOutcome, Reading, Record,
-    Stage, Step, WriteOutcome, STATUS,
+    data_mut, Answer, Job, Offer, Phase, Place, ReadOutcome, Reading, Record, Stage, Step, STATUS,
 };
 use crate::coverage::met;
-use crate::geometry::{spare, Block, Sector, SECTOR_BYTES, SPARES};
+use crate::geometry::{Block, Sector, SECTOR_BYTES, SPARES};
 use crate::image::{DEAD, MOST_BADS};
 
 /// The number that reads and writes the buffer.
@@ -24,11 +23,8 @@ const BUDGET: u32 = 90;
 /// What a timeout among them costs.
 const TIMEOUT_COST: u32 = 9;
 
-/// Attempts on one sector.
-const ATTEMPTS: u32 = 2;
-
 /// Bits of status 1.
-mod one {
+pub(super) mod one {
     pub const ABORTED: u8 = 1 << 6;
     pub const NO_SETTLE: u8 = 1 << 4;
     pub const CRC: u8 = 1 << 3;
@@ -37,7 +33,7 @@ mod one {
 }
 
 /// Bits of status 2.
-mod two {
+pub(super) mod two {
     pub const NO_SPARE: u8 = 1 << 6;
     pub const BADS_FULL: u8 = 1 << 4;
     pub const NO_TABLE: u8 = 1 << 3;
@@ -221,15 +217,7 @@ impl Record {
         let number = block.number();
         let sector = self.sector(block);
         let listed = self.is_bad(number);
-        met(&format!(
-            "act.{}.{}.{}",
-            order.command.name(),
-            match self.spare_of(number) {
-                Some(_) => "spare",
-                None => "home",
-            },
-            if listed { "listed" } else { "unlisted" }
-        ));
+        met(&self.begin_name(order));
         let job = Job {
             block: number,
             crc: false,
@@ -247,12 +235,32 @@ impl Record {
                 };
                 self.read_again(job, reading)
             }
-            Command::Write if !listed => {
+            Command::Write | Command::Verify if listed => {
+                met(&format!("trial.begins.listed.{}", order.command.name()));
+                self.try_sector(job, Place::Present(at))
+            }
+            Command::Write => {
                 self.phase = Phase::Writing { job, sector: at };
                 Answer::Write(sector)
             }
-            Command::Write | Command::Verify => self.begin_move(job, at),
+            Command::Verify => {
+                let (sector, step) = (at, Step::Write);
+                self.phase = Phase::Verifying { job, sector, step };
+                Answer::Write(in_range(at))
+            }
         }
+    }
+
+    fn begin_name(&self, order: Order) -> String {
+        let stands = match self.spare_of(order.number) {
+            Some(_) => "spare",
+            None => "home",
+        };
+        let listed = match self.is_bad(order.number) {
+            true => "listed",
+            false => "unlisted",
+        };
+        format!("act.{}.{stands}.{listed}", order.command.name())
     }
 
     /// Asks for the next read of a read command.
@@ -261,7 +269,7 @@ impl Record {
         Answer::Read(in_range(reading.sector))
     }
 
-    /// One of the reads before the move routine was answered.
+    /// One of the reads before any trial was answered.
     pub(super) fn command_read(
         &mut self,
         buffer: &mut [u8],
@@ -373,216 +381,26 @@ impl Record {
             met(&format!("read.late-good.{late}.below-threshold"));
             return self.finish_job(buffer, job, 0, 0);
         }
-        met(&format!("read.late-good.{late}.to-move"));
         if self.latch {
-            met("move.latch");
+            met(&format!("read.late-good.{late}.latch"));
             return self.finish_job(buffer, job, one::NO_SETTLE | one::FAILED, 0);
         }
-        self.begin_move(job, reading.sector)
-    }
-
-    /// The move routine, with no latch, begins on the present sector.
-    fn begin_move(&mut self, job: Job, sector: u32) -> Answer {
-        self.attempt(job, Place::Present(sector), 1)
-    }
-
-    /// Begins an attempt.
-    fn attempt(&mut self, job: Job, place: Place, attempt: u32) -> Answer {
-        self.phase = Phase::Moving(
-            job,
-            Moving {
-                place,
-                attempt,
-                step: Step::Write,
-            },
-        );
-        Answer::Write(sector_of(place))
-    }
-
-    /// The write of an attempt was answered.
-    pub(super) fn move_write(
-        &mut self,
-        buffer: &mut [u8],
-        mut job: Job,
-        moving: Moving,
-        outcome: WriteOutcome,
-    ) -> Answer {
-        let word = match outcome {
-            WriteOutcome::Done => "done",
-            WriteOutcome::Timeout => "timeout",
-            WriteOutcome::NoSettle => "no-settle",
-        };
-        met(&format!("move.{}.write.{word}", place_name(moving)));
-        match outcome {
-            WriteOutcome::Done => {
-                let step = Step::Verify;
-                self.phase = Phase::Moving(job, Moving { step, ..moving });
-                Answer::Read(sector_of(moving.place))
-            }
-            WriteOutcome::Timeout => {
-                job.timeout = true;
-                self.attempt_failed(buffer, job, moving)
-            }
-            WriteOutcome::NoSettle => self.no_settle(buffer, job),
-        }
-    }
-
-    /// The verify of an attempt was answered.
-    pub(super) fn move_verify(
-        &mut self,
-        buffer: &mut [u8],
-        mut job: Job,
-        moving: Moving,
-        outcome: ReadOutcome,
-    ) -> Answer {
-        let word = match outcome {
-            ReadOutcome::Good(bytes) if bytes == data(buffer) => "same",
-            ReadOutcome::Good(_) => "other",
-            ReadOutcome::Crc(bytes) if bytes == data(buffer) => "crc-same",
-            ReadOutcome::Crc(_) => "crc-other",
-            ReadOutcome::Timeout => "timeout",
-            ReadOutcome::NoSettle => "no-settle",
-        };
-        met(&format!("move.{}.verify.{word}", place_name(moving)));
-        match outcome {
-            ReadOutcome::Good(bytes) if bytes == data(buffer) => {
-                self.verified(buffer, job, moving.place)
-            }
-            ReadOutcome::Good(_) | ReadOutcome::Crc(_) => {
-                if let ReadOutcome::Good(bytes) = outcome {
-                    self.met_near(data(buffer), bytes);
-                }
-                job.crc = true;
-                self.attempt_failed(buffer, job, moving)
-            }
-            ReadOutcome::Timeout => {
-                job.timeout = true;
-                self.attempt_failed(buffer, job, moving)
-            }
-            ReadOutcome::NoSettle => self.no_settle(buffer, job),
-        }
-    }
-
-    /// Counts verify bytes that nearly are the data part.
-    fn met_near(&self, part: &[u8], verify: &[u8]) {
-        let (command, brought) = match self.command.first() {
-            Some(0x00) => ("read", SECTOR_BYTES),
-            Some(0x02) => ("verify", self.data_count),
-            _ => return,
-        };
-        if let Some(word) = near::word(part, verify, brought) {
-            met(&format!("move.near.{command}.{word}"));
-        }
-    }
-
-    /// An attempt failed: once more here, or on the next unused spare.
-    fn attempt_failed(&mut self, buffer: &mut [u8], job: Job, moving: Moving) -> Answer {
-        if moving.attempt < ATTEMPTS {
-            return self.attempt(job, moving.place, moving.attempt + 1);
-        }
-        let tried = matches!(moving.place, Place::Spare(_));
-        if tried {
-            met("move.spare.dies");
-            self.kill_next_spare();
-        }
-        match self.next_spare() {
-            Some(k) => {
-                met(match k {
-                    31 => "move.next-spare.last",
-                    _ => "move.next-spare",
-                });
-                self.attempt(job, Place::Spare(k), 1)
-            }
-            None => {
-                met(match (tried, self.spare_of(job.block)) {
-                    (true, None) => "move.no-spare.all-died",
-                    (true, Some(_)) => "move.no-spare.all-died.keeps-its-spare",
-                    (false, None) => "move.no-spare.none-unused",
-                    (false, Some(_)) => "move.no-spare.none-unused.keeps-its-spare",
-                });
-                self.finish_job(buffer, job, one::FAILED, two::NO_SPARE)
-            }
-        }
-    }
-
-    /// The spare under trial, which is the next unused one, becomes dead.
-    fn kill_next_spare(&mut self) {
-        self.spares.push(DEAD);
-        self.changed = true;
-    }
-
-    /// An attempt verified.
-    fn verified(&mut self, buffer: &mut [u8], job: Job, place: Place) -> Answer {
-        let mut two = 0;
-        match place {
-            Place::Present(_) => met("move.verified.present"),
-            Place::Spare(_) => {
-                match self.spare_of(job.block) {
-                    Some(old) => {
-                        met("move.verified.spare.old-entry-killed");
-                        self.spares[old] = DEAD;
-                    }
-                    None => met("move.verified.spare.from-home"),
-                }
-                self.spares.push(job.block);
-                self.changed = true;
-                two = two::MOVED;
-            }
-        }
-        match self.bads.iter().position(|&bad| bad == job.block) {
-            Some(listed) => {
-                met(match listed + 1 == self.bads.len() {
-                    true => "move.removed-from-bads.last",
-                    false => "move.removed-from-bads.before-others",
-                });
-                self.bads.remove(listed);
-                self.changed = true;
-            }
-            None => met("move.not-in-bads"),
-        }
-        self.finish_job(buffer, job, 0, two)
-    }
-
-    /// The one write of a write command was answered.
-    pub(super) fn plain_write(
-        &mut self,
-        buffer: &mut [u8],
-        mut job: Job,
-        outcome: WriteOutcome,
-    ) -> Answer {
-        match outcome {
-            WriteOutcome::Done => {
-                met("write.done");
-                self.finish_job(buffer, job, 0, 0)
-            }
-            WriteOutcome::Timeout => {
-                met("write.timeout");
-                job.timeout = true;
-                self.finish_job(buffer, job, one::FAILED, 0)
-            }
-            WriteOutcome::NoSettle => {
-                met("write.no-settle");
-                self.no_settle(buffer, job)
-            }
-        }
+        met(&format!("trial.begins.read.{late}"));
+        self.try_sector(job, Place::Present(reading.sector))
     }
 
     /// Answer 3 to an access of a command.
-    fn no_settle(&mut self, buffer: &mut [u8], job: Job) -> Answer {
-        if let Phase::Moving(_, moving) = self.phase {
-            match moving.place {
-                Place::Spare(k) => {
-                    met(match k {
-                        31 => "no-settle.last-spare-dies",
-                        _ => "no-settle.spare-dies",
-                    });
-                    self.kill_next_spare();
-                }
-                Place::Present(_) => met(match self.spare_of(job.block) {
-                    Some(_) => "no-settle.present-spare-stays",
-                    None => "no-settle.home",
-                }),
+    pub(super) fn no_settle(&mut self, buffer: &mut [u8], job: Job) -> Answer {
+        let stands = match self.spare_of(job.block) {
+            Some(_) => "spare",
+            None => "home",
+        };
+        met(&format!("no-settle.{stands}.in-{}", self.phase.name()));
+        if let Some(k) = self.spare_under_trial() {
+            if k + 1 == SPARES {
+                met("no-settle.last-spare-dies");
             }
+            self.kill_next_spare();
         }
         met(match self.latch {
             false => "no-settle.latch-made",
@@ -593,7 +411,7 @@ impl Record {
     }
 
     /// The finish of a command that made accesses: what it met joins the bits.
-    fn finish_job(&mut self, buffer: &mut [u8], job: Job, one: u8, two: u8) -> Answer {
+    pub(super) fn finish_job(&mut self, buffer: &mut [u8], job: Job, one: u8, two: u8) -> Answer {
         let crc = if job.crc { one::CRC } else { 0 };
         let timeout = if job.timeout { one::TIMEOUT } else { 0 };
         // Code 1 and the rereads keep E at most 255.
@@ -662,23 +480,7 @@ fn read_name(stage: Stage, outcome: ReadOutcome) -> String {
     format!("read.{stage}.{outcome}")
 }
 
-fn place_name(moving: Moving) -> &'static str {
-    match (moving.place, moving.attempt) {
-        (Place::Present(_), 2) => "present.second",
-        (Place::Present(_), _) => "present.first",
-        (Place::Spare(_), 2) => "spare.second",
-        (Place::Spare(_), _) => "spare.first",
-    }
-}
-
-fn sector_of(place: Place) -> Sector {
-    match place {
-        Place::Present(sector) => in_range(sector),
-        Place::Spare(k) => spare(k).expect("code 1 tested the spare"),
-    }
-}
-
 /// The sector of a number that code 1 tested.
-fn in_range(number: u32) -> Sector {
+pub(super) fn in_range(number: u32) -> Sector {
     Sector::new(number).expect("code 1 tested the sector")
 }

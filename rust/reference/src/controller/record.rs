@@ -3,7 +3,7 @@
 //! Numbers in a record are plain ones, since a record that no call returned may
 //! hold any; `valid` is the test of code 1, and behind it they are in range.
 
-use super::{MOST_COMMAND, MOST_DATA, MOST_START_READS};
+use super::{MOST_COMMAND, MOST_DATA, MOST_START_READS, TRIAL_REREADS};
 use crate::geometry::{home, spare, Block, Sector, SECTOR_BYTES, SPARES};
 use crate::image::{self, Spare, Table, DEAD};
 
@@ -59,8 +59,14 @@ pub enum Phase {
         job: Job,
         sector: u32,
     },
-    /// An access of the move routine is awaited.
-    Moving(Job, Moving),
+    /// The first write of a write/verify is awaited, or its first verify.
+    Verifying {
+        job: Job,
+        sector: u32,
+        step: Step,
+    },
+    /// An access of a trial is awaited.
+    Trying(Job, Trial),
 }
 
 /// A command with an access under way, and what it has met.
@@ -75,7 +81,7 @@ pub struct Job {
     pub errors: u32,
 }
 
-/// Where a read command stands before the move routine.
+/// Where a read command stands before any trial.
 #[derive(Clone, Copy, Debug, PartialEq, Eq)]
 pub struct Reading {
     pub sector: u32,
@@ -96,29 +102,44 @@ pub enum Stage {
     Further { spent: u32 },
 }
 
-/// Where the move routine stands.
-#[derive(Clone, Copy, Debug, PartialEq, Eq)]
-pub struct Moving {
-    pub place: Place,
-    /// Attempts begun here, the one under way included.
-    pub attempt: u32,
-    pub step: Step,
-}
-
-/// The sector of an attempt.
-#[derive(Clone, Copy, Debug, PartialEq, Eq)]
-pub enum Place {
-    /// The block's present sector.
-    Present(u32),
-    /// This spare, under trial.
-    Spare(usize),
-}
-
-/// Which half of an attempt is awaited.
+/// Which access of a write/verify is awaited, before any trial.
 #[derive(Clone, Copy, Debug, PartialEq, Eq)]
 pub enum Step {
     Write,
     Verify,
+}
+
+/// Where the trial of a sector stands (document 02, request 4).
+#[derive(Clone, Copy, Debug, PartialEq, Eq)]
+pub struct Trial {
+    pub place: Place,
+    pub awaits: Awaits,
+}
+
+/// The sector of a trial.
+#[derive(Clone, Copy, Debug, PartialEq, Eq)]
+pub enum Place {
+    /// The block's present sector.
+    Present(u32),
+    /// This spare, the next unused one.
+    Spare(usize),
+}
+
+/// Which access of a trial is awaited.
+#[derive(Clone, Copy, Debug, PartialEq, Eq)]
+pub enum Awaits {
+    /// Its one write.
+    Write,
+    /// A reread, after these.
+    Reread(Rereads),
+}
+
+/// The rereads of a trial that were answered.
+#[derive(Clone, Copy, Debug, Default, PartialEq, Eq)]
+pub struct Rereads {
+    pub made: u32,
+    /// The failures among them.
+    pub failures: u32,
 }
 
 /// What kind of access is awaited.
@@ -128,6 +149,17 @@ pub enum Awaited {
     Write,
 }
 
+impl Awaits {
+    /// Whether code 1 stays silent: at most 100 rereads, and no more failures
+    /// than rereads made.
+    fn valid(self) -> bool {
+        match self {
+            Awaits::Write => true,
+            Awaits::Reread(Rereads { made, failures }) => made <= TRIAL_REREADS && failures <= made,
+        }
+    }
+}
+
 impl Phase {
     /// What is awaited from the surface, if anything.
     pub fn awaited(self) -> Option<Awaited> {
@@ -135,9 +167,13 @@ impl Phase {
             Phase::Idle | Phase::Offered(_) | Phase::Command | Phase::Data => None,
             Phase::Starting { .. } | Phase::Reading(..) => Some(Awaited::Read),
             Phase::Storing | Phase::Writing { .. } => Some(Awaited::Write),
-            Phase::Moving(_, moving) => Some(match moving.step {
+            Phase::Verifying { step, .. } => Some(match step {
                 Step::Write => Awaited::Write,
                 Step::Verify => Awaited::Read,
+            }),
+            Phase::Trying(_, trial) => Some(match trial.awaits {
+                Awaits::Write => Awaited::Write,
+                Awaits::Reread(_) => Awaited::Read,
             }),
         }
     }
@@ -157,11 +193,15 @@ impl Phase {
                 Stage::Further { .. } => "further-read",
             },
             Phase::Writing { .. } => "plain-write",
-            Phase::Moving(_, moving) => match (moving.place, moving.step) {
-                (Place::Present(_), Step::Write) => "present-write",
-                (Place::Present(_), Step::Verify) => "present-verify",
-                (Place::Spare(_), Step::Write) => "spare-write",
-                (Place::Spare(_), Step::Verify) => "spare-verify",
+            Phase::Verifying { step, .. } => match step {
+                Step::Write => "verified-write",
+                Step::Verify => "first-verify",
+            },
+            Phase::Trying(_, trial) => match (trial.place, trial.awaits) {
+                (Place::Present(_), Awaits::Write) => "present-write",
+                (Place::Present(_), Awaits::Reread(_)) => "present-reread",
+                (Place::Spare(_), Awaits::Write) => "spare-write",
+                (Place::Spare(_), Awaits::Reread(_)) => "spare-reread",
             },
         }
     }
@@ -237,21 +277,21 @@ impl Record {
                     && u64::from(job.errors) + left <= 255
                     && spent <= 89
             }
-            Phase::Writing { job, sector } => {
-                self.known && is_block(job.block) && is_sector(sector) && job.errors <= 255
+            Phase::Writing { job, sector } | Phase::Verifying { job, sector, .. } => {
+                self.valid_job(job) && is_sector(sector)
             }
-            Phase::Moving(job, moving) => {
-                let placed = match moving.place {
+            Phase::Trying(job, trial) => {
+                let placed = match trial.place {
                     Place::Present(sector) => is_sector(sector),
                     Place::Spare(k) => self.next_spare() == Some(k),
                 };
-                self.known
-                    && is_block(job.block)
-                    && placed
-                    && job.errors <= 255
-                    && moving.attempt <= 2
+                self.valid_job(job) && placed && trial.awaits.valid()
             }
         }
+    }
+
+    fn valid_job(&self, job: Job) -> bool {
+        self.known && is_block(job.block) && job.errors <= 255
     }
 
     /// The table that the lists make, if they are well formed.

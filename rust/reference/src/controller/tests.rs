@@ -1,7 +1,8 @@
-//! Hand-computed cases from document 01, and from requests 1 and 3 of document 02.
+//! Hand-computed cases from document 01, and from requests 1, 3 and 4 of document 02.
 
 mod health;
 mod short_data;
+mod trials;
 
 use super::*;
 use crate::drive::{Call, Drive};
@@ -127,6 +128,7 @@ fn one_of_two_rereads_good() {
     command(&mut drive, 5, 2, 1);
     assert_eq!(reads(&mut drive, "ccg"), write_of(5));
     assert_eq!(surface(&mut drive, 0, &[]), read_of(5));
+    assert_eq!(reads(&mut drive, &"g".repeat(99)), read_of(5));
     assert_eq!(reads(&mut drive, "g"), Answer::Finished);
     assert_eq!(drive.status(), [0x08, 0, 0, 1]);
     assert!(!drive.record.changed);
@@ -189,74 +191,6 @@ fn the_first_good_bytes_stay() {
 }
 
 #[test]
-fn a_move_and_its_statuses() {
-    let mut drive = worn(&[], &[6, 5, 7]);
-    assert_eq!(write(&mut drive, 2, 5, &GOOD), write_of(5));
-    // Other bytes, then answer 1 with the same ones.
-    assert_eq!(surface(&mut drive, 0, &[]), read_of(5));
-    assert_eq!(surface(&mut drive, 0, &[0; 532]), write_of(5));
-    assert_eq!(surface(&mut drive, 0, &[]), read_of(5));
-    assert_eq!(surface(&mut drive, 1, &GOOD), write_of(4928));
-    assert_eq!(drive.record.spares, [0; 0]);
-    assert_eq!(drive.data(), GOOD);
-    // A write that times out has no verify; then the spare is dead.
-    assert_eq!(surface(&mut drive, 2, &[]), write_of(4928));
-    assert_eq!(drive.record.spares, [0; 0]);
-    assert_eq!(surface(&mut drive, 2, &[]), write_of(4929));
-    assert_eq!(drive.record.spares, [DEAD]);
-    assert_eq!(surface(&mut drive, 0, &[]), read_of(4929));
-    assert_eq!(reads(&mut drive, "g"), Answer::Finished);
-    assert_eq!(drive.status(), [0x0C, 0x04, 0, 0]);
-    assert_eq!(drive.record.spares, [DEAD, 5]);
-    assert_eq!(drive.record.bads, [6, 7]);
-    // The next raise stores; the block is then read at its spare.
-    assert_eq!(said(&mut drive, Call::Raise), Answer::Store);
-    assert_eq!(surface(&mut drive, 0, &[]), Answer::Offer(Offer::Command));
-    said(&mut drive, Call::Lower(0));
-    assert_eq!(command(&mut drive, 5, 0, 0), read_of(4929));
-}
-
-#[test]
-fn a_moved_block_moves_on() {
-    let mut drive = worn(&[8, 5], &[]);
-    assert_eq!(write(&mut drive, 2, 5, &GOOD), write_of(4929));
-    for _ in 0..2 {
-        surface(&mut drive, 2, &[]);
-    }
-    assert_eq!(drive.record.spares, [8, 5]);
-    assert_eq!(surface(&mut drive, 0, &[]), read_of(4930));
-    assert_eq!(drive.record.spares, [8, 5]);
-    assert_eq!(reads(&mut drive, "g"), Answer::Finished);
-    assert_eq!(drive.status(), [0x04, 0x04, 0, 0]);
-    assert_eq!(drive.record.spares, [8, DEAD, 5]);
-}
-
-#[test]
-fn no_spare_unused() {
-    let mut spares = [DEAD; 32];
-    spares[31] = 5;
-    let mut drive = worn(&spares, &[]);
-    assert_eq!(write(&mut drive, 2, 5, &GOOD), write_of(4959));
-    assert_eq!(surface(&mut drive, 2, &[]), write_of(4959));
-    assert_eq!(surface(&mut drive, 2, &[]), Answer::Finished);
-    assert_eq!(drive.status(), [0x05, 0x40, 0, 0]);
-    assert_eq!(drive.record.spares, spares);
-    assert!(!drive.record.changed);
-}
-
-#[test]
-fn the_last_spare_is_tried() {
-    let mut drive = worn(&[DEAD; 31], &[]);
-    write(&mut drive, 2, 5, &GOOD);
-    surface(&mut drive, 2, &[]);
-    assert_eq!(surface(&mut drive, 2, &[]), write_of(4959));
-    surface(&mut drive, 2, &[]);
-    assert_eq!(surface(&mut drive, 2, &[]), Answer::Finished);
-    assert_eq!(drive.status(), [0x05, 0x40, 0, 0]);
-    assert_eq!(drive.record.spares, [DEAD; 32]);
-}
-
-#[test]
 fn acting_in_order() {
     let long = [0x11; 533];
     // Too much, with everything else wrong as well.
@@ -302,7 +236,7 @@ fn the_latch() {
         assert_eq!(write(&mut drive, opcode, block, &GOOD), Answer::Finished);
         assert_eq!(drive.status(), [0x11, 0, 0, 0]);
     }
-    // A read goes on, but its move routine fails.
+    // A read goes on, but at its threshold there is no trial.
     command(&mut drive, 5, 0, 0);
     assert_eq!(reads(&mut drive, "tg"), Answer::Finished);
     assert_eq!(drive.status(), [0x15, 0, 0, 0]);
@@ -314,59 +248,6 @@ fn the_latch() {
     assert_eq!(said(&mut drive, Call::Raise), Answer::Offer(Offer::Command));
     said(&mut drive, Call::Start);
     assert!(!drive.record.latch);
-}
-
-#[test]
-fn a_spare_under_trial_dies_by_answer_3() {
-    for verify in [false, true] {
-        let mut drive = worn(&[8], &[]);
-        write(&mut drive, 2, 8, &GOOD);
-        if verify {
-            surface(&mut drive, 0, &[]);
-        }
-        // On the present spare: its entry stays.
-        assert_eq!(surface(&mut drive, 3, &[]), Answer::Finished);
-        assert_eq!(drive.status(), [0x11, 0, 0, 0]);
-        assert_eq!(drive.record.spares, [8]);
-
-        let mut drive = worn(&[DEAD; 31], &[]);
-        write(&mut drive, 2, 8, &GOOD);
-        surface(&mut drive, 2, &[]);
-        assert_eq!(surface(&mut drive, 2, &[]), write_of(4959));
-        if verify {
-            surface(&mut drive, 0, &[]);
-        }
-        assert_eq!(surface(&mut drive, 3, &[]), Answer::Finished);
-        assert_eq!(drive.status(), [0x15, 0, 0, 0]);
-        assert_eq!(drive.record.spares, [DEAD; 32]);
-        assert!(drive.record.changed);
-    }
-}
-
-#[test]
-fn the_longest_read() {
-    let mut drive = worn(&[], &[]);
-    command(&mut drive, 5, 255, 255);
-    let mut accesses = 1;
-    // 1 + 255 + 89 failures, then a good one, then nothing verifies.
-    for read in 0..346 {
-        let answers = if read == 345 { "g" } else { "c" };
-        assert_ne!(reads(&mut drive, answers), Answer::Finished);
-        accesses += 1;
-    }
-    loop {
-        let answer = match drive.record.phase.awaited() {
-            Some(Awaited::Write) => surface(&mut drive, 0, &[]),
-            _ => surface(&mut drive, 1, &GOOD),
-        };
-        if answer == Answer::Finished {
-            break;
-        }
-        accesses += 1;
-    }
-    assert_eq!(accesses, 478);
-    assert_eq!(drive.status(), [0x09, 0x40, 0, 255]);
-    assert_eq!(drive.data(), GOOD);
 }
 
 #[test]
@@ -428,7 +309,7 @@ fn stores() {
     let mut drive = worn(&[], &[5]);
     write(&mut drive, 1, 5, &GOOD);
     surface(&mut drive, 0, &[]);
-    reads(&mut drive, "g");
+    assert_eq!(reads(&mut drive, &"g".repeat(100)), Answer::Finished);
     for answer in [2, 3, 0] {
         assert_eq!(said(&mut drive, Call::Raise), Answer::Store);
         assert!(drive.record.changed);
@@ -527,14 +408,28 @@ fn reading(job: Job, stage: Stage) -> Record {
     with(Phase::Reading(job, reading))
 }
 
-fn moving(job: Job, place: Place, attempt: u32, step: Step) -> Record {
-    let moving = Moving {
-        place,
-        attempt,
-        step,
-    };
-    with(Phase::Moving(job, moving))
+fn trying(job: Job, place: Place, awaits: Awaits) -> Record {
+    with(Phase::Trying(job, Trial { place, awaits }))
 }
+
+fn verifying(job: Job, sector: u32, step: Step) -> Record {
+    with(Phase::Verifying { job, sector, step })
+}
+
+/// The write of a trial, its first reread, and its last.
+const AWAITS: [Awaits; 3] = [
+    Awaits::Write,
+    Awaits::Reread(Rereads {
+        made: 0,
+        failures: 0,
+    }),
+    Awaits::Reread(Rereads {
+        made: 99,
+        failures: 99,
+    }),
+];
+
+const STEPS: [Step; 2] = [Step::Write, Step::Verify];
 
 /// Each phase of a command's access, a store's too.
 fn accesses() -> Vec<Record> {
@@ -554,10 +449,9 @@ fn accesses() -> Vec<Record> {
             sector: 5,
         }),
     ];
+    records.extend(STEPS.map(|step| verifying(JOB, 5, step)));
     for place in [Place::Present(5), Place::Spare(0)] {
-        for step in [Step::Write, Step::Verify] {
-            records.push(moving(JOB, place, 1, step));
-        }
+        records.extend(AWAITS.map(|awaits| trying(JOB, place, awaits)));
     }
     records
 }
@@ -642,9 +536,15 @@ fn damaged_rereads() {
     inside(&further(255, 89));
     outside(&further(0, 90));
     outside(&further(0, u32::MAX));
-    for step in [Step::Write, Step::Verify] {
-        inside(&moving(job(255), Place::Present(5), 1, step));
-        outside(&moving(job(256), Place::Present(5), 1, step));
+    for (errors, test) in [(255, inside as fn(&Record)), (256, outside)] {
+        let job = job(errors);
+        test(&with(Phase::Writing { job, sector: 5 }));
+        for step in STEPS {
+            test(&verifying(job, 5, step));
+        }
+        for awaits in AWAITS {
+            test(&trying(job, Place::Present(5), awaits));
+        }
     }
 }
 
@@ -677,16 +577,26 @@ fn damaged_start_reads() {
 }
 
 #[test]
-fn damaged_attempts() {
+fn damaged_trials() {
     for place in [Place::Present(5), Place::Spare(0)] {
-        for step in [Step::Write, Step::Verify] {
-            let attempts = |attempt| moving(JOB, place, attempt, step);
-            inside(&attempts(0));
-            inside(&attempts(1));
-            inside(&attempts(2));
-            outside(&attempts(3));
-            outside(&attempts(u32::MAX));
-        }
+        let rereads = |made, failures| {
+            let awaits = Awaits::Reread(Rereads { made, failures });
+            trying(JOB, place, awaits)
+        };
+        inside(&rereads(0, 0));
+        outside(&rereads(0, 1));
+        inside(&rereads(31, 31));
+        outside(&rereads(31, 32));
+        inside(&rereads(99, 99));
+        outside(&rereads(99, 100));
+        inside(&rereads(100, 0));
+        inside(&rereads(100, 100));
+        outside(&rereads(100, 101));
+        outside(&rereads(101, 0));
+        outside(&rereads(101, 101));
+        outside(&rereads(u32::MAX, 0));
+        outside(&rereads(u32::MAX, u32::MAX));
+        outside(&rereads(0, u32::MAX));
     }
 }
 
@@ -719,18 +629,21 @@ fn damaged_sectors_and_blocks() {
             test(&with(Phase::Reading(job, reading)));
         }
         test(&with(Phase::Writing { job, sector }));
-        for step in [Step::Write, Step::Verify] {
-            test(&moving(job, Place::Present(sector), 1, step));
+        for step in STEPS {
+            test(&verifying(job, sector, step));
+        }
+        for awaits in AWAITS {
+            test(&trying(job, Place::Present(sector), awaits));
         }
     }
 }
 
 #[test]
 fn damaged_spares_under_trial() {
-    for step in [Step::Write, Step::Verify] {
+    for awaits in AWAITS {
         let trial = |used: usize, k: usize| Record {
             spares: vec![DEAD; used],
-            ..moving(JOB, Place::Spare(k), 1, step)
+            ..trying(JOB, Place::Spare(k), awaits)
         };
         inside(&trial(0, 0));
         outside(&trial(0, 1));
@@ -768,7 +681,7 @@ fn the_order_of_the_codes() {
     assert_eq!(refused(&read, None, Call::Surface(0, vec![1])), 5);
     assert_eq!(refused(&read, None, Call::Surface(0, vec![1; 532])), 0);
     // Answer 1 to a write is 4, whatever bytes come.
-    let write = moving(JOB, Place::Present(5), 1, Step::Write);
+    let write = trying(JOB, Place::Present(5), Awaits::Write);
     for count in [0, 1, 532] {
         assert_eq!(refused(&write, None, Call::Surface(1, vec![0; count])), 4);
     }
@@ -814,7 +727,14 @@ fn any_record(rng: &mut Rng) -> Record {
         0 => Place::Present(sector),
         _ => Place::Spare(spares.len() + rng.pick(&[0, 0, 0, 1])),
     };
-    let phase = match rng.below(9) {
+    let awaits = match rng.below(3) {
+        0 => Awaits::Write,
+        _ => Awaits::Reread(Rereads {
+            made: rng.pick(&[0, 1, 98, 99, 100, 101]),
+            failures: rng.pick(&[0, 0, 1, 29, 30, 31, 99, 100, 101]),
+        }),
+    };
+    let phase = match rng.below(10) {
         0 => Phase::Idle,
         1 => Phase::Command,
         2 => Phase::Data,
@@ -838,14 +758,12 @@ fn any_record(rng: &mut Rng) -> Record {
             },
         ),
         7 => Phase::Writing { job, sector },
-        _ => Phase::Moving(
+        8 => Phase::Verifying {
             job,
-            Moving {
-                place,
-                attempt: rng.pick(&[0, 1, 2, 2, 3]),
-                step: rng.pick(&[Step::Write, Step::Verify]),
-            },
-        ),
+            sector,
+            step: rng.pick(&STEPS),
+        },
+        _ => Phase::Trying(job, Trial { place, awaits }),
     };
     Record {
         spares,

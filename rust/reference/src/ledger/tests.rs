@@ -89,6 +89,15 @@ impl List {
         self.call(Call::Raise, Answer::Offer(Offer::Act));
     }
 
+    /// The accesses of a trial after its write was asked for: the write is done, and
+    /// a hundred rereads are asked for, the last one still to be answered.
+    fn trial(&mut self, at: u32) {
+        self.call(Call::Surface(0, vec![]), Answer::Read(sector(at)));
+        for _ in 1..100 {
+            self.call(Call::Surface(2, vec![]), Answer::Read(sector(at)));
+        }
+    }
+
     /// A write whose only access is at this sector.
     fn write(&mut self, number: u8, at: u32, data: &[u8], status: [u8; 4]) {
         self.up_to_06(1, number, data);
@@ -543,9 +552,9 @@ fn a_move_changes_the_sector() {
     let mut list = List::with(&[]);
     list.up_to_06(2, 5, &NEW);
     list.call(Call::Lower(0x55), Answer::Write(sector(5)));
-    list.call(Call::Surface(2, vec![]), Answer::Write(sector(5)));
+    list.trial(5);
     list.call(Call::Surface(2, vec![]), Answer::Write(sector(4928)));
-    list.call(Call::Surface(0, vec![]), Answer::Read(sector(4928)));
+    list.trial(4928);
     list.finished([0x04, 0x04, 0, 0], &NEW);
     list.read(5, 4928, GOOD, &NEW);
     list.allowed();
@@ -566,6 +575,53 @@ fn a_move_changes_the_sector() {
     other.allowed();
     other.finished([0, 0x04, 0, 0], &NEW);
     other.broken(Broken::SameSector(block(5), block(9), sector(4928)));
+}
+
+/// A plain write to block 5 times out, and the spare gets its trial (document 02,
+/// request 4).
+fn timed_out() -> List {
+    let mut list = List::with(&[]);
+    list.up_to_06(1, 5, &NEW);
+    list.call(Call::Lower(0x55), Answer::Write(sector(5)));
+    list.call(Call::Surface(2, vec![]), Answer::Write(sector(4928)));
+    list.trial(4928);
+    list
+}
+
+#[test]
+fn a_plain_write_may_move_its_block() {
+    let mut list = timed_out();
+    list.finished([0x04, 0x04, 0, 0], &NEW);
+    list.read(5, 4928, GOOD, &NEW);
+    list.allowed();
+    // Its bytes are the only ones.
+    list.read(5, 4928, GOOD, &OLD);
+    list.broken(Broken::GoodRead(block(5)));
+}
+
+#[test]
+fn a_plain_write_without_a_spare_adds_its_bytes() {
+    for bytes in [&OLD, &NEW] {
+        let mut list = timed_out();
+        list.finished([0x05, 0x40, 0, 0], &NEW);
+        // The block keeps its sector.
+        list.read(5, 5, GOOD, bytes);
+        list.allowed();
+    }
+}
+
+#[test]
+fn the_rewriting_of_a_read_adds_nothing() {
+    let mut list = List::with(&[]);
+    list.command(&[0, 0, 0, 5, 0, 0]);
+    list.call(Call::Lower(0x55), Answer::Read(sector(5)));
+    list.call(Call::Surface(2, vec![]), Answer::Read(sector(5)));
+    list.call(Call::Surface(0, NEW.to_vec()), Answer::Write(sector(5)));
+    list.trial(5);
+    list.finished([0x05, 0x40, 0, 0], &NEW);
+    list.allowed();
+    list.read(5, 5, GOOD, &NEW);
+    list.broken(Broken::GoodRead(block(5)));
 }
 
 #[test]

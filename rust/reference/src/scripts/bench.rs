@@ -1,7 +1,7 @@
 //! A drive on the bench: it makes calls, writes down the script, keeps the
 //! sectors, and has the ledger look on.
 
-use crate::controller::{Answer, Code, Offer, BUFFER, GO_ON};
+use crate::controller::{Answer, Code, Offer, BUFFER, GO_ON, TRIAL_REREADS};
 use crate::drive::{Call, Drive};
 use crate::geometry::{Sector, SECTOR_BYTES, TABLE};
 use crate::image;
@@ -22,8 +22,14 @@ pub const INVALID: [u8; 4] = [0x01, 0, 0x40, 0];
 /// What a command with too many bytes finishes with.
 pub const TOO_MUCH: [u8; 4] = [0x41, 0, 0, 0];
 
-/// No command makes more accesses.
-pub const MOST_ACCESSES: usize = 478;
+/// No read makes more accesses: 1 + 255 + 90 reads, then 33 trials.
+pub const MOST_ACCESSES: usize = 346 + 33 * TRIAL_ACCESSES;
+
+/// A write and the rereads of a trial.
+const TRIAL_ACCESSES: usize = 1 + TRIAL_REREADS as usize;
+
+/// A write/verify makes two accesses before its trials, and a read more of them.
+const _: () = assert!(MOST_ACCESSES == 3679);
 
 /// What the ledger said of the lists on this bench.
 #[derive(Clone, Copy, Debug, Default, PartialEq, Eq)]
@@ -324,14 +330,32 @@ impl Bench {
         self.surface(3, &[])
     }
 
-    /// Both attempts of the move routine here fail: the writes are done, the
-    /// verifies time out.
-    pub fn two_attempts_fail(&mut self) -> Answer {
-        for _ in 0..2 {
-            self.good();
+    /// The trial whose write is awaited: the write is done, so many rereads time
+    /// out, and then the others are good.
+    pub fn trial(&mut self, failures: u32) -> Answer {
+        self.good();
+        for _ in 0..failures {
             self.timeout();
         }
+        self.good_rereads(TRIAL_REREADS - failures)
+    }
+
+    /// So many accesses are good.
+    pub fn good_rereads(&mut self, count: u32) -> Answer {
+        for _ in 0..count {
+            self.good();
+        }
         self.last
+    }
+
+    /// The trial whose write is awaited passes without a failure.
+    pub fn trial_passes(&mut self) -> Answer {
+        self.trial(0)
+    }
+
+    /// The trial whose write is awaited fails, since every reread times out.
+    pub fn trial_fails(&mut self) -> Answer {
+        self.trial(TRIAL_REREADS)
     }
 
     // Longer ways.

@@ -67,17 +67,18 @@ fn clean() -> Bench {
 
     bench.note("A write that fails, then a read of the old bytes.");
     bench.write(99, &[0xBB; 532]);
-    bench.timeout();
-    bench.finished([0x05, 0, 0, 0]);
+    bench.no_settle();
+    bench.finished([0x11, 0, 0, 0]);
     bench.read(99, 0, 1);
     bench.good();
     bench.finished([0; 4]);
     bench.holds(10);
 
     bench.note("A write that spoils its sector: the bad list has it in the end.");
+    bench.restarted();
     bench.write(99, &[0xBC; 532]);
     bench.spoiling();
-    bench.finished([0; 4]);
+    bench.finished([0, 0, 0x80, 0]);
     bench.read(99, 0, 1);
     for _ in 0..11 {
         bench.timeout();
@@ -153,8 +154,7 @@ fn numbers_with_a_meaning(bench: &mut Bench) {
     bench.said(Answer::Wait);
     bench.write(600, &[0x26; 532]);
     bench.said_write(600);
-    bench.good();
-    bench.good();
+    bench.trial_passes();
     bench.finished([0; 4]);
     bench.table_is(&[17, 0xFF_FFFE], &[0, 9727]);
     bench.read(TABLE_IMAGE, 0, 0);

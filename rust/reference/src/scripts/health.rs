@@ -192,8 +192,7 @@ fn same_table(bench: &mut Bench) {
     bench.feed(&[0x36; SECTOR_BYTES]);
     bench.raise();
     bench.lower(GO_ON);
-    bench.good();
-    bench.good();
+    bench.trial_passes();
     bench.finished([0; 4]);
     bench.table_is(&[], &[]);
     let held = bench.sectors.get(TABLE).expect("a table");
@@ -207,21 +206,19 @@ fn moved(bench: &mut Bench) {
     bench.note("A block leaves the bad list for a spare.");
     bench.started(&[], &[71]);
     bench.verify(71, &[0x37; SECTOR_BYTES]);
-    bench.two_attempts_fail();
+    bench.timeout();
     bench.said_write(4928);
-    bench.good();
-    bench.good();
+    bench.trial_passes();
     bench.finished([0x04, 0x04, 0x80, 0]);
     shows_after_store(bench, 2, [31, 0, 0, 1]);
     shows(bench, [31, 0, 0, 0]);
     bench.note("It moves on: its old spare and the next one are dead, the third is its own.");
     bench.verify(71, &[0x38; SECTOR_BYTES]);
     for _ in 0..2 {
-        bench.two_attempts_fail();
+        bench.timeout();
     }
     bench.said_write(4930);
-    bench.good();
-    bench.good();
+    bench.trial_passes();
     bench.finished([0x04, 0x04, 0, 0]);
     shows_after_store(bench, 3, [29, 0, 0, 1]);
     shows(bench, [29, 0, 0, 0]);
@@ -264,7 +261,7 @@ fn died_by_no_settle(bench: &mut Bench) {
     bench.note("A spare under trial dies by answer 3: latch and change at once.");
     bench.started(&[DEAD; 31], &[]);
     bench.verify(17, &[0x3C; SECTOR_BYTES]);
-    bench.two_attempts_fail();
+    bench.timeout();
     bench.said_write(4959);
     bench.no_settle();
     bench.finished([0x15, 0, 0x80, 0]);
@@ -359,12 +356,14 @@ fn between_write_and_read(bench: &mut Bench) {
     bench.write(80, &[0x41; SECTOR_BYTES]);
     bench.good();
     bench.write(80, &[0x42; SECTOR_BYTES]);
-    bench.timeout();
-    bench.finished([0x05, 0, 0, 0]);
-    shows(bench, [31, 1, 0, 0]);
+    bench.no_settle();
+    bench.finished([0x11, 0, 0, 0]);
+    shows(bench, [31, 1, 1, 0]);
     bench.read(80, 0, 1);
     bench.good();
     bench.holds(0x41);
+    bench.restarted();
+    shows_first(bench, [31, 1, 0, 0]);
 }
 
 /// Writes and write/verifies to FFFFFD, and the part as they leave it.

@@ -6,7 +6,9 @@ mod temper;
 use temper::Temper;
 
 use super::bench::{Bench, Tally};
-use crate::controller::{Answer, Awaited, Offer, Phase, Stage, Step, BUFFER, GO_ON};
+use crate::controller::{
+    Answer, Awaited, Awaits, Offer, Phase, Place, Rereads, Stage, BUFFER, GO_ON, TRIAL_REREADS,
+};
 use crate::drive::Call;
 use crate::geometry::{BLOCKS, TABLE};
 use crate::image::{self, DEAD};
@@ -38,6 +40,23 @@ fn simulate(seed: u64, calls: usize, lies: Lies, temper: &'static Temper) -> (St
     host.bench.finish()
 }
 
+/// Of a trial on a spare: the surface turns to a mood in which it may well pass, so
+/// that few commands go through all spares. One in so many.
+const RELIEF: u32 = 2;
+const RELIEVED: [Mood; 2] = [Mood::Calm, Mood::Marginal];
+
+/// Of a trial: it is to end with so many failures, as far as the surface's rules
+/// and its lies allow. One in so many.
+const AIMED: u32 = 2;
+const AIMS: [u32; 8] = [0, 12, 29, 30, 30, 31, 31, 32];
+
+/// So many times as often a command goes on as long as it can while all spares are
+/// unused, since the longest read needs them all.
+const UNUSED: u32 = 4;
+
+/// Of a stray start while a trial is under way: it is made. One in so many.
+const BROKEN_OFF: u32 = 8;
+
 /// The last read that a read command may make: all before cost 89.
 const LAST: Stage = Stage::Further { spent: 89 };
 
@@ -56,6 +75,8 @@ struct Host {
     temper: &'static Temper,
     /// The command is to go on as long as it can.
     longest: bool,
+    /// The failures that the trial under way is to end with, if it is to.
+    aim: Option<u32>,
     /// The number of the last command, which is often that of the next.
     last_number: u32,
     /// What is still to be fed.
@@ -68,7 +89,6 @@ impl Host {
         let mut rng = Rng::new(seed);
         let mut policy = Policy::new(rng.word());
         policy.moods = temper.moods;
-        policy.no_settle = temper.no_settle;
         Host {
             bench: Bench::new(&format!("A random script, seed {seed}.")),
             rng,
@@ -76,6 +96,7 @@ impl Host {
             lies,
             temper,
             longest: false,
+            aim: None,
             last_number: FAVOURITES[0],
             command: vec![],
             data: vec![],
@@ -152,34 +173,82 @@ impl Host {
     fn answer(&mut self) {
         let access = self.bench.pending().expect("an access is awaited");
         let sent = self.bench.sent();
-        if self.longest {
-            self.policy.mood = match self.bench.drive.record.phase {
-                Phase::Reading(_, reading) if reading.stage == LAST => Mood::Calm,
-                _ => Mood::Garbled,
-            };
+        if let Phase::Trying(_, trial) = self.bench.drive.record.phase {
+            if trial.awaits == Awaits::Write {
+                self.plan_trial(trial.place);
+            }
         }
+        let rare = if self.rereads().is_some() { 10 } else { 1 };
+        self.policy.no_settle = self.temper.no_settle * rare;
+        let mood = self.policy.mood;
+        self.policy.mood = self.steered().unwrap_or(mood);
         let outcome = match self.near_verify() {
             Some(bytes) => Outcome::new(0, bytes),
             None => self.policy.answer(&self.bench.sectors, access, &sent),
         };
+        self.policy.mood = mood;
         self.bench.outcome(outcome);
     }
 
-    /// Where the surface lies, a verify now and then brings nearly the data part.
+    /// Chooses how a trial is to go whose write is awaited.
+    fn plan_trial(&mut self, place: Place) {
+        if matches!(place, Place::Spare(_)) && self.rng.one_in(RELIEF) {
+            self.policy.mood = self.rng.pick(&RELIEVED);
+        }
+        let aims = self.rng.one_in(AIMED);
+        self.aim = aims.then(|| self.rng.pick(&AIMS));
+    }
+
+    /// The mood of the next answer alone, where the command or its trial is to end
+    /// in some way.
+    fn steered(&mut self) -> Option<Mood> {
+        let phase = self.bench.drive.record.phase;
+        if self.longest {
+            return Some(match phase {
+                Phase::Reading(_, reading) if reading.stage == LAST => Mood::Fine,
+                _ => Mood::Garbled,
+            });
+        }
+        let (aim, rereads) = (self.aim?, self.rereads()?);
+        // Of the rereads that are left so many are still to fail.
+        let wanted = aim.saturating_sub(rereads.failures);
+        let fails = self.rng.below(TRIAL_REREADS - rereads.made) < wanted;
+        Some(if fails { Mood::Blind } else { Mood::Fine })
+    }
+
+    /// The rereads that the trial under way has made, if one more is awaited.
+    fn rereads(&self) -> Option<Rereads> {
+        match self.bench.drive.record.phase {
+            Phase::Trying(_, trial) => match trial.awaits {
+                Awaits::Write => None,
+                Awaits::Reread(rereads) => Some(rereads),
+            },
+            _ => None,
+        }
+    }
+
+    /// Where the surface lies, a first verify often and a reread of a trial now and
+    /// then brings nearly the data part.
     fn near_verify(&mut self) -> Option<Vec<u8>> {
         let drive = &self.bench.drive;
-        let verify =
-            matches!(drive.record.phase, Phase::Moving(_, moving) if moving.step == Step::Verify);
-        let near = verify && self.policy.lies && self.rng.one_in(2);
+        // Out of 20.
+        let often = match drive.record.phase {
+            Phase::Verifying { .. } => 15,
+            Phase::Trying(..) => 2,
+            _ => return None,
+        };
+        let read = drive.record.phase.awaited() == Some(Awaited::Read);
+        let near = read && self.policy.lies && self.rng.below(20) < often;
         near.then(|| near_miss(&mut self.rng, drive.data()))
     }
 
     /// Chooses the next command, its pieces in the order of their popping.
     fn plan(&mut self) {
-        if self.rng.one_in(self.temper.turn) || self.longest {
+        if self.rng.one_in(self.temper.turn) {
             self.policy.turn();
         }
-        let long = |n| self.rng.one_in(n);
+        let unused = self.bench.drive.record.spares.is_empty();
+        let long = |n| self.rng.one_in(if unused { n / UNUSED } else { n });
         self.longest = self.temper.longest.is_some_and(long);
         if self.longest {
             return self.plan_longest();
@@ -208,7 +277,12 @@ impl Host {
             _ => {}
         }
         self.command = pieces(rng, command);
+        self.plan_data();
+    }
 
+    /// Chooses the data of the next command.
+    fn plan_data(&mut self) {
+        let rng = &mut self.rng;
         let mut data = plain_bytes(rng);
         match rng.below(16) {
             0 => data.truncate(rng.place(533)),
@@ -238,7 +312,7 @@ impl Host {
     }
 
     /// The next command is a read with R 255, of which the last read alone is
-    /// good and no attempt verifies.
+    /// good and no trial passes.
     fn plan_longest(&mut self) {
         let [_, high, middle, low] = self.rng.below(BLOCKS).to_be_bytes();
         let threshold = self.rng.pick(&[0, 1, 255]);
@@ -302,7 +376,12 @@ impl Host {
     fn stray(&mut self) {
         let lend = self.rng.one_in(4).then(|| self.length());
         match self.rng.below(60) {
-            0 => self.restart(),
+            0 => {
+                let trying = matches!(self.bench.drive.record.phase, Phase::Trying(..));
+                if !trying || self.rng.one_in(BROKEN_OFF) {
+                    self.restart();
+                }
+            }
             1..=3 => {
                 self.say(lend, Call::Reset);
             }

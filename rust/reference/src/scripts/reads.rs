@@ -1,6 +1,6 @@
 //! Reads that meet trouble: retries, the longest read, the bad list.
 
-use super::bench::Bench;
+use super::bench::{Bench, MOST_ACCESSES};
 use super::Stored;
 use crate::controller::Answer;
 use crate::image::DEAD;
@@ -35,12 +35,12 @@ fn retries() -> Bench {
     bench.note("R 2, T 1, CRC, good, good: E 0, no move.");
     read(&mut bench, 17, 2, 1, "cgg");
     bench.finished([0x08, 0, 0, 0]);
-    bench.note("R 2, T 1, CRC, CRC, good: E 1, move.");
+    bench.note("R 2, T 1, CRC, CRC, good: E 1, a trial.");
     read(&mut bench, 17, 2, 1, "ccg");
     bench.said_write(17);
     bench.good();
     bench.said_read(17);
-    bench.good();
+    bench.good_rereads(100);
     bench.finished([0x08, 0, 0, 1]);
     bench.note("R 0, eleven timeouts: failed.");
     read(&mut bench, 18, 0, 1, "ttttttttttt");
@@ -57,17 +57,15 @@ fn retries() -> Bench {
     bench.finished([0; 4]);
     read(&mut bench, 17, 0, 255, "g");
     bench.finished([0; 4]);
-    bench.note("R 0, T 0, CRC then good: E 0 is not below 0, so the move routine runs.");
+    bench.note("R 0, T 0, CRC then good: E 0 is not below 0, so there is a trial.");
     read(&mut bench, 17, 0, 0, "cg");
     bench.said_write(17);
-    bench.good();
-    bench.good();
+    bench.trial_passes();
     bench.finished([0x08, 0, 0, 0]);
     bench.note("The same with a timeout.");
     read(&mut bench, 17, 0, 0, "tg");
     bench.said_write(17);
-    bench.good();
-    bench.good();
+    bench.trial_passes();
     bench.finished([0x04, 0, 0, 0]);
 
     bench.note("E counts the rereads alone: with R 1 a CRC, a CRC, six more, good make E 1.");
@@ -75,14 +73,12 @@ fn retries() -> Bench {
     bench.finished([0x0C, 0, 0, 1]);
     read(&mut bench, 20, 1, 1, "ttg");
     bench.said_write(20);
-    bench.good();
-    bench.good();
+    bench.trial_passes();
     bench.finished([0x04, 0, 0, 1]);
     bench.note("All rereads are made; after the first good one the data stay.");
     read(&mut bench, 21, 5, 4, "cgctct");
     bench.said_write(21);
-    bench.good();
-    bench.good();
+    bench.trial_passes();
     bench.finished([0x0C, 0, 0, 4]);
     read(&mut bench, 21, 5, 5, "tgcctt");
     bench.finished([0x0C, 0, 0, 4]);
@@ -91,8 +87,7 @@ fn retries() -> Bench {
     bench.finished([0x0C, 0, 0, 2]);
     read(&mut bench, 22, 4, 3, "tctcg");
     bench.said_write(22);
-    bench.good();
-    bench.good();
+    bench.trial_passes();
     bench.finished([0x0C, 0, 0, 3]);
     bench.note("A good reread in the middle only.");
     read(&mut bench, 22, 3, 3, "ccgc");
@@ -135,8 +130,7 @@ fn retries() -> Bench {
     bench.table_is(&[], &[18, 19, 24, 25, 26, 27, 30, 31]);
     read(&mut bench, 24, 1, 1, "tcg");
     bench.said_write(24);
-    bench.good();
-    bench.good();
+    bench.trial_passes();
     bench.finished([0x0C, 0, 0, 1]);
     bench.table_is(&[], &[18, 19, 25, 26, 27, 30, 31]);
 
@@ -150,8 +144,7 @@ fn retries() -> Bench {
     bench.surface(1, &[0xB3; 532]);
     bench.said_write(17);
     bench.holds(0xB1);
-    bench.good();
-    bench.good();
+    bench.trial_passes();
     bench.finished([0x08, 0, 0x80, 1]);
     bench.holds(0xB1);
     bench
@@ -159,7 +152,7 @@ fn retries() -> Bench {
 
 fn longest_read() -> Bench {
     let mut bench =
-        Bench::new("The longest read: 1 + 255 + 90 reads, then 33 sectors with 4 accesses each.");
+        Bench::new("The longest read: 1 + 255 + 90 reads, then 33 trials of 101 accesses each.");
     bench.started(&[], &[]);
     bench.read(17, 255, 255);
     for _ in 0..1 + 255 + 89 {
@@ -169,15 +162,11 @@ fn longest_read() -> Bench {
     bench.good();
     for place in 0..33 {
         let sector = if place == 0 { 17 } else { 4927 + place };
-        for _ in 0..2 {
-            bench.said_write(sector);
-            bench.good();
-            bench.said_read(sector);
-            bench.crc(0x34);
-        }
+        bench.said_write(sector);
+        bench.trial_fails();
     }
-    bench.finished([0x09, 0x40, 0x80, 255]);
-    assert_eq!(bench.accesses(), 478);
+    bench.finished([0x0D, 0x40, 0x80, 255]);
+    assert_eq!(bench.accesses(), MOST_ACCESSES);
     assert_eq!(bench.drive.data()[..3], [0, 17, 17]);
     bench.table_is(&[DEAD; 32], &[]);
     bench.note("Now no spare is unused: only the present sector is tried.");
@@ -185,11 +174,8 @@ fn longest_read() -> Bench {
     bench.said_read(17);
     bench.crc(0x35);
     bench.good();
-    for _ in 0..2 {
-        bench.said_write(17);
-        bench.good();
-        bench.timeout();
-    }
+    bench.said_write(17);
+    bench.trial_fails();
     bench.finished([0x0D, 0x40, 0, 0]);
     bench
 }
@@ -241,8 +227,7 @@ fn bad_list() -> Bench {
     bench.note("A write/verify removes one from the middle; then there is room for one.");
     bench.verify(550, &[0x37; 532]);
     bench.said_write(550);
-    bench.good();
-    bench.good();
+    bench.trial_passes();
     bench.finished([0; 4]);
     bads.retain(|&bad| bad != 550);
     bench.table_is(&[600, 7], &bads);
@@ -253,12 +238,12 @@ fn bad_list() -> Bench {
     fails(&mut bench, 20);
     bench.finished([0x05, 0x10, 0, 0]);
 
-    bench.note("A plain write to a listed block is a write/verify: the last one goes.");
+    bench.note("A plain write to a listed block begins with the trial too: the last one goes.");
     bench.write(19, &[0x38; 532]);
     bench.said_write(19);
     bench.good();
     bench.said_read(19);
-    bench.good();
+    bench.good_rereads(100);
     bench.finished([0; 4]);
     bads.pop();
     bench.table_is(&[600, 7], &bads);
@@ -268,23 +253,18 @@ fn bad_list() -> Bench {
     bench.finished([0; 4]);
     bench.note("The first goes; a moved block that is listed; one that moves.");
     bench.write(512, &[0x3A; 532]);
-    bench.good();
-    bench.good();
+    bench.trial_passes();
     bads.remove(0);
     bench.write(600, &[0x3B; 532]);
     bench.said_write(4928);
-    bench.good();
-    bench.said_read(4928);
-    bench.good();
+    bench.trial_passes();
     bads.retain(|&bad| bad != 600);
     bench.table_is(&[600, 7], &bads);
     bench.write(513, &[0x3C; 532]);
     bench.said_write(513);
-    bench.two_attempts_fail();
+    bench.timeout();
     bench.said_write(4930);
-    bench.good();
-    bench.said_read(4930);
-    bench.good();
+    bench.trial_passes();
     bench.finished([0x04, 0x04, 0, 0]);
     bads.remove(0);
     bench.table_is(&[600, 7, 513], &bads);
@@ -295,7 +275,7 @@ fn bad_list() -> Bench {
     for (block, sector) in [(514, 514), (600, 4928)] {
         bench.write(block, &[0x3D; 532]);
         bench.said_write(sector);
-        bench.two_attempts_fail();
+        bench.trial_fails();
         bench.said(Answer::Finished);
         assert_eq!(bench.drive.status()[..2], [0x05, 0x40]);
     }

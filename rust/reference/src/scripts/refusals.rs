@@ -49,7 +49,7 @@ fn out_of_place() -> Bench {
         Bench::new("Calls out of place in every phase, and image; then the phase goes on.");
     for way in quiet().iter().chain(&reading()).chain(&writing()) {
         bench.note(way.name);
-        (way.enter)(&mut bench);
+        way.enter(&mut bench);
         let phase = bench.drive.record.phase;
         for call in some_calls() {
             if !in_place(phase, &call) {
@@ -79,7 +79,7 @@ fn go_on(bench: &mut Bench, phase: Phase) {
 /// bytes, then goes on.
 fn wrong_answers(bench: &mut Bench, way: &Way, read: bool) {
     bench.note(way.name);
-    (way.enter)(bench);
+    way.enter(bench);
     let phase = bench.drive.record.phase;
     for answer in [4, 255] {
         bench.surface(answer, &[]);

@@ -1,10 +1,12 @@
 //! Answer 3 at every kind of access, and the latch afterwards.
 
 use super::bench::Bench;
-use super::ways::{reading, writing};
+use super::ways::{reading, writing, BLOCK};
 use super::Stored;
 use crate::controller::{Answer, Offer};
+use crate::geometry::spare;
 use crate::image::DEAD;
+use crate::surface::Access;
 
 pub fn all() -> Vec<Stored> {
     vec![
@@ -13,42 +15,43 @@ pub fn all() -> Vec<Stored> {
     ]
 }
 
+/// What answer 3 finishes with in each way's phase. Those on a spare under trial met
+/// a timeout before.
+const ENDS: [(&str, [u8; 4]); 10] = [
+    ("the first read", [0x11, 0, 0x80, 0]),
+    ("a reread", [0x19, 0, 0x80, 0]),
+    ("a further read", [0x19, 0, 0x80, 1]),
+    ("the first verify", [0x11, 0, 0x80, 0]),
+    (
+        "a reread of a trial on the present sector",
+        [0x11, 0, 0x80, 0],
+    ),
+    ("a reread of a trial on a spare", [0x15, 0, 0x80, 0]),
+    ("a plain write", [0x11, 0, 0x80, 0]),
+    ("the first write of a write/verify", [0x11, 0, 0x80, 0]),
+    (
+        "the write of a trial on the present sector",
+        [0x11, 0, 0x80, 0],
+    ),
+    ("the write of a trial on a spare", [0x15, 0, 0x80, 0]),
+];
+
 fn no_settle() -> Bench {
     let mut bench = Bench::new("Answer 3 ends a command, whatever access it answers.");
-    // The status of each way's end. Those through a spare meet timeouts before.
-    let ends = [
-        ("the first read", [0x11, 0, 0x80, 0]),
-        ("a reread", [0x19, 0, 0x80, 0]),
-        ("a further read", [0x19, 0, 0x80, 1]),
-        ("a verify on the present sector", [0x11, 0, 0x80, 0]),
-        ("a verify on a spare", [0x15, 0, 0x80, 0]),
-        ("a plain write", [0x11, 0, 0x80, 0]),
-        (
-            "a write of the move routine on the present sector",
-            [0x11, 0, 0x80, 0],
-        ),
-        ("a write of the move routine on a spare", [0x15, 0, 0x80, 0]),
-    ];
+    let mut ends = 0;
     for way in reading().iter().chain(&writing()) {
-        let Some((_, status)) = ends.iter().find(|(name, _)| *name == way.name) else {
+        let Some((_, status)) = ENDS.iter().find(|(name, _)| *name == way.name) else {
             continue;
         };
-        bench.note(way.name);
-        (way.enter)(&mut bench);
-        bench.no_settle();
-        bench.finished(*status);
-        let spares: &[u32] = match status[0] {
-            0x15 => &[DEAD],
-            _ => &[],
-        };
-        bench.table_is(spares, &[]);
-        bench.note("The latch: no write, and no store of what was changed.");
-        bench.raise();
-        bench.said(Answer::Offer(Offer::Command));
-        bench.lower(1);
-        bench.write(17, &[0x91; 532]);
-        bench.finished([0x11, 0, 0, 0]);
+        ends += 1;
+        for spares in [vec![], vec![BLOCK, DEAD]] {
+            let at = if spares.is_empty() { "home" } else { "spare" };
+            bench.note(&format!("{}, the block at its {at}", way.name));
+            way.enter_with(&mut bench, &spares);
+            ends_here(&mut bench, *status, &spares);
+        }
     }
+    assert_eq!(ends, ENDS.len());
 
     bench.note("A reread after a good one.");
     bench.started(&[], &[]);
@@ -60,57 +63,49 @@ fn no_settle() -> Bench {
     bench.finished([0x1D, 0, 0x80, 1]);
     assert_eq!(bench.drive.data()[..3], [0, 19, 19]);
 
-    bench.note("On the present spare of a moved block: its entry stays.");
-    for (verify, status) in [(false, 0x11), (true, 0x11)] {
-        bench.started(&[17], &[]);
-        bench.verify(17, &[0x93; 532]);
-        bench.said_write(4928);
-        if verify {
-            bench.good();
-        }
-        bench.no_settle();
-        bench.finished([status, 0, 0x80, 0]);
-        bench.table_is(&[17], &[]);
-        bench.read(17, 0, 1);
-        bench.said_read(4928);
-        bench.good();
-    }
-    bench.note("A spare under trial dies, the moved block keeps its own.");
-    bench.started(&[17, DEAD], &[17]);
-    bench.verify(17, &[0x94; 532]);
-    bench.two_attempts_fail();
-    bench.said_write(4930);
-    bench.good();
-    bench.no_settle();
-    bench.finished([0x15, 0, 0x80, 0]);
-    bench.table_is(&[17, DEAD, DEAD], &[17]);
-    bench.read(17, 0, 1);
-    bench.said_read(4928);
-    bench.good();
-    bench.finished([0; 4]);
-    bench.note("At the second attempt on a spare.");
-    bench.started(&[], &[]);
-    bench.verify(17, &[0x95; 532]);
-    bench.two_attempts_fail();
-    bench.timeout();
-    bench.said_write(4928);
-    bench.no_settle();
-    bench.finished([0x15, 0, 0x80, 0]);
-    bench.table_is(&[DEAD], &[]);
+    last_spare_dies(&mut bench);
+    bench
+}
+
+fn last_spare_dies(bench: &mut Bench) {
     bench.note("Spare 31 dies by it: no bit 6.");
-    for verify in [false, true] {
+    for reread in [false, true] {
         bench.started(&[DEAD; 31], &[]);
         bench.verify(17, &[0x96; 532]);
-        bench.two_attempts_fail();
+        bench.timeout();
         bench.said_write(4959);
-        if verify {
+        if reread {
             bench.good();
         }
         bench.no_settle();
         bench.finished([0x15, 0, 0x80, 0]);
         bench.table_is(&[DEAD; 32], &[]);
     }
-    bench
+}
+
+/// Answer 3 ends the command: a spare under trial dies, and the block keeps its
+/// place.
+fn ends_here(bench: &mut Bench, status: [u8; 4], spares: &[u32]) {
+    let bads = bench.drive.record.bads.clone();
+    let mut left = spares.to_vec();
+    if let Some(Access::Read(here) | Access::Write(here)) = bench.pending() {
+        if here == spare(spares.len()).expect("a spare") {
+            left.push(DEAD);
+        }
+    }
+    bench.no_settle();
+    bench.finished(status);
+    bench.table_is(&left, &bads);
+    bench.note("The latch: no write, and no store of what was changed.");
+    bench.raise();
+    bench.said(Answer::Offer(Offer::Command));
+    bench.lower(1);
+    bench.write(BLOCK, &[0x91; 532]);
+    bench.finished([0x11, 0, 0, 0]);
+    bench.read(BLOCK, 0, 1);
+    bench.said_read(if spares.is_empty() { BLOCK } else { 4928 });
+    bench.good();
+    bench.finished([0; 4]);
 }
 
 fn latch() -> Bench {
@@ -145,7 +140,7 @@ fn latch() -> Bench {
     bench.holds(0xA6);
     bench.read(0xFF_FFFF, 0, 0);
     bench.finished([0; 4]);
-    bench.note("Reads go on, but their move routine fails.");
+    bench.note("Reads go on, but at their threshold there is no trial.");
     bench.read(17, 3, 2);
     bench.good();
     bench.finished([0; 4]);

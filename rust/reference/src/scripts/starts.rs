@@ -133,7 +133,7 @@ fn starts() -> Bench {
             continue;
         }
         bench.note(way.name);
-        (way.enter)(&mut bench);
+        way.enter(&mut bench);
         bench.start();
         bench.said_read(4960);
         bench.holds(0);
@@ -160,8 +160,7 @@ fn starts() -> Bench {
     bench.note("A start drops the latch, the changed mark and what was changed but not stored.");
     bench.started(&[], &[1, 2, 3]);
     bench.verify(2, &[0x1A; 532]);
-    bench.good();
-    bench.good();
+    bench.trial_passes();
     bench.table_is(&[], &[1, 3]);
     bench.restarted();
     bench.table_is(&[], &[1, 2, 3]);

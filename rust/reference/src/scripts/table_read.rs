@@ -148,8 +148,7 @@ fn over_an_older_image(bench: &mut Bench) {
     shown(bench, &Draft::new(&[5], &[6, 70]));
     bench.note("A block in the list is written: a shorter image over the block's bytes.");
     bench.write(6, &[0x63; SECTOR_BYTES]);
-    bench.good();
-    bench.good();
+    bench.trial_passes();
     bench.finished([0; 4]);
     bench.read(TABLE_IMAGE, 0, 0);
     shown(bench, &Draft::new(&[5], &[70]));

@@ -1,46 +1,130 @@
-//! Verifies that bring nearly the data part: each is a CRC error and leads on. The
+//! Verifies and rereads that bring nearly the data part: each is a failure. The
 //! surface breaks its rules here, since it answers good with other bytes than were
 //! written.
 
 use super::bench::Bench;
 use super::Stored;
+use crate::controller::Answer;
 use crate::geometry::SECTOR_BYTES;
-use crate::image::DEAD;
 use crate::rng::Rng;
 
 type Bytes = [u8; SECTOR_BYTES];
 
 pub fn all() -> Vec<Stored> {
-    vec![Stored::new("verify-bytes", verify_bytes())]
+    vec![
+        Stored::new("verify-bytes", verify_bytes()),
+        Stored::new("reread-bytes", reread_bytes()),
+    ]
 }
 
-/// Blocks that are written with verify, and such as are read.
-const WRITTEN: u32 = 17;
-const READ: u32 = 18;
+/// The block of all commands here.
+const BLOCK: u32 = 17;
 
 /// How many bytes of short data are fed.
 const SHORT: usize = 300;
 
+/// First verifies: each that nearly matches leads to the trial, whose write is
+/// asked for.
 fn verify_bytes() -> Bench {
-    let mut bench = Bench::new("Verifies that bring nearly the data part.");
+    let mut bench = Bench::new("First verifies that bring nearly the data part.");
     let data = any_bytes(&mut Rng::new(26));
-    bench.started(&[], &[]);
-    bench.write(READ, &data);
-    bench.good();
-    bench.finished([0, 0, 0x80, 0]);
     for (words, near) in near_misses(&data) {
-        bench.note(&format!("A write/verify: {words}."));
-        bench.verify(WRITTEN, &data);
-        second_verifies(&mut bench, WRITTEN, &near, &data);
-        bench.finished([0x08, 0, 0, 0]);
-        bench.note(&format!("A read at its threshold: {words}."));
-        up_to_move(&mut bench);
-        second_verifies(&mut bench, READ, &near, &data);
-        bench.finished([0x0C, 0, 0, 0]);
+        bench.note(&format!("{words}."));
+        fails_first(&mut bench, &data, &near, &data);
     }
-    short_data(&mut bench, &data);
-    onto_spares(&mut bench, &data);
+    let part = short(&data);
+    for (words, near) in near_zeros(&part) {
+        bench.note(&format!("Short data: {words}."));
+        fails_first(&mut bench, &data[..SHORT], &near, &part);
+    }
     bench
+}
+
+/// A write/verify of which the data part is this one fails its first verify with
+/// these bytes, which are never kept.
+#[track_caller]
+fn fails_first(bench: &mut Bench, fed: &[u8], near: &Bytes, part: &Bytes) {
+    bench.started(&[], &[]);
+    bench.verify(BLOCK, fed);
+    bench.good();
+    bench.said_read(BLOCK);
+    bench.surface(0, near);
+    bench.said_write(BLOCK);
+    assert_eq!(bench.drive.data(), part);
+}
+
+/// Rereads: with timeouts those that nearly match make 30 failures, or 31.
+fn reread_bytes() -> Bench {
+    let mut bench = Bench::new("Rereads of trials that bring nearly the data part.");
+    let mut data = [0xA1; SECTOR_BYTES];
+    data[283..].fill(0x4E);
+    for failures in [30, 31] {
+        bench.note(&format!(
+            "A write/verify of a bad block, {failures} failures."
+        ));
+        bench.started(&[], &[BLOCK]);
+        bench.verify(BLOCK, &data);
+        near_trial(&mut bench, &near_misses(&data), failures, &data);
+        bench.note(&format!("A read at its threshold, {failures} failures."));
+        bench.started(&[], &[]);
+        bench.write(BLOCK, &data);
+        bench.good();
+        bench.read(BLOCK, 0, 0);
+        bench.timeout();
+        bench.good();
+        near_trial(&mut bench, &near_misses(&data), failures, &data);
+        bench.note(&format!(
+            "A plain write of short data, {failures} failures."
+        ));
+        bench.started(&[], &[BLOCK]);
+        bench.write(BLOCK, &data[..SHORT]);
+        let part = short(&data);
+        near_trial(&mut bench, &near_zeros(&part), failures, &part);
+    }
+    bench
+}
+
+/// The trial whose write is awaited: good rereads, each of these once, and timeouts
+/// up to so many failures. With 30 it passes, with 31 it does not.
+#[track_caller]
+fn near_trial(bench: &mut Bench, nears: &[(String, Bytes)], failures: usize, data: &Bytes) {
+    bench.said_write(BLOCK);
+    bench.good();
+    for _ in failures..100 {
+        bench.surface(0, data);
+    }
+    for (_, near) in nears {
+        bench.surface(0, near);
+        assert_eq!(bench.drive.data(), data);
+    }
+    for _ in nears.len()..failures {
+        bench.timeout();
+    }
+    match failures {
+        30 => {
+            bench.said(Answer::Finished);
+            assert_eq!(bench.drive.status()[..2], [0x0C, 0]);
+        }
+        _ => bench.said_write(4928),
+    }
+}
+
+/// The data part that short data leave.
+fn short(data: &Bytes) -> Bytes {
+    let mut part = [0; SECTOR_BYTES];
+    part[..SHORT].copy_from_slice(&data[..SHORT]);
+    part
+}
+
+/// Bytes that differ from the data part of short data in one of its zeros, and how.
+fn near_zeros(part: &Bytes) -> Vec<(String, Bytes)> {
+    [(SHORT, "first"), (415, "middle"), (531, "last")]
+        .map(|(place, which)| {
+            let mut near = *part;
+            near[place] = 0x01;
+            (format!("the {which} of the zeros is none"), near)
+        })
+        .to_vec()
 }
 
 /// Any bytes in runs of any length, so that a script has them in few words.
@@ -76,73 +160,4 @@ fn near_misses(data: &Bytes) -> Vec<(String, Bytes)> {
     });
     all.push((words, same_sum));
     all
-}
-
-/// A read of which only the second read is good comes to its rewrite, with a
-/// timeout met and no CRC error.
-fn up_to_move(bench: &mut Bench) {
-    bench.read(READ, 0, 0);
-    bench.timeout();
-    bench.good();
-}
-
-/// The first attempt fails with these bytes, and the second one verifies.
-#[track_caller]
-fn second_verifies(bench: &mut Bench, at: u32, near: &Bytes, data: &Bytes) {
-    failed_verify(bench, at, near, data);
-    bench.said_write(at);
-    bench.good();
-    bench.said_read(at);
-    bench.surface(0, data);
-}
-
-/// The write awaited is done, and the verify brings these bytes. They are never
-/// kept.
-#[track_caller]
-fn failed_verify(bench: &mut Bench, at: u32, near: &Bytes, data: &Bytes) {
-    bench.said_write(at);
-    bench.good();
-    bench.said_read(at);
-    bench.surface(0, near);
-    assert_eq!(bench.drive.data(), data);
-}
-
-fn short_data(bench: &mut Bench, data: &Bytes) {
-    let mut part = [0; SECTOR_BYTES];
-    part[..SHORT].copy_from_slice(&data[..SHORT]);
-    for (place, words) in [(SHORT, "first"), (415, "middle"), (531, "last")] {
-        bench.note(&format!("Short data: the {words} of the zeros is none."));
-        let mut near = part;
-        near[place] = 0x01;
-        bench.verify(WRITTEN, &data[..SHORT]);
-        second_verifies(bench, WRITTEN, &near, &part);
-        bench.finished([0x08, 0, 0, 0]);
-    }
-}
-
-/// Every attempt fails with other such bytes, until the third spare verifies.
-fn onto_spares(bench: &mut Bench, data: &Bytes) {
-    let mut spares = vec![];
-    for (block, status) in [(WRITTEN, 0x08), (READ, 0x0C)] {
-        bench.note(&format!(
-            "All of these onto the third spare: block {block}."
-        ));
-        match block {
-            READ => up_to_move(bench),
-            _ => {
-                bench.verify(block, data);
-            }
-        }
-        let next = 4928 + spares.len() as u32;
-        let sectors = [block, block, next, next, next + 1, next + 1];
-        for (at, (_, near)) in sectors.into_iter().zip(near_misses(data)) {
-            failed_verify(bench, at, &near, data);
-        }
-        bench.said_write(next + 2);
-        bench.good();
-        bench.surface(0, data);
-        bench.finished([status, 0x04, 0, 0]);
-        spares.extend([DEAD, DEAD, block]);
-        bench.table_is(&spares, &[]);
-    }
 }

@@ -7,8 +7,20 @@ use crate::controller::GO_ON;
 pub struct Way {
     /// The phase, in words.
     pub name: &'static str,
-    /// Goes there; it begins with a start.
-    pub enter: fn(&mut Bench),
+    /// Goes there from a start with this spare list.
+    enter: fn(&mut Bench, &[u32]),
+}
+
+impl Way {
+    /// Goes there from a start with no spare in use.
+    pub fn enter(&self, bench: &mut Bench) {
+        (self.enter)(bench, &[]);
+    }
+
+    /// Goes there from a start with this spare list.
+    pub fn enter_with(&self, bench: &mut Bench, spares: &[u32]) {
+        (self.enter)(bench, spares);
+    }
 }
 
 /// The block that the ways use.
@@ -19,8 +31,8 @@ pub const DATA: u8 = 0x5A;
 
 const READ: [u8; 6] = [0, 0, 0, 17, 1, 1];
 
-fn begin(bench: &mut Bench) {
-    bench.started(&[], &[]);
+fn begin(bench: &mut Bench, spares: &[u32]) {
+    bench.started(spares, &[]);
 }
 
 /// Ways into the phases in which no answer is awaited.
@@ -28,42 +40,42 @@ pub fn quiet() -> Vec<Way> {
     let way = |name, enter| Way { name, enter };
     vec![
         way("idle", begin),
-        way("offer 01", |bench| {
-            begin(bench);
+        way("offer 01", |bench, spares| {
+            begin(bench, spares);
             bench.raise();
         }),
-        way("command bytes", |bench| {
-            begin(bench);
+        way("command bytes", |bench, spares| {
+            begin(bench, spares);
             bench.ready();
         }),
-        way("command bytes, some fed", |bench| {
-            begin(bench);
+        way("command bytes, some fed", |bench, spares| {
+            begin(bench, spares);
             bench.ready();
             bench.feed(&READ[..4]);
         }),
-        way("offer 02", |bench| {
-            begin(bench);
+        way("offer 02", |bench, spares| {
+            begin(bench, spares);
             bench.command(&READ);
         }),
-        way("offer 03", |bench| {
-            begin(bench);
+        way("offer 03", |bench, spares| {
+            begin(bench, spares);
             bench.command(&[1, 0, 0, 17]);
         }),
-        way("offer 04", |bench| {
-            begin(bench);
+        way("offer 04", |bench, spares| {
+            begin(bench, spares);
             bench.command(&[2, 0, 0, 17]);
         }),
-        way("data bytes", |bench| {
-            begin(bench);
+        way("data bytes", |bench, spares| {
+            begin(bench, spares);
             bench.up_to_data(1, BLOCK);
         }),
-        way("data bytes, some fed", |bench| {
-            begin(bench);
+        way("data bytes, some fed", |bench, spares| {
+            begin(bench, spares);
             bench.up_to_data(2, BLOCK);
             bench.feed(&[DATA; 100]);
         }),
-        way("offer 06", |bench| {
-            begin(bench);
+        way("offer 06", |bench, spares| {
+            begin(bench, spares);
             bench.up_to_data(2, BLOCK);
             bench.feed(&[DATA; 532]);
             bench.raise();
@@ -75,25 +87,32 @@ pub fn quiet() -> Vec<Way> {
 pub fn reading() -> Vec<Way> {
     let way = |name, enter| Way { name, enter };
     vec![
-        way("a read of the start", |bench| {
+        way("a read of the start", |bench, _| {
             bench.start();
         }),
         way("the first read", first_read),
-        way("a reread", |bench| {
-            first_read(bench);
+        way("a reread", |bench, spares| {
+            first_read(bench, spares);
             bench.crc(0x11);
         }),
-        way("a further read", |bench| {
-            first_read(bench);
+        way("a further read", |bench, spares| {
+            first_read(bench, spares);
             bench.crc(0x11);
             bench.crc(0x22);
         }),
-        way("a verify on the present sector", |bench| {
-            present_write(bench);
+        way("the first verify", |bench, spares| {
+            verified_write(bench, spares);
             bench.good();
         }),
-        way("a verify on a spare", |bench| {
-            spare_write(bench);
+        way(
+            "a reread of a trial on the present sector",
+            |bench, spares| {
+                present_write(bench, spares);
+                bench.good();
+            },
+        ),
+        way("a reread of a trial on a spare", |bench, spares| {
+            spare_write(bench, spares);
             bench.good();
         }),
     ]
@@ -104,39 +123,52 @@ pub fn writing() -> Vec<Way> {
     let way = |name, enter| Way { name, enter };
     vec![
         way("a store", storing),
-        way("a plain write", |bench| {
-            begin(bench);
-            bench.write(BLOCK, &[DATA; 532]);
-        }),
-        way(
-            "a write of the move routine on the present sector",
-            present_write,
-        ),
-        way("a write of the move routine on a spare", spare_write),
+        way("a plain write", plain_write),
+        way("the first write of a write/verify", verified_write),
+        way("the write of a trial on the present sector", present_write),
+        way("the write of a trial on a spare", spare_write),
     ]
 }
 
-/// A store is awaited: a listed bad block was verified.
-pub fn storing(bench: &mut Bench) {
-    bench.started(&[], &[BLOCK]);
-    bench.verify(BLOCK, &[DATA; 532]);
-    bench.good();
-    bench.good();
+/// A store is awaited: the block was entered in the bad list.
+fn storing(bench: &mut Bench, spares: &[u32]) {
+    begin(bench, spares);
+    bench.read(BLOCK, 0, 1);
+    for _ in 0..11 {
+        bench.timeout();
+    }
     bench.raise();
 }
 
-fn first_read(bench: &mut Bench) {
-    begin(bench);
+fn first_read(bench: &mut Bench, spares: &[u32]) {
+    begin(bench, spares);
     bench.command(&READ);
     bench.lower(GO_ON);
 }
 
-fn present_write(bench: &mut Bench) {
-    begin(bench);
+fn plain_write(bench: &mut Bench, spares: &[u32]) {
+    begin(bench, spares);
+    bench.write(BLOCK, &[DATA; 532]);
+}
+
+fn verified_write(bench: &mut Bench, spares: &[u32]) {
+    begin(bench, spares);
     bench.verify(BLOCK, &[DATA; 532]);
 }
 
-fn spare_write(bench: &mut Bench) {
-    present_write(bench);
-    bench.two_attempts_fail();
+/// The block is in the bad list, so its write begins with the trial.
+fn present_write(bench: &mut Bench, spares: &[u32]) {
+    bench.started(spares, &[BLOCK]);
+    bench.verify(BLOCK, &[DATA; 532]);
+}
+
+/// A write that times out goes straight to a spare.
+fn spare_write(bench: &mut Bench, spares: &[u32]) {
+    plain_write(bench, spares);
+    bench.timeout();
+}
+
+/// The way to a store that is awaited, with no spare in use.
+pub fn to_store(bench: &mut Bench) {
+    storing(bench, &[]);
 }

@@ -1,6 +1,7 @@
 //! The time line of a plan's run: a row for each heading, and in it a card for
 //! each host command, with a mark for each of its surface accesses and a symbol
-//! for its outcome. Clean commands of one kind share a card.
+//! for its outcome. The rereads of a trial are one mark. Clean commands of one
+//! kind share a card.
 
 mod marks;
 
@@ -99,11 +100,16 @@ fn summary(moments: &[Moment]) -> String {
     let moved = count(|outcome| matches!(outcome, Outcome::Spared { .. }));
     let failed = count(|outcome| outcome == Outcome::Failed);
     let marks = || moments.iter().flat_map(|moment| &moment.accesses);
-    let errors = marks().filter(|mark| mark.is_error()).count();
+    let errors = marks().map(|mark| mark.errors()).sum();
     let commands = counted(commands, "command");
-    let accesses = counted(marks().count(), "surface access");
+    let accesses = counted(accesses_of(marks()), "surface access");
     let errors = counted(errors, "error");
     format!("{commands} ({moved} moved a block, {failed} failed), {accesses} ({errors})")
+}
+
+/// How many accesses the marks stand for.
+fn accesses_of<'a>(marks: impl Iterator<Item = &'a Mark>) -> usize {
+    marks.map(|mark| mark.accesses()).sum()
 }
 
 /// The row of the moments from a heading to the next.
@@ -164,7 +170,7 @@ fn share(one: &Moment, next: &Moment) -> bool {
     clean
         && one.outcome == next.outcome
         && one.accesses == next.accesses
-        && !one.accesses.iter().any(Mark::is_error)
+        && one.accesses.iter().all(|mark| mark.errors() == 0)
         && split(&one.command).0 == split(&next.command).0
 }
 
@@ -261,7 +267,8 @@ impl Card {
         let first = fitting(marks.iter(), FIRST_ROOM);
         let last = marks.len() - fitting(marks.iter().rev(), LAST_ROOM);
         let mut pieces: Vec<Piece> = ones(&marks[..first]);
-        pieces.push(Piece::Words(format!("… {} more …", last - first)));
+        let more = accesses_of(marks[first..last].iter());
+        pieces.push(Piece::Words(format!("… {more} more …")));
         pieces.extend(ones(&marks[last..]));
         pieces
     }
@@ -295,8 +302,8 @@ impl Card {
 
     /// The card in words.
     fn told(&self) -> String {
-        let accesses = counted(self.marks.len(), "access");
-        let errors = self.marks.iter().filter(|mark| mark.is_error()).count();
+        let accesses = counted(accesses_of(self.marks.iter()), "access");
+        let errors = self.marks.iter().map(|mark| mark.errors()).sum();
         let (label, errors) = (&self.label, counted(errors, "error"));
         format!("{label}: {accesses}, {errors}{}", self.outcome.words())
     }
@@ -385,10 +392,9 @@ mod tests {
             block: 17,
             sector: 4928,
         };
-        let long = [
-            CrcError, Read, CrcError, Timeout, Read, Write, CrcError, Write, CrcError,
-        ];
-        let moved = [&long[..], &[Write, Read]].concat();
+        let rereads = |failed| Rereads { all: 100, failed };
+        let long = [CrcError, Read, CrcError, Timeout, Read, Write, rereads(31)];
+        let moved = [&long[..], &[Write, rereads(0)]].concat();
         [
             vec![heading("Monday: the host writes the file")],
             each("write", 0..40, &[Write]),
@@ -417,14 +423,21 @@ mod tests {
         for words in [
             "40 writes, blocks 0–39: 40 accesses, 0 errors, good",
             "read 17: 3 accesses, 2 errors, good",
-            "read 17: 11 accesses, 5 errors, spared: 17 → sector 4928",
+            "read 17: 207 accesses, 34 errors, spared: 17 → sector 4928",
             "raise: 1 access, 0 errors",
             "40 write/verifies, blocks 0–39: 80 accesses, 0 errors, good",
         ] {
             assert!(svg.contains(&format!("<title>{words}</title>")), "{words}");
         }
-        let sum = "162 commands (1 moved a block, 0 failed), 215 surface accesses (7 errors)";
+        let sum = "162 commands (1 moved a block, 0 failed), 411 surface accesses (36 errors)";
         assert!(svg.contains(&format!(">{sum}</text>")));
+        for words in ["31 of 100", "0 of 100"] {
+            assert_eq!(
+                svg.matches(&format!(">{words}</text>")).count(),
+                1,
+                "{words}"
+            );
+        }
         assert_eq!(svg.matches(">40 reads, blocks 0–39</text>").count(), 2);
         assert_eq!(svg.matches(">17 → sector 4928</text>").count(), 1);
         assert!(svg.len() < 25_000, "{}", svg.len());
@@ -516,7 +529,7 @@ mod tests {
         let card =
             |marks: usize| card(&[&moment("read 1", &vec![CrcError; marks], Outcome::Failed)]);
         assert_eq!(card(40).pieces().len(), 40);
-        let pieces = card(478).pieces();
+        let pieces = card(346).pieces();
         let left: Vec<String> = pieces
             .iter()
             .filter_map(|piece| match piece {
@@ -525,8 +538,41 @@ mod tests {
             })
             .collect();
         let shown = pieces.len() - 1;
-        assert_eq!(left, [format!("… {} more …", 478 - shown)]);
-        assert!(card(478).width() <= CARDS_END - CARDS);
+        assert_eq!(left, [format!("… {} more …", 346 - shown)]);
+        assert!(card(346).width() <= CARDS_END - CARDS);
+    }
+
+    #[test]
+    fn the_longest_read_fits_its_card() {
+        let trial = [
+            Write,
+            Rereads {
+                all: 100,
+                failed: 31,
+            },
+        ];
+        let marks = [vec![CrcError; 346], trial.repeat(33)].concat();
+        let moment = moment("read 1", &marks, Outcome::Failed);
+        let card = card(&[&moment]);
+        assert_eq!(card.told(), "read 1: 3679 accesses, 1369 errors, failed");
+        assert!(card.width() <= CARDS_END - CARDS);
+        let pieces = card.pieces();
+        let shown = pieces.iter().map(|piece| match piece {
+            Piece::One(mark) => mark.accesses(),
+            Piece::Words(_) => 0,
+        });
+        let words = format!("… {} more …", 3679 - shown.sum::<usize>());
+        let left = |piece: &Piece| matches!(piece, Piece::Words(said) if *said == words);
+        assert!(pieces.iter().any(left), "{words}");
+        drawn(&[moment]);
+    }
+
+    #[test]
+    fn trials_that_went_well_share_a_card() {
+        let rereads = |failed| Rereads { all: 100, failed };
+        let two = |failed| labels(&each("write", 1..3, &[Write, rereads(failed)]));
+        assert_eq!(two(0), ["2 writes, blocks 1–2"]);
+        assert_eq!(two(1), ["write 1", "write 2"]);
     }
 
     #[test]
@@ -550,7 +596,7 @@ mod tests {
 
     #[test]
     fn headings_wrap_between_words() {
-        let words = "the verify fails twice, and the block moves to a spare sector";
+        let words = "31 of a hundred rereads fail, and the block moves to a spare";
         let lines = wrapped(words, LETTERS);
         assert!(lines.iter().all(|line| line.chars().count() <= LETTERS));
         assert_eq!(lines.join(" "), words);

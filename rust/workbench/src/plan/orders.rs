@@ -63,11 +63,16 @@ pub fn parse(mut words: Words) -> Result<Order, String> {
 
 fn planned(mut words: Words) -> Result<Order, String> {
     let sectors = words.sectors()?;
-    let kind = match words.need("reads, writes or clear")? {
+    let kind = match words.need("reads, rereads, writes or clear")? {
         "reads" => Kind::Reads,
+        "rereads" => Kind::Rereads,
         "writes" => Kind::Writes,
         "clear" => return words.end().map(|()| Order::Clear(sectors)),
-        other => return Err(format!("\"{other}\" is neither reads, writes nor clear")),
+        other => {
+            return Err(format!(
+                "\"{other}\" is neither reads, rereads, writes nor clear"
+            ))
+        }
     };
     let fault = fault(&mut words, kind)?;
     words.end()?;
@@ -79,21 +84,49 @@ fn planned(mut words: Words) -> Result<Order, String> {
 }
 
 fn fault(words: &mut Words, kind: Kind) -> Result<Fault, String> {
-    match words.need("next, all, every or in-turn")? {
+    match words.need("next, all, every, fail or in-turn")? {
         "next" => {
             let times = words.positive("the number of accesses")?;
             Ok(Fault::next(times, effect(words.need("a fault")?, kind)?))
         }
         "all" => Ok(Fault::All(effect(words.need("a fault")?, kind)?)),
-        "every" => Ok(Fault::Every {
-            every: words.positive("the number of accesses")?,
-            seen: 0,
-            effect: effect(words.need("a fault")?, kind)?,
-        }),
+        "every" => {
+            let every = words.positive("the number of accesses")?;
+            Ok(Fault::spread(
+                1,
+                every,
+                effect(words.need("a fault")?, kind)?,
+            ))
+        }
+        "fail" => fail(words, kind),
         "in-turn" => in_turn(words, kind),
         other => Err(format!(
-            "\"{other}\" is neither next, all, every nor in-turn"
+            "\"{other}\" is neither next, all, every, fail nor in-turn"
         )),
+    }
+}
+
+/// How many of how many accesses fail, and by which fault: by CRC errors if a line about
+/// reads does not say.
+fn fail(words: &mut Words, kind: Kind) -> Result<Fault, String> {
+    let fails = words.number("the number of failures", u32::MAX)?;
+    if !words.take("of") {
+        return Err(String::from("\"of\" and a number are missing"));
+    }
+    let of = words.positive("the number of accesses")?;
+    if fails > of {
+        return Err(format!(
+            "of {of} accesses {of} at most can fail, not {fails}"
+        ));
+    }
+    let effect = match words.next() {
+        Some(word) => effect(word, kind)?,
+        None if kind == Kind::Writes => return Err(String::from("a fault is missing")),
+        None => Effect::Crc,
+    };
+    match effect {
+        Effect::Good => Err(String::from("\"good\" is no failure")),
+        effect => Ok(Fault::spread(fails, of, effect)),
     }
 }
 
@@ -116,10 +149,10 @@ fn effect(word: &str, kind: Kind) -> Result<Effect, String> {
         ("good", _) => Ok(Effect::Good),
         ("timeout", _) => Ok(Effect::Timeout),
         ("no-settle", _) => Ok(Effect::NoSettle),
-        ("crc", Kind::Reads) => Ok(Effect::Crc),
         ("crc", Kind::Writes) => Err(String::from("a write has no CRC error")),
+        ("crc", _) => Ok(Effect::Crc),
         ("unreadable", Kind::Writes) => Ok(Effect::Unreadable),
-        ("unreadable", Kind::Reads) => Err(String::from("a read leaves its sector as it is")),
+        ("unreadable", _) => Err(String::from("a read leaves its sector as it is")),
         _ => Err(format!(
             "\"{word}\" is no fault: crc, timeout, no-settle, unreadable or good"
         )),

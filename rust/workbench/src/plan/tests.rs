@@ -80,14 +80,9 @@ fn faults() {
         fault_of("fault sector 4959..4961 writes all unreadable"),
         (vec![4959, 4960, 4961], Kind::Writes, Fault::All(Unreadable))
     );
-    let every = Fault::Every {
-        every: 3,
-        seen: 0,
-        effect: NoSettle,
-    };
     assert_eq!(
         fault_of("fault sector 0 writes every 3 no-settle"),
-        (vec![0], Kind::Writes, every)
+        (vec![0], Kind::Writes, Fault::spread(1, 3, NoSettle))
     );
     let turns = VecDeque::from([(1, Crc), (3, Good), (1, Timeout)]);
     assert_eq!(
@@ -107,6 +102,35 @@ fn faults() {
     let sector = Sector::new(17).expect("a sector");
     let clear = Order::Clear(vec![sector]);
     assert_eq!(parse("fault sector 17 clear"), Ok(Line::Fault(clear)));
+}
+
+#[test]
+fn faults_of_rereads() {
+    use Effect::{Crc, Timeout, Unreadable};
+    assert_eq!(
+        fault_of("fault sector 17 rereads fail 31 of 100"),
+        (vec![17], Kind::Rereads, Fault::spread(31, 100, Crc))
+    );
+    assert_eq!(
+        fault_of("fault sector 4928..4929 rereads fail 100 of 100 timeout"),
+        (
+            vec![4928, 4929],
+            Kind::Rereads,
+            Fault::spread(100, 100, Timeout)
+        )
+    );
+    assert_eq!(
+        fault_of("fault sector 17 rereads next 31 crc"),
+        (vec![17], Kind::Rereads, Fault::next(31, Crc))
+    );
+    assert_eq!(
+        fault_of("fault sector 17 reads fail 0 of 7"),
+        (vec![17], Kind::Reads, Fault::spread(0, 7, Crc))
+    );
+    assert_eq!(
+        fault_of("fault sector 17 writes fail 1 of 2 unreadable"),
+        (vec![17], Kind::Writes, Fault::spread(1, 2, Unreadable))
+    );
 }
 
 #[test]
@@ -132,7 +156,7 @@ fn expectations_and_traffic() {
 }
 
 /// Lines with a fault in them, and a part of what is said of each.
-const WRONG: [(&str, &str); 42] = [
+const WRONG: [(&str, &str); 53] = [
     ("red 17", "\"red\" begins no line of a plan"),
     ("Start", "\"Start\" begins no line"),
     ("start now", "\"now\" is too much"),
@@ -182,6 +206,47 @@ const WRONG: [(&str, &str); 42] = [
         "a read leaves its sector as it is",
     ),
     ("fault sector 17 reads next 0 crc", "is 1 at least"),
+    (
+        "fault sector 17 verifies all crc",
+        "\"verifies\" is neither reads, rereads, writes nor clear",
+    ),
+    ("fault sector 17 rereads", "fail or in-turn is missing"),
+    (
+        "fault sector 17 rereads all unreadable",
+        "a read leaves its sector as it is",
+    ),
+    (
+        "fault sector 17 rereads fail 31",
+        "\"of\" and a number are missing",
+    ),
+    (
+        "fault sector 17 rereads fail 31 of",
+        "the number of accesses is missing",
+    ),
+    (
+        "fault sector 17 rereads fail 31 of 0",
+        "the number of accesses is 1 at least",
+    ),
+    (
+        "fault sector 17 rereads fail 31 of 30",
+        "of 30 accesses 30 at most can fail, not 31",
+    ),
+    (
+        "fault sector 17 rereads fail 31% of 100",
+        "the number of failures is a number, and \"31%\" is none",
+    ),
+    (
+        "fault sector 17 rereads fail 31 of 100 good",
+        "\"good\" is no failure",
+    ),
+    (
+        "fault sector 17 rereads fail 31 of 100 rereads",
+        "\"rereads\" is no fault",
+    ),
+    (
+        "fault sector 17 writes fail 31 of 100",
+        "a fault is missing",
+    ),
     ("fault random seed 7 rate 3/2", "first number is 2 at most"),
     ("expect joy", "\"joy\" cannot be expected"),
 ];
@@ -231,7 +296,7 @@ fn guide_examples() -> Vec<&'static str> {
 #[test]
 fn the_examples_of_help_and_guide_are_lines() {
     let (help, guide) = (help_examples(), guide_examples());
-    assert_eq!((help.len(), guide.len()), (22, 22));
+    assert_eq!((help.len(), guide.len()), (23, 23));
     for line in help.into_iter().chain(guide) {
         assert!(parse(line).is_ok(), "{line}: {:?}", parse(line));
     }

@@ -7,6 +7,7 @@ use crate::data::{Blocks, Data};
 use crate::files;
 use crate::host::{Host, Report, Retry, USUAL};
 use crate::show::{self, ranges};
+use crate::trials;
 
 impl<W: Write> Run<W> {
     /// Writes blocks.
@@ -119,17 +120,19 @@ impl<W: Write> Run<W> {
                 1 => format!("{name} {blocks}:"),
                 count => format!("{name} {blocks}: {count} blocks, each"),
             };
-            self.show(&name, &group[0])?;
+            self.show(&name, group)?;
             first = last + 1;
         }
         Ok(())
     }
 
-    /// A command that has this name: its line, a line for each change of a spare,
-    /// and its accesses in a trace.
-    pub fn show(&mut self, name: &str, report: &Report) -> Result<(), Stop> {
+    /// Commands that came to the same and have this name: their line, a line for each
+    /// trial and each change of a spare, and their accesses in a trace.
+    pub fn show(&mut self, name: &str, group: &[Report]) -> Result<(), Stop> {
+        let report = &group[0];
         writeln!(self.out, "{name} {}", show::command(report))?;
-        for line in show::spare_changes(&report.changes) {
+        let changes = show::spare_changes(&report.changes);
+        for line in trials::lines(group).into_iter().chain(changes) {
             writeln!(self.out, "  {line}")?;
         }
         self.trace(report)
@@ -150,7 +153,8 @@ fn groups(reports: &[Report], alone: bool) -> impl Iterator<Item = &[Report]> {
     reports.chunk_by(move |one, next| {
         let spares =
             show::spare_changes(&one.changes).len() + show::spare_changes(&next.changes).len();
-        !alone && spares == 0 && show::command(one) == show::command(next)
+        let same = || show::command(one) == show::command(next) && trials::alike(one, next);
+        !alone && spares == 0 && same()
     })
 }
 

@@ -161,6 +161,84 @@ fn equal_commands_are_one_line_and_a_trace_has_all() {
     assert!(out.contains(part), "{out}");
 }
 
+/// The lines of trials in an output.
+fn trial_lines(out: &str) -> Vec<&str> {
+    let trial = |line: &&str| line.starts_with("  trial");
+    out.lines().filter(trial).collect()
+}
+
+#[test]
+fn so_many_rereads_fail_as_are_ordered() {
+    for (fails, end) in [
+        (0, "passed"),
+        (1, "passed"),
+        (30, "passed"),
+        (31, "not passed"),
+        (99, "not passed"),
+        (100, "not passed"),
+    ] {
+        let plan = format!(
+            "start\nfault sector 3 reads next 1 crc\nfault sector 3 rereads fail {fails} of 100\n\
+             write-verify 3 \"one\"\nexpect good\ncompare 3 with \"one\"\n"
+        );
+        let (ended, _, out) = played(&plan, Settings::default());
+        assert_eq!(ended, Ok(true), "{out}");
+        let line = format!("  trial of sector 3: 100 rereads, {fails} failed, {end}");
+        assert_eq!(trial_lines(&out)[0], line);
+    }
+}
+
+#[test]
+fn a_share_holds_for_every_trial_of_a_sector() {
+    let plan = "start\nfault sector 3 rereads fail 29 of 100 timeout\n\
+                fault sector 3 reads next 2 crc\nread 3 1 1\n\
+                fault sector 3 reads next 1 crc\nwrite-verify 3 \"one\"\n";
+    let (ended, _, out) = played(plan, Settings::default());
+    assert_eq!(ended, Ok(true), "{out}");
+    let line = "  trial of sector 3: 100 rereads, 29 failed, passed";
+    assert_eq!(trial_lines(&out), [line; 2]);
+}
+
+#[test]
+fn a_number_of_rereads_fails_once() {
+    let plan = "start\nfault sector 3 rereads next 31 crc\nfault sector 3 reads next 2 crc\n\
+                fault sector 4928 reads next 1 crc\nread 3 1 1\nexpect good spared\n";
+    let (ended, _, out) = played(plan, Settings::default());
+    assert_eq!(ended, Ok(true), "{out}");
+    assert_eq!(
+        trial_lines(&out),
+        [
+            "  trial of sector 3: 100 rereads, 31 failed, not passed",
+            "  trial of spare 0 (sector 4928): 100 rereads, 1 failed, passed",
+        ]
+    );
+}
+
+#[test]
+fn equal_trials_are_one_line_and_a_trace_folds_rereads() {
+    let plan = "start\nfault sector 3..6 reads next 91 crc\nread 3..6 0 1\n\
+                fault sector 6 rereads fail 12 of 100\nwrite 3..6 \"one\"\n";
+    let (ended, _, out) = played(plan, Settings::default());
+    assert_eq!(ended, Ok(true), "{out}");
+    let part = "write 3..5: 3 blocks, each table stored, 100 reads, 1 write, good, \
+                removed from the bad list\n  \
+                trials of sectors 3..5, each: 100 rereads, 0 failed, passed\n\
+                write 6: table stored, 100 reads, 1 write, 12 CRC errors, good, \
+                removed from the bad list\n  \
+                trial of sector 6: 100 rereads, 12 failed, passed\n";
+    assert!(out.contains(part), "{out}");
+    let trace = Settings {
+        trace: true,
+        ..Settings::default()
+    };
+    let (_, _, out) = played(plan, trace);
+    let part = "  trial of sector 6: 100 rereads, 12 failed, passed\n    \
+                store sector 4960: done\n    write sector 6: done\n    \
+                reread sector 6, 100 times: 88 good, 12 CRC errors\n    \
+                status 08 00 00 00: CRC error met, E 0\n";
+    assert!(out.contains(part), "{out}");
+}
+
 /// The lines of `health` in an output.
 fn health_lines(out: &str) -> Vec<&str> {
     let health = |line: &&str| line.starts_with("health:");
@@ -336,10 +414,18 @@ fn moments_are_kept_for_a_picture() {
             sector: 4928
         }
     ));
-    assert!(matches!(
-        moments[2].accesses[..],
-        [Mark::Write, Mark::CrcError, ..]
-    ));
+    let rereads = |failed| Mark::Rereads { all: 100, failed };
+    assert_eq!(
+        moments[2].accesses,
+        [
+            Mark::Write,
+            Mark::CrcError,
+            Mark::Write,
+            rereads(100),
+            Mark::Write,
+            rereads(0)
+        ]
+    );
     assert!(matches!(moments[3].accesses[..], [Mark::Store]));
     assert!(matches!(moments[4].outcome, Outcome::Failed));
     assert_eq!(moments[5].command, "health");

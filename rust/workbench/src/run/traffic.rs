@@ -31,7 +31,7 @@ impl<W: Write> Run<W> {
     /// One of the commands. They are shown in a trace only.
     fn passed(&mut self, name: &str, report: Report) -> Result<(), Stop> {
         if self.settings.trace {
-            self.show(&format!("{name}:"), &report)?;
+            self.show(&format!("{name}:"), std::slice::from_ref(&report))?;
         }
         self.remember(name, &report);
         if stuck(&report) {

@@ -38,7 +38,14 @@ fn what_is_not_tried_is_missed() {
     none_of("beyond.spares.count-33.", met(|d| d.nspares != 33).missed());
     none_of("at.data.count-533.", met(|d| d.fed != 533).missed());
     none_of("beyond.spent.90.", met(|d| d.stage.spent != 90).missed());
-    none_of(".first-read", met(|d| d.stage.first != 1).missed());
+    none_of(
+        "beyond.trial.rereads-101.",
+        met(|d| d.stage.detail != 101).missed(),
+    );
+    none_of(
+        ".first-read",
+        met(|d| (d.stage.kind, d.stage.first) != (kind::READ, 1)).missed(),
+    );
 }
 
 #[test]
@@ -58,7 +65,7 @@ fn beyond_two_bounds_is_no_name() {
     record.fed = 533;
     assert!(Met::default().count(&record, true).is_ok());
     // Nor is what no clause decides.
-    record.stage.kind = 10;
+    record.stage.kind = kind::TRIAL_READ + 1;
     assert!(Met::default().count(&record, true).is_err());
 }
 

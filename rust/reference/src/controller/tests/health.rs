@@ -183,7 +183,7 @@ fn the_mark_is_no_comparison() {
     said(&mut drive, Call::Raise);
     assert_eq!(said(&mut drive, Call::Lower(0x55)), write_of(5));
     surface(&mut drive, 0, &[]);
-    assert_eq!(reads(&mut drive, "g"), Answer::Finished);
+    assert_eq!(reads(&mut drive, &"g".repeat(100)), Answer::Finished);
     assert_eq!(drive.record.table(), worn(&[], &[]).record.table());
     read_after_store(&mut drive, 3, [32, 0, 0, 1]);
     read_after_store(&mut drive, 0, [32, 0, 0, 0]);
@@ -193,12 +193,12 @@ fn the_mark_is_no_comparison() {
 fn after_moves_and_dead_spares() {
     let mut drive = worn(&[8], &[5]);
     write(&mut drive, 2, 5, &GOOD);
-    // Two attempts at home fail, and two on spare 1; spare 2 verifies.
-    for _ in 0..4 {
+    // The write at home times out, and that on spare 1; spare 2 passes.
+    for _ in 0..2 {
         surface(&mut drive, 2, &[]);
     }
     surface(&mut drive, 0, &[]);
-    assert_eq!(reads(&mut drive, "g"), Answer::Finished);
+    assert_eq!(reads(&mut drive, &"g".repeat(100)), Answer::Finished);
     assert_eq!(drive.record.spares, [8, DEAD, 5]);
     read_after_store(&mut drive, 2, [29, 0, 0, 1]);
     read_after_store(&mut drive, 0, [29, 0, 0, 0]);
@@ -224,9 +224,7 @@ fn under_the_latch() {
 fn a_spare_that_dies_by_answer_3() {
     let mut drive = worn(&[], &[]);
     write(&mut drive, 2, 5, &GOOD);
-    for _ in 0..2 {
-        surface(&mut drive, 2, &[]);
-    }
+    surface(&mut drive, 2, &[]);
     assert_eq!(surface(&mut drive, 3, &[]), Answer::Finished);
     read(&mut drive, [31, 0, 1, 1]);
 }

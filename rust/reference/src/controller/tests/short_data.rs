@@ -213,6 +213,16 @@ fn a_verify_compares_with_the_zeros() {
     assert_eq!(surface(&mut drive, 0, &part(512, OTHER)), write_of(5));
     assert_eq!(drive.data(), part(512, 0));
     assert_eq!(surface(&mut drive, 0, &[]), read_of(5));
+    // The rereads of the trial compare with them too.
+    let wrong = [part(512, OTHER), part(512, 1)];
+    for bytes in wrong.iter().cycle().take(30) {
+        assert_eq!(surface(&mut drive, 0, bytes), read_of(5));
+    }
+    for _ in 0..69 {
+        assert_eq!(surface(&mut drive, 0, &part(512, 0)), read_of(5));
+    }
+    let mut failed = drive.clone();
+    assert_eq!(surface(&mut failed, 0, &wrong[0]), write_of(4928));
     assert_eq!(surface(&mut drive, 0, &part(512, 0)), Answer::Finished);
     assert_eq!(drive.status(), [0x08, 0, 0, 0]);
     assert_eq!(drive.data(), part(512, 0));

@@ -19,7 +19,8 @@ pub struct Temper {
     /// Of a command: the surface's mood turns, to one of these.
     pub turn: u32,
     pub moods: &'static [Mood],
-    /// Of an access without an answer: no settle.
+    /// Of an access without an answer: no settle. Among the rereads of a trial it is
+    /// ten times as rare.
     pub no_settle: u32,
     /// Of a command: R is 255.
     pub most_rereads: u32,
@@ -50,7 +51,7 @@ pub const PATIENT: Temper = Temper {
     wrong: 200,
     restart: 4000,
     dull_restart: 25,
-    moods: &[Mood::Calm, Mood::Rough, Mood::Worn],
+    moods: &[Mood::Calm, Mood::Marginal, Mood::Rough, Mood::Worn],
     no_settle: 300,
     ..EVEN
 };
@@ -71,13 +72,14 @@ pub const WORN: Temper = Temper {
     moods: &[
         Mood::Worn,
         Mood::Worn,
+        Mood::Marginal,
         Mood::Rough,
         Mood::Faint,
         Mood::Blind,
     ],
     no_settle: 300,
     most_rereads: 12,
-    longest: Some(8),
+    longest: Some(32),
     roams: true,
     ..EVEN
 };

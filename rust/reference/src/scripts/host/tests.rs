@@ -27,9 +27,9 @@ fn together(seeds: std::ops::Range<u64>, calls: usize, lies: Lies) -> Tally {
 #[test]
 fn the_ledger_allows_every_list_of_a_surface_that_keeps_its_rules() {
     // The bench itself fails when a list is not allowed.
-    let tally = together(100..106, 3000, NEVER);
-    assert!(tally.calls >= 18_000, "{tally:?}");
-    assert!(tally.listed_calls > 15_000, "{tally:?}");
+    let tally = together(100..106, 9000, NEVER);
+    assert!(tally.calls >= 54_000, "{tally:?}");
+    assert!(tally.listed_calls > 45_000, "{tally:?}");
     assert!(tally.good_reads > 200, "{tally:?}");
     assert_eq!(tally.other_lists, 0, "{tally:?}");
 }
@@ -45,7 +45,7 @@ fn the_ledger_allows_many_more_lists() {
 
 #[test]
 fn the_ledger_finds_lies() {
-    let tally = together(200..204, 2000, ALWAYS);
+    let tally = together(200..204, 8000, ALWAYS);
     assert!(tally.other_lists > 20, "{tally:?}");
     assert!(tally.disallowed > 10, "{tally:?}");
 }
@@ -67,7 +67,7 @@ fn random_scripts_are_scripts() {
 fn random_scripts_reach_most_names() {
     coverage::clear();
     for seed in 300..303 {
-        simulate(seed, 3000, SOMETIMES, &EVEN);
+        simulate(seed, 10_000, SOMETIMES, &EVEN);
     }
     assert_eq!(coverage::strangers(), [""; 0]);
     // Refusals have very many names, so only the others are counted.
@@ -84,7 +84,7 @@ fn random_scripts_reach_most_names() {
 fn random_scripts_read_and_write_the_health_block() {
     coverage::clear();
     for temper in temper::ALL {
-        simulate(500, 4000, SOMETIMES, temper);
+        simulate(500, 12_000, SOMETIMES, temper);
     }
     // Its rarer states are for longer runs.
     for (name, least) in [
@@ -98,47 +98,84 @@ fn random_scripts_read_and_write_the_health_block() {
 }
 
 #[test]
-fn random_scripts_bring_verifies_that_nearly_match() {
+fn random_scripts_bring_rereads_that_nearly_match() {
     coverage::clear();
     for temper in temper::ALL {
-        simulate(600, 6000, ALWAYS, temper);
+        simulate(600, 8000, ALWAYS, temper);
     }
-    let near = |name: &&&str| name.starts_with("move.near.");
+    let near = |name: &&&str| name.starts_with("near.reread.");
     for name in coverage::NAMES.iter().filter(near) {
         assert!(coverage::count(name) > 0, "{name}");
     }
+    // First verifies are fewer.
+    let near = |name: &&&str| name.starts_with("near.first-verify.");
+    let first = coverage::NAMES.iter().filter(near);
+    let count: u64 = first.map(|name| coverage::count(name)).sum();
+    assert!(count >= 5, "{count}");
 }
 
-/// How often a name was met in a script of this temper, and its tally.
-fn tempered(temper: &'static Temper, name: &str) -> (u64, Tally) {
+#[test]
+fn random_scripts_have_trials_on_both_sides_of_the_bound() {
     coverage::clear();
-    let (_, tally) = simulate(400, 4000, NEVER, temper);
-    (coverage::count(name), tally)
+    for temper in temper::ALL {
+        simulate(700, 8000, SOMETIMES, temper);
+    }
+    for place in ["present", "spare"] {
+        for end in [
+            "passed.some",
+            "passed.30",
+            "failed.31",
+            "failed.some",
+            "failed.100",
+            "write.timeout",
+        ] {
+            let name = format!("trial.{place}.{end}");
+            let count = coverage::count(&name);
+            assert!(count >= 3, "{name}: {count}");
+        }
+    }
+    for opcode in ["00", "01", "02"] {
+        let name = format!("moved.by-{opcode}");
+        let count = coverage::count(&name);
+        assert!(count >= 3, "{name}: {count}");
+    }
+}
+
+/// Three scripts of a temper.
+fn tempered(temper: &'static Temper) -> Vec<Tally> {
+    coverage::clear();
+    let script = |seed| simulate(seed, 8000, NEVER, temper).1;
+    [400, 401, 402].map(script).to_vec()
 }
 
 #[test]
 fn the_ledger_allows_the_lists_of_every_temper() {
     for temper in temper::ALL {
-        let (_, tally) = tempered(temper, "");
-        assert!(tally.lists > 0 && tally.other_lists == 0, "{temper:?}");
+        for tally in tempered(temper) {
+            assert!(tally.lists > 0 && tally.other_lists == 0, "{temper:?}");
+        }
     }
 }
 
 #[test]
 fn tempers_differ() {
-    let often = |temper, name| tempered(temper, name).0;
-    let starts = "start.from.idle";
-    assert!(4 * often(&PATIENT, starts) < often(&EVEN, starts));
-    let wrong = "lower.wrong.01";
-    assert!(often(&HOSTILE, wrong) > 2 * often(&EVEN, wrong));
-    let spent = "start.ten-reads-spent";
-    assert!(often(&FAILING, spent) > 2 * often(&EVEN, spent));
-    assert!(often(&WORN, "finish.errors.255") > 3);
+    let often = |temper, name| {
+        tempered(temper);
+        coverage::count(name)
+    };
+    let more = |one, other, times, name| {
+        let counts = (often(one, name), often(other, name));
+        assert!(counts.0 > times * counts.1, "{name}: {counts:?}");
+    };
+    more(&EVEN, &PATIENT, 2, "start.from.idle");
+    more(&HOSTILE, &EVEN, 2, "lower.wrong.01");
+    more(&FAILING, &EVEN, 2, "start.ten-reads-spent");
+    more(&WORN, &EVEN, 3, "finish.errors.255");
 }
 
 #[test]
 fn a_worn_drive_makes_the_longest_read() {
-    let (_, tally) = simulate(401, 10_000, NEVER, &WORN);
+    let (_, tally) = simulate(401, 40_000, NEVER, &WORN);
     assert_eq!(tally.most_accesses, MOST_ACCESSES);
 }
 

@@ -2,7 +2,8 @@
 
 use super::super::svg::{room, Canvas, Key, BAD, MOVED, TABLE};
 
-/// One surface access. Read, write and store went well; the others are errors.
+/// One surface access, or the rereads of a trial. Read, write and store went well; CRC
+/// error, timeout and no settle are errors.
 #[derive(Clone, Copy, Debug, PartialEq, Eq)]
 pub enum Mark {
     Read,
@@ -11,6 +12,11 @@ pub enum Mark {
     CrcError,
     Timeout,
     NoSettle,
+    /// So many of them failed.
+    Rereads {
+        all: u32,
+        failed: u32,
+    },
 }
 
 /// How a command ended.
@@ -28,15 +34,31 @@ const WRITE: &str = r##"fill="#e5a50a""##;
 const GOOD: &str = r##"fill="#1f883d""##;
 const REFUSED: &str = r##"fill="#59636e""##;
 const WHITE_LINE: &str = r##"fill="none" stroke="#ffffff" stroke-width="2""##;
+const WHITE_WORDS: &str = r##"font-weight="bold" text-anchor="middle" fill="#ffffff""##;
+
+/// The bar of a trial's rereads is this wide.
+const REREADS: i32 = 78;
 
 /// Errors have shades of red; that of a CRC error is `BAD`.
 const TIMEOUT: &str = "#a40e26";
 const NO_SETTLE: &str = "#6e011a";
 
 impl Mark {
-    /// The access went wrong.
-    pub fn is_error(&self) -> bool {
-        matches!(self, Mark::CrcError | Mark::Timeout | Mark::NoSettle)
+    /// How many accesses it stands for.
+    pub fn accesses(self) -> usize {
+        match self {
+            Mark::Rereads { all, .. } => all as usize,
+            _ => 1,
+        }
+    }
+
+    /// How many of them went wrong.
+    pub fn errors(self) -> usize {
+        match self {
+            Mark::Read | Mark::Write | Mark::Store => 0,
+            Mark::CrcError | Mark::Timeout | Mark::NoSettle => 1,
+            Mark::Rereads { failed, .. } => failed as usize,
+        }
     }
 
     /// Room from one mark to the next.
@@ -45,6 +67,7 @@ impl Mark {
             Mark::Read | Mark::Write => 5,
             Mark::CrcError | Mark::Timeout | Mark::NoSettle => 12,
             Mark::Store => 18,
+            Mark::Rereads { .. } => REREADS + 4,
         }
     }
 
@@ -64,12 +87,27 @@ impl Mark {
                 let steps = format!("M{} {}l6 11h-12Z", x + 6, y - 6);
                 canvas.path(&steps, &format!(r#"fill="{NO_SETTLE}""#));
             }
+            Mark::Rereads { all, failed } => {
+                bar(canvas, (x + 2, y), REREADS, (failed, all));
+                let at = (x + 2 + REREADS / 2, y + 4);
+                canvas.text(at, WHITE_WORDS, &format!("{failed} of {all}"));
+            }
         }
     }
 
     /// Draws it in the legend, around a place.
     fn key(self, canvas: &mut Canvas, x: i32, y: i32) {
         self.draw(canvas, x - self.room() / 2, y);
+    }
+}
+
+/// The rereads of a trial: a bar of this width around the height `y`, and at its left the
+/// share of those that failed.
+fn bar(canvas: &mut Canvas, (x, y): (i32, i32), width: i32, (failed, all): (u32, u32)) {
+    let share = i64::from(width) * i64::from(failed) / i64::from(all.max(1));
+    canvas.rect((x, y - 8), (width, 16), READ);
+    if share > 0 {
+        canvas.rect((x, y - 8), (share as i32, 16), &format!(r#"fill="{BAD}""#));
     }
 }
 
@@ -138,8 +176,7 @@ fn pill(canvas: &mut Canvas, x: i32, y: i32, words: &str) {
     let width = room(words, 12) + 16;
     let style = format!(r#"rx="9" fill="{MOVED}""#);
     canvas.rect((x, y - 9), (width, 18), &style);
-    let style = r##"font-weight="bold" text-anchor="middle" fill="#ffffff""##;
-    canvas.text((x + width / 2, y + 4), style, words);
+    canvas.text((x + width / 2, y + 4), WHITE_WORDS, words);
 }
 
 /// The legend of marks and outcomes.
@@ -152,6 +189,10 @@ pub fn keys() -> Vec<Key> {
         key(|c, x, y| Mark::CrcError.key(c, x, y), "CRC error"),
         key(|c, x, y| Mark::Timeout.key(c, x, y), "timeout"),
         key(|c, x, y| Mark::NoSettle.key(c, x, y), "no settle"),
+        key(
+            |c, x, y| bar(c, (x - 12, y), 24, (31, 100)),
+            "a trial's rereads",
+        ),
         key(good, "command good"),
         key(|c, x, y| pill(c, x - 12, y, "→"), "moved to a spare"),
         key(failed, "command failed"),

@@ -1,0 +1,5 @@
+pub mod Moves
+pub mod Trials
+pub mod Week
+pub mod Reports
+pub mod MovesForged

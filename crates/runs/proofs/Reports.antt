@@ -1,0 +1,69 @@
+-- What runs report of a block, in the customer's words.
+use mathlib.Core.Path.{_≡_, refl}
+use mathlib.Core.List.{List, [], _∷_}
+use Prim.Native.Nat.{ℕ}
+use Rattle.image.specs.Images.{imageOf}
+use Rattle.drive.specs.declared.Drive.{Drive}
+use Rattle.drive.specs.declared.Answer.the-variants as answer
+use Rattle.drive.specs.declared.Refusal.the-variants as refusal
+use Rattle.drive.specs.Calls.{surface}
+use Rattle.drive.specs.History.{blank}
+use Rattle.drive.specs.Told.{Report, found, written, attempted, given, nothing, reportOf, reportsOf}
+use Rattle.drive.proofs.Computing.{computed}
+use Rattle.drive.proofs.Transcripts.{Run, entered, bytes, disk}
+use Rattle.drive.proofs.Rereads.{threeBlocks, unreadableAtFirst}
+use Rattle.runs.proofs.Moves.{noSpareUnused, failedReads}
+use Rattle.drive.proofs.Latch.{latched}
+use Rattle.runs.proofs.Week.{week}
+
+-- Leaves out the calls that report nothing of the block.
+abbrev spoken : List Report → List Report
+spoken [] = []
+spoken (found xs ∷ rs) = found xs ∷ spoken rs
+spoken (written x ∷ rs) = written x ∷ spoken rs
+spoken (attempted x ∷ rs) = attempted x ∷ spoken rs
+spoken (given x ∷ rs) = given x ∷ spoken rs
+spoken (nothing ∷ rs) = spoken rs
+
+-- Returns what a run reports of block n.
+abbrev toldOf : ℕ → Drive → Run → List Report
+toldOf n old r = spoken (reportsOf (record { 0 = n }) (r .sectors) blank (entered old r))
+
+pub the-week-is-told :
+    (old : Drive) → toldOf 17 old week
+    ≡ found (bytes 7 ∷ []) ∷ written (bytes 1) ∷ given (bytes 1) ∷ given (bytes 1) ∷ given (bytes 1) ∷ written (bytes 2) ∷ given (bytes 2) ∷ []
+unfolding computed reportOf
+the-week-is-told old = refl
+
+pub failed-writes-are-told : (old : Drive) → toldOf 17 old noSpareUnused ≡ found (bytes 7 ∷ []) ∷ attempted (bytes 1) ∷ attempted (bytes 2) ∷ []
+unfolding computed reportOf
+failed-writes-are-told old = refl
+
+-- The write under the latch asked for no write s, and the read at its threshold failed.
+pub a-write-that-is-not-made-is-not-told : (old : Drive) → toldOf 17 old latched ≡ found (bytes 7 ∷ []) ∷ attempted (bytes 1) ∷ []
+unfolding computed reportOf
+a-write-that-is-not-made-is-not-told old = refl
+
+-- Reports of each block what its own commands did.
+pub of-block-17 : (old : Drive) → toldOf 17 old threeBlocks ≡ found (bytes 7 ∷ []) ∷ written (bytes 1) ∷ given (bytes 1) ∷ []
+unfolding computed reportOf
+of-block-17 old = refl
+
+pub of-block-18 : (old : Drive) → toldOf 18 old threeBlocks ≡ found (bytes 7 ∷ []) ∷ written (bytes 2) ∷ []
+unfolding computed reportOf
+of-block-18 old = refl
+
+-- A read at its threshold writes and fails: nothing is told of it. What could not be read as the list began was not found.
+pub a-failed-read-is-not-told : (old : Drive) → toldOf 17 old failedReads ≡ found (bytes 7 ∷ []) ∷ []
+unfolding computed reportOf
+a-failed-read-is-not-told old = refl
+
+pub an-unreadable-sector-is-not-found : (old : Drive) → toldOf 17 old unreadableAtFirst ≡ found [] ∷ written (bytes 1) ∷ []
+unfolding computed reportOf
+an-unreadable-sector-is-not-found old = refl
+
+-- Brings a table's image in a refused call: nothing is found.
+pub a-refused-call-reports-nothing :
+    reportOf (record { 0 = 17 }) (disk [] []) blank (record { call = surface 0 (imageOf [] []); answer = answer.Refused refusal.Buffer; buffer = [] }) ≡ nothing
+unfolding computed reportOf
+a-refused-call-reports-nothing = refl
