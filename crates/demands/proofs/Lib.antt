@@ -20,5 +20,6 @@ pub mod Status4
 pub mod Told
 pub mod ShutOut
 pub mod Trials
+pub mod Begins
 pub mod Made
 pub mod Allowed
