@@ -125,6 +125,20 @@ static const struct event *next_event(void)
     return &bus[place++];
 }
 
+/* How many bytes were sent to the host, and how many of them it took. */
+static unsigned sent, taken;
+
+/* Sends a byte to the host with its parity bit. A board sets nine lines here. The stub is the host's card, which counts
+ * the ones on them and takes the byte if they are odd. */
+static void send(uint8_t byte)
+{
+    unsigned ones = 0;
+    for (unsigned lines = byte + 256u * bv_parity(byte); lines != 0; lines /= 2)
+        ones += lines % 2;
+    sent++;
+    taken += ones % 2;
+}
+
 /* THE LOOP */
 
 static struct bv_drive drive;
@@ -231,9 +245,12 @@ static void show(struct bv_reply reply)
         printf(" wait\n");
         break;
     case BV_OFFER:
+        send((uint8_t)reply.value);
         printf(" offer %02x\n", reply.value);
         break;
     case BV_FINISHED:
+        for (size_t i = 0; i < sizeof buffer; i++)
+            send(buffer[i]);
         printf(" finished, status %02x %02x %02x %02x, data \"%.*s\"\n", buffer[0], buffer[1], buffer[2],
                buffer[3], text_length(), (const char *)buffer + BV_DATA);
         break;
@@ -277,5 +294,6 @@ int main(void)
            health[BV_HEALTH_BADS], health[BV_HEALTH_LATCH], health[BV_HEALTH_UNSTORED]);
     printf("table %d, unstored %d, latch %d\n", bv_has_table(&drive), bv_has_unstored(&drive), bv_is_latched(&drive));
     show_spares();
+    printf("sent %u bytes, taken %u\n", sent, taken);
     return 0;
 }

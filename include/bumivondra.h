@@ -1,5 +1,5 @@
 /* The ProFile controller as a library for a board: seven calls over a record and a buffer that the
- * board holds. Link with libbumivondra.a.
+ * board holds, and the parity bit of a byte on the bus. Link with libbumivondra.a.
  *
  * WHAT IT NEEDS, and no other function: memcpy, memset.
  *
@@ -7,7 +7,7 @@
  * answers. docs/BOARD.md has the loop, examples/board_loop.c is one. Usable from C11 and from C++11.
  *
  * WHAT IS PROMISED. For every record, every buffer and every argument a call answers as document 01 with
- * requests 1 to 4 of document 02 defines it, changes the record and the buffer as it defines, reads and
+ * requests 1 to 5 of document 02 defines it, changes the record and the buffer as it defines, reads and
  * writes nothing else, and ends. A refused call writes nothing at all, so that record and buffer may be
  * write-protected during it. No call waits, allocates, or keeps a pointer.
  *
@@ -249,6 +249,21 @@ struct bv_reply bv_reset(struct bv_drive *drive, uint8_t *buf, size_t len);
  * place whenever there is a table, while an access is awaited too, since the board fetches the bytes of a
  * store with it. Writes nothing into the record. Answers BV_WAIT, or BV_BAD_PLACE with no table. */
 struct bv_reply bv_image(const struct bv_drive *drive, uint8_t *image, size_t len);
+
+/* PARITY ON THE BUS. Takes no record and no buffer, and may be called at any time, beside any other call. */
+
+/* Returns the bit of odd parity of the byte `v`: 1 if `v` has an even number of ones, else 0.
+ *
+ * To send a byte, put it on the eight data lines and its bit on the parity line. The nine lines then carry an
+ * odd number of ones, whatever the byte is.
+ *
+ * To test a byte `v` that came with the bit `p`, which is 0 or 1: the nine lines carried an odd number of ones
+ * exactly if p == bv_parity(v). If not, the byte is not what was sent. One wrong line of the nine, the parity
+ * line too, is always noticed; two wrong lines are not.
+ *
+ * Bytes and bits are what the lines mean: a line that is active low has the opposite level. A board that wants
+ * no call finds the same bits as a table in bumivondra_parity.h. */
+uint8_t bv_parity(uint8_t v);
 
 #ifdef __cplusplus
 }

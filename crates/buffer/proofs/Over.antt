@@ -3,7 +3,7 @@ use mathlib.Core.Path.{_≡_, refl, ap, sym, _∙_}
 use mathlib.Core.List.{List, [], _∷_, _++_, append-assoc, append-nil}
 use Prim.Native.Nat.{ℕ, zero, suc, _+_, _≤_, _<_}
 use native.Mathlib.Omega.{arith}
-use lib.ListN.{length, take, drop, getD, set, replicate, length-append, length-drop, take-append-drop}
+use lib.ListN.{length, take, drop, getD, set, replicate, length-append, length-drop, take-append-drop, drop-of-length-le}
 use lib.Seq.{take-at, drop-append-add, drop-drop, drop-cons, set-at, append-snoc, length-take-le}
 use Rattle.buffer.specs.Runs.{over}
 
@@ -49,6 +49,11 @@ pub over-length : (at : ℕ) (run o : List ℕ) → at + length run ≤ length o
 unfolding over
 over-length at run o h =
     omega (arith, length-append (take at o ++ run) (drop (at + length run) o), head-length at run o (omega arith), length-drop (at + length run) o)
+
+-- a run as long as the list replaces it
+pub over-all : (run o : List ℕ) → length run ≡ length o → over 0 run o ≡ run
+unfolding over
+over-all run o e = rw (drop-of-length-le o {i = 0 + length run} (omega arith)) (append-nil run)
 
 pub replicate-more : (n v : ℕ) → replicate (suc n) v ≡ replicate n v ++ (v ∷ [])
 replicate-more zero v = refl

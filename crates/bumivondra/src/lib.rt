@@ -1,7 +1,8 @@
-// Exports the seven calls over a record's words, which are lent, to callers in C and Rust. include/bumivondra.h
-// says the same in C, with what a caller owes. specs/ says demand 3 of every list of these calls.
+// Exports the seven calls over a record's words, which are lent, and the parity of a byte, to callers in C and Rust.
+// include/bumivondra.h says the same in C, with what a caller owes. specs/ says demand 3 of every list of these calls.
 ghost use mathlib.Core.Path.{_≡_};
 ghost use Rattle.drive.specs.Calls as call;
+ghost use Rattle.parity.specs.Bits.{parityOf};
 ghost use Rattle.crossing.specs.Crossing.{shown, callShown, answerShown, startShown, imageShown};
 use crossing::Reply;
 use packed::Words;
@@ -58,4 +59,11 @@ pub extern "C" fn bv_image(drive: &Words, buf: &mut [u8]) -> Reply
     ensures { λ r. ⌜ shown r (now (drive .entry)) (now (buf .exit)) ≡ imageShown (now (drive .entry)) (now (buf .entry)) ⌝ }
 {
     crossing::image(drive, buf)
+}
+
+#[no_mangle]
+pub extern "C" fn bv_parity(v: u8) -> u8
+    ensures { λ r. ⌜ r ≡ parityOf v ⌝ }
+{
+    parity::parity(v)
 }

@@ -1,7 +1,7 @@
 //! The proved controller for a board: seven calls over a record, and a buffer that
-//! each call is lent.
+//! each call is lent; and the parity bit of a byte on the bus.
 //!
-//! `raw` is the library as C sees it, and `Drive` the safe API over it. The caller
+//! `raw` is the library as C sees it, `Drive` and `parity` the safe API over it. The caller
 //! turns what happens on the bus and at the heads into calls and does what each
 //! call answers; `docs/BOARD.md` has the loop. With the feature `compare` there is
 //! also what the programs `fuzz` and `bench` use.
@@ -17,6 +17,7 @@ pub mod baseline;
 pub mod compare;
 #[cfg(any(test, feature = "compare"))]
 pub mod fields;
+pub mod parity;
 pub mod raw;
 #[cfg(test)]
 mod tests;
@@ -137,6 +138,15 @@ impl Answer {
             (kind, value) => unreachable!("the library answered {kind} {value}"),
         }
     }
+}
+
+/// The bit of odd parity of a byte: 1 if the byte has an even number of ones, else 0.
+/// A byte is sent with it. One that comes with another bit is not what was sent: one
+/// wrong line of the nine is always noticed. `parity::TABLE` has the same bits, for a
+/// board that wants no call.
+pub fn parity(byte: u8) -> u8 {
+    // Any byte may be given, and nothing else is touched.
+    unsafe { raw::bv_parity(byte) }
 }
 
 /// How an access went, as `surface` is told.

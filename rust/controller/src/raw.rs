@@ -83,4 +83,5 @@ extern "C" {
     ) -> Reply;
     pub fn bv_reset(drive: *mut Drive, buf: *mut u8, len: usize) -> Reply;
     pub fn bv_image(drive: *const Drive, buf: *mut u8, len: usize) -> Reply;
+    pub fn bv_parity(v: u8) -> u8;
 }

@@ -7,7 +7,9 @@ use std::{env, fs};
 
 use crate::fields::Fields;
 use crate::raw::kind;
-use crate::{surface, Answer, Code, Drive, Offer, Sector, BUFFER, GO_ON, SECTOR_BYTES, TABLE};
+use crate::{
+    parity, surface, Answer, Code, Drive, Offer, Sector, BUFFER, GO_ON, SECTOR_BYTES, TABLE,
+};
 
 /// The archive that was linked.
 const LINKED: &[u8] = include_bytes!(concat!(env!("OUT_DIR"), "/libbumivondra.a"));
@@ -338,4 +340,14 @@ fn places_of_sectors() {
     assert_eq!(TABLE.place(), (77, 2, 0));
     assert_eq!(Sector(9791).place(), (152, 3, 15));
     assert_eq!(Sector(9791).number(), 9791);
+}
+
+#[test]
+fn the_parity_of_every_byte() {
+    for byte in 0..=0xFF {
+        let bit = parity(byte);
+        assert_eq!(bit, reference::parity::parity(byte), "{byte:02X}");
+        assert_eq!(bit, parity::TABLE[usize::from(byte)], "{byte:02X}");
+        assert!(reference::parity::is_odd(byte, bit), "{byte:02X}");
+    }
 }

@@ -4,7 +4,7 @@ use std::fs;
 use std::io;
 use std::path::Path;
 
-use crate::{images, script, scripts};
+use crate::{images, parity, script, scripts};
 
 /// The folder of the stored scripts.
 const SCRIPTS: &str = "tests/scripts";
@@ -28,6 +28,7 @@ impl Fixture {
 /// All files.
 pub fn all() -> Vec<Fixture> {
     let mut fixtures = of_images();
+    fixtures.push(of_parity());
     fixtures.extend(of_scripts());
     fixtures
 }
@@ -40,6 +41,11 @@ pub fn of_images() -> Vec<Fixture> {
         Fixture::new("crates/test_images/stdin", input),
         Fixture::new("crates/test_images/stdout", transcript),
     ]
+}
+
+/// The parity table as it is printed.
+pub fn of_parity() -> Fixture {
+    Fixture::new("crates/print_parity/stdout", parity::lines())
 }
 
 /// The stored scripts, each with its transcript.
@@ -203,10 +209,14 @@ mod tests {
     fn names_are_known() {
         let paths: Vec<String> = all().into_iter().map(|fixture| fixture.path).collect();
         assert_eq!(
-            paths[..2],
-            ["crates/test_images/stdin", "crates/test_images/stdout"]
+            paths[..3],
+            [
+                "crates/test_images/stdin",
+                "crates/test_images/stdout",
+                "crates/print_parity/stdout"
+            ]
         );
-        for (pair, stored) in paths[2..].chunks(2).zip(scripts::all()) {
+        for (pair, stored) in paths[3..].chunks(2).zip(scripts::all()) {
             let path = format!("tests/scripts/{}", stored.name);
             assert_eq!(pair, [format!("{path}.script"), format!("{path}.expected")]);
         }

@@ -1,11 +1,11 @@
-//! A second implementation of document 01 and of requests 1 and 3 of document 02,
-//! written from their text alone.
+//! A second implementation of document 01 and of requests 1, 3, 4 and 5 of
+//! document 02, written from their text alone.
 //!
 //! It makes inputs for test programs and says what output is expected.
-//! `geometry`, `image` and `controller` are the rules of the document, `ledger`
-//! is its ledger; `rng`, `text`, `coverage`, `drive`, `script` and `surface` are
-//! tools; `images` and `scripts` make the cases; `fixtures` knows the files they go
-//! to; `compare` runs scripts on another program.
+//! `geometry`, `image`, `controller` and `parity` are the rules of the documents,
+//! `ledger` is the ledger of document 01; `rng`, `text`, `coverage`, `drive`,
+//! `script` and `surface` are tools; `images` and `scripts` make the cases;
+//! `fixtures` knows the files they go to; `compare` runs scripts on another program.
 
 pub mod compare;
 pub mod controller;
@@ -16,6 +16,7 @@ pub mod geometry;
 pub mod image;
 pub mod images;
 pub mod ledger;
+pub mod parity;
 pub mod rng;
 pub mod script;
 pub mod scripts;

@@ -6,7 +6,7 @@ use reference::geometry::{home, spare, Block, Sector};
 use reference::image::{three_bytes, Spare, Table};
 
 use crate::board::{Accessed, Board};
-use crate::status;
+use crate::{bus, status};
 
 /// A read's retry count and threshold.
 #[derive(Clone, Copy, Debug, PartialEq, Eq)]
@@ -153,9 +153,16 @@ impl Host {
         let mut end = End::Waits;
         for call in calls {
             end = match self.board.turn(call, &mut accesses) {
-                Answer::Finished => End::Finished(self.board.status()),
+                Answer::Finished => {
+                    bus::carry(&self.board.status());
+                    bus::carry(self.board.data());
+                    End::Finished(self.board.status())
+                }
+                Answer::Offer(offer) => {
+                    bus::carry(&[offer.byte()]);
+                    End::Offered(offer)
+                }
                 Answer::Refused(code) => End::Refused(code),
-                Answer::Offer(offer) => End::Offered(offer),
                 _ => End::Waits,
             };
             if matches!(end, End::Finished(_) | End::Refused(_)) {

@@ -2,7 +2,8 @@
 //!
 //! `platter` holds the sectors, `faults` what the surface is ordered to do, and
 //! `surface` answers an access by the two. `board` puts them under the proved
-//! controller, with `history` beside it, and `host` makes the host's commands.
+//! controller, with `history` beside it, and `host` makes the host's commands; `bus`
+//! carries what it is sent, with the parity bit.
 //! `plan` reads a line of a plan, with its `data`, and `run` does it; `traffic` makes
 //! random commands. `health` has the figures of the health block. `show`, `status`,
 //! `trials`, `trace` and `summary` say what happened, `progress` how far a long line is,
@@ -10,6 +11,7 @@
 //! `files` reads and writes all files. The command line is in the package `usage`.
 
 pub mod board;
+pub mod bus;
 pub mod data;
 pub mod faults;
 pub mod files;
