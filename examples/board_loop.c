@@ -139,6 +139,13 @@ static void send(uint8_t byte)
     taken += ones % 2;
 }
 
+/* Sends bytes to the host, one after the other. */
+static void send_all(const uint8_t *bytes, size_t n)
+{
+    for (size_t i = 0; i < n; i++)
+        send(bytes[i]);
+}
+
 /* THE LOOP */
 
 static struct bv_drive drive;
@@ -236,21 +243,24 @@ static int text_length(void)
     return length;
 }
 
-/* Shows the host what became of its event. */
+/* Shows the host what became of its event: an offer, or the status, and after a read the block. */
 static void show(struct bv_reply reply)
 {
+    static uint8_t offered;
     show_access();
     switch (reply.kind) {
     case BV_WAIT:
         printf(" wait\n");
         break;
     case BV_OFFER:
-        send((uint8_t)reply.value);
-        printf(" offer %02x\n", reply.value);
+        offered = (uint8_t)reply.value;
+        send_all(&offered, 1);
+        printf(" offer %02x\n", offered);
         break;
     case BV_FINISHED:
-        for (size_t i = 0; i < sizeof buffer; i++)
-            send(buffer[i]);
+        send_all(buffer, BV_STATUS_BYTES);
+        if (offered == BV_OFFER_READ)
+            send_all(buffer + BV_DATA, BV_SECTOR_BYTES);
         printf(" finished, status %02x %02x %02x %02x, data \"%.*s\"\n", buffer[0], buffer[1], buffer[2],
                buffer[3], text_length(), (const char *)buffer + BV_DATA);
         break;

@@ -7,9 +7,10 @@
  * answers. docs/BOARD.md has the loop, examples/board_loop.c is one. Usable from C11 and from C++11.
  *
  * WHAT IS PROMISED. For every record, every buffer and every argument a call answers as document 01 with
- * requests 1 to 5 of document 02 defines it, changes the record and the buffer as it defines, reads and
+ * requests 1 to 4 of document 02 defines it, changes the record and the buffer as it defines, reads and
  * writes nothing else, and ends. A refused call writes nothing at all, so that record and buffer may be
- * write-protected during it. No call waits, allocates, or keeps a pointer.
+ * write-protected during it. No call waits, allocates, or keeps a pointer. For every byte bv_parity returns
+ * what request 5 defines.
  *
  * WHAT THE CALLER OWES, and no call can test:
  *   - `drive` points to a struct bv_drive, of any content, aligned as C aligns it;
@@ -258,8 +259,8 @@ struct bv_reply bv_image(const struct bv_drive *drive, uint8_t *image, size_t le
  * odd number of ones, whatever the byte is.
  *
  * To test a byte `v` that came with the bit `p`, which is 0 or 1: the nine lines carried an odd number of ones
- * exactly if p == bv_parity(v). If not, the byte is not what was sent. One wrong line of the nine, the parity
- * line too, is always noticed; two wrong lines are not.
+ * exactly if p == bv_parity(v). If not, at least one of the nine lines came wrong. One wrong line, the parity
+ * line too, is always noticed; two wrong lines cancel and are not noticed.
  *
  * Bytes and bits are what the lines mean: a line that is active low has the opposite level. A board that wants
  * no call finds the same bits as a table in bumivondra_parity.h. */

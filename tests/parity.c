@@ -1,8 +1,8 @@
 /* The parity bit through the library, and the table of bumivondra_parity.h, for every byte.
  *
- * Both are held against a count of the ones of each byte. Then each byte is sent with its bit over nine lines, once as
- * it is and once with each of the lines wrong: what is sent has an odd number of ones, and the test that the header
- * names takes the first and none of the nine others.
+ * Both are held against a count of the ones of each byte. Then each byte is sent with its bit over nine lines: as it is,
+ * with each line wrong, and with each two lines wrong. What is sent has an odd number of ones. The test that the header
+ * names takes it, notices one wrong line, and does not notice two.
  *
  * It prints how many calls of bv_parity were made. */
 #include <stdio.h>
@@ -57,8 +57,11 @@ int main(void)
         unsigned lines = trying + 256 * parity(trying);
         EXPECT(ones(lines) % 2 == 1);
         EXPECT(is_taken(lines));
-        for (unsigned line = 0; line < 9; line++)
+        for (unsigned line = 0; line < 9; line++) {
             EXPECT(!is_taken(lines ^ 1u << line));
+            for (unsigned other = 0; other < line; other++)
+                EXPECT(is_taken(lines ^ 1u << line ^ 1u << other));
+        }
     }
     printf("bv_parity and its table agree with a count of ones for each byte, in %u calls\n", calls);
     return 0;

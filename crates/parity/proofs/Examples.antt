@@ -3,6 +3,7 @@ use mathlib.Core.Path.{_≡_, refl}
 use mathlib.Core.Bool.{true, false}
 use Prim.Native.Nat.{ℕ, zero, suc, _+_, _<_}
 use native.Mathlib.Omega.{arith}
+use native.Mathlib.Nat.{le-of-suc-le-suc}
 use lib.Count.{ones, onesIn}
 use Rattle.logic.proofs.Tables.{equal-below}
 use Rattle.parity.specs.Bits.{bitAt, onesAmong, hasEvenOnes, parityOf, nineBits, DifferAt}
@@ -60,12 +61,25 @@ as-count-ones v h = equal-below 256 (onesAmong 8) ones refl v h
 -- NINE BITS THAT DIFFER AT ONE, and some that do not
 
 -- the parity bit differs, and nothing else
-pub one-differs : DifferAt 9 8 (nineBits 3 1) (nineBits 3 0)
-one-differs =
+pub highest-differs : DifferAt 9 8 (nineBits 3 1) (nineBits 3 0)
+highest-differs =
     record {
       within = omega arith;
       there = λ (e : bitAt 8 (nineBits 3 1) ≡ bitAt 8 (nineBits 3 0)). omega arith;
       elsewhere = λ (k : ℕ) (h : k < 9) (other : k ≡ 8 → ⊥). equal-below 8 (λ (k : ℕ). bitAt k (nineBits 3 1)) (λ (k : ℕ). bitAt k (nineBits 3 0)) refl k (omega arith);
+    }
+
+higher : (k : ℕ) → k < 9 → (k ≡ 0 → ⊥) → bitAt k (nineBits 2 0) ≡ bitAt k (nineBits 3 0)
+higher zero h other = absurd (other refl)
+higher (suc k) h other = equal-below 8 (λ (k : ℕ). bitAt (suc k) (nineBits 2 0)) (λ (k : ℕ). bitAt (suc k) (nineBits 3 0)) refl k (le-of-suc-le-suc h)
+
+-- the lowest bit differs, and nothing else
+pub lowest-differs : DifferAt 9 0 (nineBits 2 0) (nineBits 3 0)
+lowest-differs =
+    record {
+      within = omega arith;
+      there = λ (e : bitAt 0 (nineBits 2 0) ≡ bitAt 0 (nineBits 3 0)). omega arith;
+      elsewhere = higher;
     }
 
 pub none-differs : DifferAt 9 8 (nineBits 3 1) (nineBits 3 1) → ⊥

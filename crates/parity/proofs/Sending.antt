@@ -1,4 +1,4 @@
--- What a board rests on that sends each byte with its parity bit, and tests each byte that comes with a bit.
+-- What holds of a byte that is sent with its parity bit, and of one that comes with a bit.
 use mathlib.Core.Path.{_≡_, refl, sym, ap, _∙_, subst⁻¹}
 use mathlib.Core.Bool.{Bool, true, false, cond}
 use Prim.Native.Nat.{ℕ, zero, suc, _+_, _/_, _%_, _^_, _<_}
@@ -7,49 +7,35 @@ use native.Mathlib.Nat.{le-of-suc-le-suc, not-suc-le-zero}
 use lib.Dec.{eqb}
 use borrow.Author.Tests.{eqb-true, eqb-false}
 use Rattle.logic.proofs.Tables.{equal-below}
-use Rattle.parity.specs.Bits.{bitAt, onesAmong, parityOf, nineBits, DifferAt}
+use Rattle.parity.specs.Bits.{bitAt, onesAmong, hasEvenOnes, parityOf, nineBits, DifferAt}
 
--- the ones of the nine bits are those of the byte and the bit: computed for every byte and either bit
-counted : (v p : ℕ) → v < 256 → p < 2 → onesAmong 9 (nineBits v p) ≡ onesAmong 8 v + p
+-- the parity of nine bits, computed for every byte and either bit
+nine : (v p : ℕ) → v < 256 → p < 2 → onesAmong 9 (nineBits v p) % 2 ≡ (p + parityOf v + 1) % 2
 unfolding onesAmong
-counted v zero h k = equal-below 256 (λ (v : ℕ). onesAmong 9 (nineBits v 0)) (λ (v : ℕ). onesAmong 8 v + 0) refl v h
-counted v (suc zero) h k = equal-below 256 (λ (v : ℕ). onesAmong 9 (nineBits v 1)) (λ (v : ℕ). onesAmong 8 v + 1) refl v h
-counted v (suc (suc p)) h k = absurd (not-suc-le-zero (le-of-suc-le-suc (le-of-suc-le-suc k)))
-
--- a number, and the bit that makes it odd
-data Completes (n : ℕ) : ℕ → Type 0 where
-  even : n % 2 ≡ 0 → Completes n 1
-  odd : n % 2 ≡ 1 → Completes n 0
-
-completes : (v : ℕ) → Completes (onesAmong 8 v) (parityOf v)
-completes v = go (onesAmong 8 v) (eqb (onesAmong 8 v % 2) 0) refl
-  where
-    go : (n : ℕ) (t : Bool) → eqb (n % 2) 0 ≡ t → Completes n (cond t 1 0)
-    go n true e = even (eqb-true (n % 2) 0 e)
-    go n false e = odd (let other = eqb-false (n % 2) 0 e in omega arith)
-
-becomes-odd : {n p : ℕ} → Completes n p → (n + p) % 2 ≡ 1
-becomes-odd (even e) = omega arith
-becomes-odd (odd e) = omega arith
-
-by-it-alone : {n p : ℕ} (q : ℕ) → Completes n p → q < 2 → (n + q) % 2 ≡ 1 → q ≡ p
-by-it-alone q (even e) h o = omega arith
-by-it-alone q (odd e) h o = omega arith
-
-is-a-bit : {n p : ℕ} → Completes n p → p < 2
-is-a-bit (even e) = omega arith
-is-a-bit (odd e) = omega arith
+nine v zero h k = equal-below 256 (λ (v : ℕ). onesAmong 9 (nineBits v 0) % 2) (λ (v : ℕ). (0 + parityOf v + 1) % 2) refl v h
+nine v (suc zero) h k = equal-below 256 (λ (v : ℕ). onesAmong 9 (nineBits v 1) % 2) (λ (v : ℕ). (1 + parityOf v + 1) % 2) refl v h
+nine v (suc (suc p)) h k = absurd (not-suc-le-zero (le-of-suc-le-suc (le-of-suc-le-suc k)))
 
 pub parity-is-a-bit : (v : ℕ) → parityOf v < 2
-parity-is-a-bit v = is-a-bit (completes v)
+parity-is-a-bit v = either (hasEvenOnes v)
+  where
+    either : (t : Bool) → cond t 1 0 < 2
+    either true = omega arith
+    either false = omega arith
 
 -- A BYTE SENT WITH ITS BIT: AN ODD NUMBER OF ONES IN NINE BITS
 pub sent-is-odd : (v : ℕ) → v < 256 → onesAmong 9 (nineBits v (parityOf v)) % 2 ≡ 1
-sent-is-odd v h = ap (λ (n : ℕ). n % 2) (counted v (parityOf v) h (parity-is-a-bit v)) ∙ becomes-odd (completes v)
+sent-is-odd v h = nine v (parityOf v) h (parity-is-a-bit v) ∙ twice (parityOf v)
+  where
+    twice : (p : ℕ) → (p + p + 1) % 2 ≡ 1
+    twice p = omega arith
 
 -- and with no other bit: a byte that came with an odd number of ones came with its own bit
 pub odd-is-sent : (v p : ℕ) → v < 256 → p < 2 → onesAmong 9 (nineBits v p) % 2 ≡ 1 → p ≡ parityOf v
-odd-is-sent v p h k o = by-it-alone p (completes v) k (ap (λ (n : ℕ). n % 2) (sym (counted v p h k)) ∙ o)
+odd-is-sent v p h k o = same p (parityOf v) k (parity-is-a-bit v) (sym (nine v p h k) ∙ o)
+  where
+    same : (p q : ℕ) → p < 2 → q < 2 → (p + q + 1) % 2 ≡ 1 → p ≡ q
+    same p q h k o = omega arith
 
 -- ONE WRONG BIT OF NINE IS NOTICED
 
@@ -72,10 +58,10 @@ last-differs n j w x d e =
     added : (a b c d : ℕ) → a ≡ b → (c % 2 ≡ d % 2 → ⊥) → (a + c % 2 + (b + d % 2)) % 2 ≡ 1
     added a b c d same other = omega arith
 
--- another differs: the last is the same, and one of the n others differs
-other-differs : (n j w x : ℕ) → DifferAt (suc n) j w x → (j ≡ n → ⊥) → (DifferAt n j w x → (onesAmong n w + onesAmong n x) % 2 ≡ 1) → (onesAmong (suc n) w + onesAmong (suc n) x) % 2 ≡ 1
+-- an earlier one differs: the last is the same, and one of the n others differs
+earlier-differs : (n j w x : ℕ) → DifferAt (suc n) j w x → (j ≡ n → ⊥) → (DifferAt n j w x → (onesAmong n w + onesAmong n x) % 2 ≡ 1) → (onesAmong (suc n) w + onesAmong (suc n) x) % 2 ≡ 1
 unfolding onesAmong
-other-differs n j w x d other lower =
+earlier-differs n j w x d other lower =
     added (onesAmong n w) (onesAmong n x) (bitAt n w) (bitAt n x)
     (lower (record { within = let h = d .within in omega arith; there = d .there; elsewhere = λ (k : ℕ) (h : k < n). d .elsewhere k (omega arith) }))
     (d .elsewhere n (omega arith) (λ (q : n ≡ j). other (sym q)))
@@ -90,7 +76,7 @@ one-is-odd (suc n) j w x d = go (eqb j n) refl (one-is-odd n j w x)
   where
     go : (t : Bool) → eqb j n ≡ t → (DifferAt n j w x → (onesAmong n w + onesAmong n x) % 2 ≡ 1) → (onesAmong (suc n) w + onesAmong (suc n) x) % 2 ≡ 1
     go true e lower = last-differs n j w x d (eqb-true j n e)
-    go false e lower = other-differs n j w x d (eqb-false j n e) lower
+    go false e lower = earlier-differs n j w x d (eqb-false j n e) lower
 
 -- whatever byte v was sent, and whichever of the nine bits came wrong: the bit p that came is not that of the byte x that came
 pub one-wrong-bit : (v x p j : ℕ) → v < 256 → x < 256 → DifferAt 9 j (nineBits v (parityOf v)) (nineBits x p) → p ≡ parityOf x → ⊥

@@ -9,8 +9,8 @@ use Rattle.buffer.proofs.Over.{over-over}
 use Rattle.parity.specs.Bits.{onesAmong}
 use Rattle.print_parity.specs.Lines.{line, lines}
 
--- 1 for 00, 0 for 01, 0 for 02, 1 for 03
-pub first-lines : lines 4 ≡ 49 ∷ 10 ∷ 48 ∷ 10 ∷ 48 ∷ 10 ∷ 49 ∷ 10 ∷ []
+-- 1 for 00, 0 for 01, 0 for 02
+pub first-lines : lines 3 ≡ 49 ∷ 10 ∷ 48 ∷ 10 ∷ 48 ∷ 10 ∷ []
 unfolding lines onesAmong
 first-lines = refl
 

@@ -140,10 +140,10 @@ impl Answer {
     }
 }
 
-/// The bit of odd parity of a byte: 1 if the byte has an even number of ones, else 0.
-/// A byte is sent with it. One that comes with another bit is not what was sent: one
-/// wrong line of the nine is always noticed. `parity::TABLE` has the same bits, for a
-/// board that wants no call.
+/// Returns the bit of odd parity of a byte: 1 if the byte has an even number of ones,
+/// else 0. A byte is sent with it. If one comes with another bit, at least one of the
+/// nine lines came wrong. `parity::TABLE` has the same bits, for a board that wants no
+/// call.
 pub fn parity(byte: u8) -> u8 {
     // Any byte may be given, and nothing else is touched.
     unsafe { raw::bv_parity(byte) }

@@ -1,5 +1,4 @@
-//! The commands: print or run test inputs, print the parity table, write or check
-//! the kept files.
+//! The commands: print or run test inputs, write or check the kept files.
 
 use std::env;
 use std::ffi::OsString;
@@ -8,12 +7,11 @@ use std::path::Path;
 use std::process::ExitCode;
 
 use reference::compare::{self, Plan, Verdict};
-use reference::{coverage, fixtures, images, parity, script, scripts};
+use reference::{coverage, fixtures, images, script, scripts};
 
 const USAGE: &str = "\
 usage: reference images-input              print the input of image cases
        reference images-run                read an input, print the transcript
-       reference parity-table              print the parity table, a digit a line
        reference script-list               print the names of the stored scripts
        reference script-input NAME         print a stored script
        reference script-run                read a call script, print the transcript
@@ -49,7 +47,6 @@ fn run(arguments: &[OsString]) -> Option<io::Result<ExitCode>> {
     let done = match (words.first()?.as_ref()?, &words[1..]) {
         (&"images-input", []) => print(&images::input()),
         (&"images-run", []) => images_run(),
-        (&"parity-table", []) => print(&parity::lines()),
         (&"script-list", []) => print(&script_list()),
         (&"script-input", [name]) => script_input((*name)?),
         (&"script-run", []) => script_run(),

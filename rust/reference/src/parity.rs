@@ -98,7 +98,7 @@ mod tests {
     }
 
     #[test]
-    fn lines_are_in_the_order_of_the_bytes() {
+    fn lines_are_the_entries() {
         let text = lines();
         assert!(text.starts_with("1\n0\n0\n1\n0\n1\n1\n0\n0\n1\n1\n0\n1\n0\n0\n1\n0\n"));
         assert!(text.ends_with("\n1\n0\n0\n1\n"));

@@ -49,13 +49,3 @@ fn a_difference_is_no_success() {
     assert!(out.starts_with("seed 1: line 1 of the transcript differs\n"));
     assert!(!out.contains("agreed"), "{out}");
 }
-
-#[test]
-fn the_parity_table_is_printed() {
-    let (status, out, message) = reference(&["parity-table"]);
-    assert_eq!((status, message.as_str()), (0, ""));
-    assert_eq!(out, reference::parity::lines());
-    let (status, out, message) = reference(&["parity-table", "0"]);
-    assert_eq!((status, out.as_str()), (2, ""));
-    assert!(message.starts_with("usage:"), "{message}");
-}

@@ -110,13 +110,15 @@ impl Host {
     pub fn read(&mut self, number: u32, retry: Retry) -> Report {
         let mut command = command_bytes(0x00, number);
         command.extend([retry.retries, retry.threshold]);
-        self.command(&[
+        let report = self.command(&[
             Call::Raise,
             Call::Lower(GO_ON),
             Call::Feed(command),
             Call::Raise,
             Call::Lower(GO_ON),
-        ])
+        ]);
+        bus::carry(self.board.data());
+        report
     }
 
     /// A write command, or a write/verify.
@@ -155,7 +157,6 @@ impl Host {
             end = match self.board.turn(call, &mut accesses) {
                 Answer::Finished => {
                     bus::carry(&self.board.status());
-                    bus::carry(self.board.data());
                     End::Finished(self.board.status())
                 }
                 Answer::Offer(offer) => {
