@@ -251,7 +251,7 @@ struct bv_reply bv_reset(struct bv_drive *drive, uint8_t *buf, size_t len);
  * store with it. Writes nothing into the record. Answers BV_WAIT, or BV_BAD_PLACE with no table. */
 struct bv_reply bv_image(const struct bv_drive *drive, uint8_t *image, size_t len);
 
-/* PARITY ON THE BUS. Takes no record and no buffer, and may be called at any time, beside any other call. */
+/* PARITY ON THE BUS. bv_parity takes no record and no buffer: it may be called at any time, beside any call. */
 
 /* Returns the bit of odd parity of the byte `v`: 1 if `v` has an even number of ones, else 0.
  *
@@ -259,7 +259,7 @@ struct bv_reply bv_image(const struct bv_drive *drive, uint8_t *image, size_t le
  * odd number of ones, whatever the byte is.
  *
  * To test a byte `v` that came with the bit `p`, which is 0 or 1: the nine lines carried an odd number of ones
- * exactly if p == bv_parity(v). If not, at least one of the nine lines came wrong. One wrong line, the parity
+ * exactly when p == bv_parity(v). If not, at least one of the nine lines came wrong. One wrong line, the parity
  * line too, is always noticed; two wrong lines cancel and are not noticed.
  *
  * Bytes and bits are what the lines mean: a line that is active low has the opposite level. A board that wants
