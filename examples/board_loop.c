@@ -254,7 +254,7 @@ static void show(struct bv_reply reply)
         break;
     case BV_OFFER:
         offered = (uint8_t)reply.value;
-        send_all(&offered, 1);
+        send(offered);
         printf(" offer %02x\n", offered);
         break;
     case BV_FINISHED:

@@ -1,10 +1,10 @@
 //! The proved controller for a board: seven calls over a record, and a buffer that
 //! each call is lent; and the parity bit of a byte on the bus.
 //!
-//! `raw` is the library as C sees it, `Drive` and `parity` the safe API over it. The caller
-//! turns what happens on the bus and at the heads into calls and does what each
-//! call answers; `docs/BOARD.md` has the loop. With the feature `compare` there is
-//! also what the programs `fuzz` and `bench` use.
+//! `raw` is the library as C sees it, `Drive` and `parity` the safe API over it. The
+//! caller turns what happens on the bus and at the heads into calls and does what
+//! each call answers; `docs/BOARD.md` has the loop. With the feature `compare` there
+//! is also what the programs `fuzz` and `bench` use.
 
 #![no_std]
 

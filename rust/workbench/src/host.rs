@@ -117,7 +117,9 @@ impl Host {
             Call::Raise,
             Call::Lower(GO_ON),
         ]);
-        bus::carry(self.board.data());
+        if let End::Finished(_) = report.end {
+            bus::carry(self.board.data());
+        }
         report
     }
 
