@@ -71,7 +71,7 @@ static uint8_t write_sector(uint32_t sector, const uint8_t *bytes)
     return answer;
 }
 
-/* Formats the disk: the image of an empty table in its sector. */
+/* Formats the disk: the image of an empty table in its sector, in form A. The first store puts form B there. */
 static void format_disk(void)
 {
     static const uint8_t image[] = "PROFILE      \0\0\0\x03\x90\0\x26\0\x02\x14\x20\0\0\xFF\xFF\xFF\xFF\xFF\xFF";
@@ -270,19 +270,23 @@ static void show(struct bv_reply reply)
     }
 }
 
-/* Prints the spare list as the table's image has it. */
+/* Prints run number and spare list as the table's image of form B has them, each spare with its cause. */
 static void show_spares(void)
 {
+    static const char *const causes[] = {"unknown", "crc", "timeout", "no settle"};
     uint8_t image[BV_SECTOR_BYTES];
     if (bv_image(&drive, image, sizeof image).kind != BV_WAIT)
         abort();
-    printf("spares %u:", image[24]);
-    for (const uint8_t *entry = image + 26; entry < image + 26 + 3 * image[24]; entry += 3) {
+    const uint8_t *run = image + BV_FORM_B_RUN;
+    const uint8_t *end = image + (image[BV_FORM_B_BAD_OFFSET] << 8 | image[BV_FORM_B_BAD_OFFSET + 1]);
+    printf("run %u, spares:", (uint32_t)run[0] << 24 | run[1] << 16 | run[2] << 8 | run[3]);
+    for (const uint8_t *entry = image + BV_FORM_B_SPARES; entry < end; entry += 4) {
         uint32_t block = (uint32_t)entry[0] << 16 | entry[1] << 8 | entry[2];
         if (block == 0xFFFFFE)
             printf(" dead");
         else
             printf(" %u", block);
+        printf(" (%s)", causes[entry[3]]);
     }
     printf("\n");
 }

@@ -1,5 +1,6 @@
 /* The ProFile controller as a library for a board: seven calls over a record and a buffer that the
- * board holds, and the parity bit of a byte on the bus. Link with libbumivondra.a.
+ * board holds, one with no record that turns a table's image into its other form, and the parity bit of a
+ * byte on the bus. Link with libbumivondra.a.
  *
  * WHAT IT NEEDS, and no other function: memcpy, memset.
  *
@@ -7,7 +8,7 @@
  * answers. docs/BOARD.md has the loop, examples/board_loop.c is one. Usable from C11 and from C++11.
  *
  * WHAT IS PROMISED. For every record, every buffer and every argument a call answers as document 01 with
- * requests 1 to 4 of document 02 defines it, changes the record and the buffer as it defines, reads and
+ * requests 1 to 4 and 6 of document 02 defines it, changes the record and the buffer as it defines, reads and
  * writes nothing else, and ends. A refused call writes nothing at all, so that record and buffer may be
  * write-protected during it. No call waits, allocates, or keeps a pointer. For every byte bv_parity returns
  * what request 5 defines.
@@ -15,7 +16,8 @@
  * WHAT THE CALLER OWES, and no call can test:
  *   - `drive` points to a struct bv_drive, of any content, aligned as C aligns it;
  *   - `buf` points to at least `len` bytes that may be written, `bytes` to at least `n` bytes;
- *   - the record, the buffer and the bytes do not overlap;
+ *   - `to` points to at least `to_len` bytes that may be written, `from` to at least `from_len` bytes;
+ *   - the record, the buffer and the bytes do not overlap, nor do `from` and `to`;
  *   - no pointer is null, not even where its count is 0 (pass the buffer's, say; nothing is read);
  *   - one call at a time on one record.
  * For the promise that each good read gives the right bytes it also hands record and buffer on
@@ -100,6 +102,31 @@ enum {
     /* buf[3] is E: how many of a read's R rereads failed. */
 };
 
+/* THE TABLE'S IMAGE has two forms, each of BV_SECTOR_BYTES bytes. bv_start reads either, bv_image writes form B,
+ * and so form B is what is stored; the host that reads BV_NUMBER_TABLE is shown form A, which has no run number
+ * and no causes. */
+
+/* Where an image of form B has its numbers, each with its high byte first. */
+enum {
+    BV_FORM_B_RUN = 4,           /* 4 bytes: the stores that were asked for; stays at 0xFFFFFFFF */
+    BV_FORM_B_SPARE_COUNT = 8,   /* 2 bytes, as the next three have */
+    BV_FORM_B_SPARE_OFFSET = 10, /* 16 */
+    BV_FORM_B_BAD_COUNT = 12,
+    BV_FORM_B_BAD_OFFSET = 14,   /* 16 + 4 * spare count */
+    BV_FORM_B_SPARES = 16,       /* spare entries: 3 bytes block, 0xFFFFFE if dead, and 1 byte cause; then the
+                                    bad entries: 3 bytes block; then zeros */
+    BV_FORM_B_SUM = 530          /* 2 bytes: the sum of all bytes before, modulo 65536 */
+};
+
+/* The cause of a spare entry: for a block the last failure before its spare was tried, for a dead spare the last
+ * failure on it. */
+enum {
+    BV_CAUSE_UNKNOWN = 0,  /* read from form A */
+    BV_CAUSE_CRC = 1,      /* a CRC error, or other bytes than were written */
+    BV_CAUSE_TIMEOUT = 2,
+    BV_CAUSE_NO_SETTLE = 3
+};
+
 /* AT THE HEADS: how an access went, the answer of bv_surface. */
 enum {
     BV_SURFACE_GOOD = 0,     /* a read brings 532 bytes; a write, or the store, is done */
@@ -125,20 +152,24 @@ enum {
     BV_REFUSED = 6   /* the call is refused with code `value`; nothing was written */
 };
 
-/* Why a call is refused. They are tested in this order; of them bv_start knows BV_BAD_BUFFER alone. */
+/* Why a call is refused. They are tested in this order; of them bv_start knows BV_BAD_BUFFER alone, and bv_convert
+ * BV_BAD_BUFFER and the last three, which no other call knows. */
 enum {
     BV_BAD_RECORD = 1, /* the record is none that a call returned */
-    BV_BAD_BUFFER = 2, /* len is not BV_BUFFER_BYTES (bv_image: BV_SECTOR_BYTES) */
+    BV_BAD_BUFFER = 2, /* len is not BV_BUFFER_BYTES (bv_image and both of bv_convert: BV_SECTOR_BYTES) */
     BV_BAD_PLACE = 3,  /* out of place: an answer is awaited, or none is; the line is so already; no bytes
                           are taken now; bv_image with no table */
     BV_BAD_ANSWER = 4, /* bv_surface: an answer above 3, or BV_SURFACE_CRC to a write */
-    BV_BAD_BYTES = 5   /* bv_surface: n is not 532 with a read's answer 0 or 1, or not 0 otherwise */
+    BV_BAD_BYTES = 5,  /* bv_surface: n is not 532 with a read's answer 0 or 1, or not 0 otherwise */
+    BV_BAD_FORM = 6,   /* neither a well-formed image of form A, nor the first four bytes of form B */
+    BV_BAD_SUM = 7,    /* form B: its sum is wrong */
+    BV_BAD_FIELD = 8   /* form B: an offset, count, entry, cause or zero is wrong */
 };
 
 /* THE RECORD. The board keeps it, aligned for uint16_t, and hands it to the calls. All of it is the library's
  * own: what a board may want to see, the functions below say. */
 
-enum { BV_DRIVE_BYTES = 306, BV_DRIVE_ALIGN = 2 };
+enum { BV_DRIVE_BYTES = 376, BV_DRIVE_ALIGN = 2 };
 
 struct bv_drive {
     uint16_t words[BV_DRIVE_BYTES / 2];
@@ -201,28 +232,29 @@ BV_STATIC_ASSERT(offsetof(struct bv_reply, kind) == 0, "bv_reply.kind");
 BV_STATIC_ASSERT(offsetof(struct bv_reply, value) == 4, "bv_reply.value");
 BV_STATIC_ASSERT(sizeof(struct bv_drive) == BV_DRIVE_BYTES, "bv_drive");
 
-/* THE CALLS. In each, `buf` and `len` are the lent buffer. A refused call writes nothing. */
+/* THE CALLS. In each that has them, `buf` and `len` are the lent buffer. A refused call writes nothing. */
 
 /* Power came on, or the drive is to be made anew. Whatever the record held, it is made anew: no table, no
  * latch, nothing under way. The buffer is zeroed. Answers BV_READ of BV_TABLE_SECTOR, or refuses with
- * BV_BAD_BUFFER. bv_surface then answers BV_READ again until a well-formed table came with answer 0, at
- * most ten times in all, and BV_WAIT at the end of the start: idle, with the table or with none. Answer 3
- * ends the start at once and sets no latch. The table's bytes never enter the buffer. */
+ * BV_BAD_BUFFER. bv_surface then answers BV_READ again until a well-formed table of either form came with
+ * answer 0, at most ten times in all, and BV_WAIT at the end of the start: idle, with the table or with none.
+ * Form A has run number 0 and unknown causes. Answer 3 ends the start at once and sets no latch. The table's
+ * bytes never enter the buffer. */
 struct bv_reply bv_start(struct bv_drive *drive, uint8_t *buf, size_t len);
 
 /* The host raised CMD. In idle: BV_STORE if there is a table with unstored changes and no latch (the
- * bv_surface that ends it answers the offer), else BV_OFFER of BV_OFFER_COMMAND. After command bytes: the
- * offer of their opcode, or BV_OFFER_COMMAND with the bytes dropped if they are fewer than 6 for a read
- * or 4 for a write, or the opcode is none. After data bytes: BV_OFFER_ACT, and where fewer than 532 were
- * fed, the rest of the data part is zeroed, whatever number the command has. But for that the buffer stays
- * as it is. Elsewhere BV_BAD_PLACE. */
+ * bv_surface that ends it answers the offer), else BV_OFFER of BV_OFFER_COMMAND. BV_STORE raises the table's
+ * run number by one, however the store ends. After command bytes: the offer of their opcode, or
+ * BV_OFFER_COMMAND with the bytes dropped if they are fewer than 6 for a read or 4 for a write, or the opcode
+ * is none. After data bytes: BV_OFFER_ACT, and where fewer than 532 were fed, the rest of the data part is
+ * zeroed, whatever number the command has. But for that the buffer stays as it is. Elsewhere BV_BAD_PLACE. */
 struct bv_reply bv_raise(struct bv_drive *drive, uint8_t *buf, size_t len);
 
 /* The host lowered CMD with `byte` on the bus, after an offer. With BV_GO_ON: after offer 01, 03 or 04
  * bytes are taken (BV_WAIT); after 02 or 06 the command is acted on, and the answer is its first BV_READ
  * or BV_WRITE, or BV_FINISHED where it is over without an access. Reads of BV_NUMBER_TABLE and BV_NUMBER_HEALTH
- * are so over, and with a table the data part then has the bytes of bv_image, or the health block's, whatever it
- * held. With any other byte the command is broken off: status 80 00 00 00, idle, BV_FINISHED. With no offer
+ * are so over, and with a table the data part then has its image of form A, or the health block's bytes, whatever
+ * it held. With any other byte the command is broken off: status 80 00 00 00, idle, BV_FINISHED. With no offer
  * made BV_BAD_PLACE. */
 struct bv_reply bv_lower(struct bv_drive *drive, uint8_t *buf, size_t len, uint8_t byte);
 
@@ -246,10 +278,16 @@ struct bv_reply bv_surface(struct bv_drive *drive, uint8_t *buf, size_t len, uin
  * access is awaited (let the access end first). */
 struct bv_reply bv_reset(struct bv_drive *drive, uint8_t *buf, size_t len);
 
-/* Writes the table's image into 532 bytes, which are not the buffer of the other calls but its own. In
+/* Writes the table's image of form B into 532 bytes, which are not the buffer of the other calls but its own. In
  * place whenever there is a table, while an access is awaited too, since the board fetches the bytes of a
  * store with it. Writes nothing into the record. Answers BV_WAIT, or BV_BAD_PLACE with no table. */
 struct bv_reply bv_image(const struct bv_drive *drive, uint8_t *image, size_t len);
+
+/* Turns the table's image in `from` into the other form in `to`, and leaves `from`. Takes no record: it may be
+ * called at any time, beside any call. Form B made of form A has run number 0 and unknown causes, and turned
+ * back it is the first image; form A made of form B has neither. Answers BV_WAIT, or refuses with BV_BAD_BUFFER,
+ * BV_BAD_FORM, BV_BAD_SUM or BV_BAD_FIELD. */
+struct bv_reply bv_convert(const uint8_t *from, size_t from_len, uint8_t *to, size_t to_len);
 
 /* PARITY ON THE BUS. bv_parity takes no record and no buffer: it may be called at any time, beside any call. */
 

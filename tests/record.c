@@ -3,8 +3,10 @@
  * Drives in every phase, sound ones and such as differ from them in one word, get calls with arguments of every
  * kind, each first where record and buffer may be written. A refused call is made again with both
  * write-protected: whatever it writes, were it the same bytes, ends the test. A call that is taken must leave
- * what the same call leaves of a record that lies between pages without access. Last, bv_start must write
- * BV_DRIVE_BYTES bytes: all of them, and not one more.
+ * what the same call leaves of a record that lies between pages without access. On the way run number, causes and
+ * remembered failures must stand in their words. Then bv_convert turns images into their other form and refuses
+ * damaged ones, from bytes that are write-protected and, where it refuses, into such bytes too. Last, bv_start
+ * must write BV_DRIVE_BYTES bytes: all of them, and not one more.
  *
  * It prints how often each code was met. */
 #define _DEFAULT_SOURCE
@@ -109,10 +111,14 @@ static const struct call calls[] = {
 
 enum { CALLS = sizeof calls / sizeof calls[0] };
 
+/* WORDS OF THE RECORD that no function of the header shows */
+
+enum { REMEMBERED = 19, RUN = 20, SPARE_COUNT = 22, BAD_COUNT = 23, SPARES = 24, BADS = 56, CAUSES = 156 };
+
 /* THE TRIAL */
 
 static struct fence drives, buffers, far_drives;
-static unsigned long codes[6], taken;
+static unsigned long codes[9], taken;
 
 /* Makes one call on a record and a buffer of these contents. Returns what was replied. */
 static struct bv_reply try_call(const struct bv_drive *drive, const uint8_t *content, const struct call *call)
@@ -160,8 +166,8 @@ static void try_calls(const struct bv_drive *drive, const uint8_t *content)
 /* Tries a record with one word changed, to numbers at and beyond every bound. */
 static void try_damaged(const struct bv_drive *drive, const uint8_t *content)
 {
-    static const uint16_t numbers[] = {0,    1,    2,    3,    6,    7,      10,     11,     32,     33,
-                                       90,   100,  101,  255,  256,  533,    534,    1536,   4928,   9727,
+    static const uint16_t numbers[] = {0,    1,    2,    3,    4,    6,      7,      10,     11,     32,     33,
+                                       63,   90,   100,  101,  255,  256,    533,    534,    1536,   4928,   9727,
                                        9728, 9791, 9792, 0x0501, 0x0B04, 0x640A, 0x650A, 0x8000, 0xFFFE, 0xFFFF};
     for (size_t word = 0; word < BV_DRIVE_BYTES / 2; word++) {
         for (size_t k = 0; k < sizeof numbers / sizeof numbers[0]; k++) {
@@ -186,6 +192,26 @@ static void try_phases(const struct bv_drive *drive, const uint8_t *content)
             for (size_t k = 0; k < CALLS; k++) {
                 struct bv_reply reply = try_call(&damaged, content, &calls[k]);
                 EXPECT(calls[k].kind == START || (reply.kind == BV_REFUSED && reply.value == BV_BAD_RECORD));
+            }
+        }
+    }
+}
+
+/* Tries a record with two spares in use, a cause of one of them or of an unused one changed. Code 1 is for a cause
+ * above 3 of one in use. */
+static void try_causes(const struct bv_drive *drive, const uint8_t *content)
+{
+    static const uint16_t causes[] = {3, 4, 255, 256, 0xFFFF};
+    EXPECT(drive->words[SPARE_COUNT] == 2);
+    for (size_t spare = 0; spare < BV_SPARES; spare++) {
+        for (size_t k = 0; k < sizeof causes / sizeof causes[0]; k++) {
+            struct bv_drive damaged = *drive;
+            int wrong = spare < 2 && causes[k] > 3;
+            damaged.words[CAUSES + spare] = causes[k];
+            for (size_t c = 0; c < CALLS; c++) {
+                struct bv_reply reply = try_call(&damaged, content, &calls[c]);
+                int refused = reply.kind == BV_REFUSED && reply.value == BV_BAD_RECORD;
+                EXPECT(refused == (wrong && calls[c].kind != START));
             }
         }
     }
@@ -242,6 +268,19 @@ static void write_block(uint8_t opcode, uint32_t offer)
     go_on(BV_WRITE);
 }
 
+/* The trial remembers these causes: its own last failure, the last before its spare, the last on the present
+ * sector. */
+static void remembers(unsigned last, unsigned before, unsigned present)
+{
+    EXPECT(drive.words[REMEMBERED] == last + 4 * before + 16 * present);
+}
+
+/* The table has this run number. */
+static void run_is(uint32_t run)
+{
+    EXPECT(drive.words[RUN] + 65536u * drive.words[RUN + 1] == run);
+}
+
 /* The trial of a sector, from its write on, with so many failures. The last reread is answered with `kind`. */
 static void trial(unsigned failures, uint32_t kind)
 {
@@ -255,31 +294,89 @@ static void trial(unsigned failures, uint32_t kind)
         EXPECT(bv_rereads(&drive) == reread);
         EXPECT(bv_failures(&drive) == (reread < failures ? reread : failures));
     }
+    EXPECT(drive.words[REMEMBERED] % 4 == BV_CAUSE_TIMEOUT);
     here(BV_AT_TRIAL_READ);
     surface(BV_SURFACE_GOOD, bytes, S, kind);
     EXPECT(bv_rereads(&drive) == 0 && bv_failures(&drive) == 0);
 }
 
-/* Starts with two spares and a bad block in the table. */
-static void start(void)
+/* Lays out the image of form A of a table with two spares and a bad block. */
+static void lay_form_a(uint8_t *image)
 {
     static const uint8_t fixed[] =
         "PROFILE      \0\0\0\x03\x90\0\x26\0\x02\x14\x20\x02\x01\0\0\x05\xFF\xFF\xFE\xFF\xFF\xFF\0\0\x07\xFF\xFF\xFF";
-    uint8_t image[S] = {0};
+    memset(image, 0, S);
     memcpy(image, fixed, sizeof fixed - 1);
+}
+
+/* Puts the right sum into an image of form B. */
+static void sum_up(uint8_t *image)
+{
+    unsigned sum = 0;
+    for (int k = 0; k < BV_FORM_B_SUM; k++)
+        sum += image[k];
+    image[BV_FORM_B_SUM] = sum >> 8 & 0xFF;
+    image[BV_FORM_B_SUM + 1] = sum & 0xFF;
+}
+
+/* Lays out the image of form B of the same table, after so many stores and with these causes. */
+static void lay_form_b(uint8_t *image, uint32_t run, uint8_t cause, uint8_t other)
+{
+    const uint8_t begin[] = {0xF0, 0x78, 0x3C, 0x1E, run >> 24, run >> 16 & 0xFF, run >> 8 & 0xFF, run & 0xFF,
+                             0, 2, 0, 16, 0, 1, 0, 24, 0, 0, 5, cause, 0xFF, 0xFF, 0xFE, other, 0, 0, 7};
+    memset(image, 0, S);
+    memcpy(image, begin, sizeof begin);
+    sum_up(image);
+}
+
+/* Starts with the table of an image, which has two spares and a bad block. */
+static void start(const uint8_t *image)
+{
     EXPECT(bv_start(&drive, buffer, B).kind == BV_READ);
     here(BV_AT_START);
     EXPECT(!bv_has_table(&drive));
+    for (int word = REMEMBERED; word < BV_DRIVE_BYTES / 2; word++)
+        EXPECT(drive.words[word] == 0);
     surface(BV_SURFACE_GOOD, image, S, BV_WAIT);
     EXPECT(bv_has_table(&drive) && !bv_has_unstored(&drive) && !bv_is_latched(&drive));
+    EXPECT(drive.words[SPARE_COUNT] == 2 && drive.words[SPARES] == 5 && drive.words[SPARES + 1] == 0xFFFE);
+    EXPECT(drive.words[BAD_COUNT] == 1 && drive.words[BADS] == 7);
+}
+
+/* The causes are these two, and of unused spares all 0. */
+static void causes_are(unsigned cause, unsigned other)
+{
+    EXPECT(drive.words[CAUSES] == cause && drive.words[CAUSES + 1] == other);
+    for (int spare = 2; spare < BV_SPARES; spare++)
+        EXPECT(drive.words[CAUSES + spare] == 0);
+}
+
+/* bv_image gives these bytes. */
+static void image_is(const uint8_t *wanted)
+{
+    uint8_t image[S];
+    EXPECT(bv_image(&drive, image, S).kind == BV_WAIT);
+    EXPECT(memcmp(image, wanted, S) == 0);
 }
 
 /* Goes through every phase. */
 static void travel(void)
 {
     static const uint8_t lost[S] = {0};
+    uint8_t image[S];
     here(BV_AT_IDLE); /* never started */
-    start();
+    lay_form_a(image);
+    start(image);
+    run_is(0);
+    causes_are(BV_CAUSE_UNKNOWN, BV_CAUSE_UNKNOWN);
+    lay_form_b(image, 0, BV_CAUSE_UNKNOWN, BV_CAUSE_UNKNOWN);
+    image_is(image);
+    lay_form_b(image, 0x10002, BV_CAUSE_CRC, BV_CAUSE_NO_SETTLE);
+    start(image);
+    run_is(0x10002);
+    causes_are(BV_CAUSE_CRC, BV_CAUSE_NO_SETTLE);
+    image_is(image);
+    try_causes(&drive, buffer);
     here(BV_AT_IDLE);
     up(BV_OFFER_COMMAND);
     here(BV_AT_OFFER);
@@ -309,11 +406,18 @@ static void travel(void)
     here(BV_AT_VERIFY);
     surface(BV_SURFACE_GOOD, lost, S, BV_WRITE);
     here(BV_AT_TRIAL_WRITE);
+    remembers(BV_CAUSE_UNKNOWN, BV_CAUSE_UNKNOWN, BV_CAUSE_UNKNOWN);
     trial(31, BV_WRITE);
     here(BV_AT_TRIAL_WRITE); /* on a spare */
+    remembers(BV_CAUSE_UNKNOWN, BV_CAUSE_TIMEOUT, BV_CAUSE_TIMEOUT);
     trial(30, BV_FINISHED);
+    remembers(0, 0, 0);
+    EXPECT(drive.words[SPARE_COUNT] == 3 && drive.words[SPARES + 2] == 17);
+    EXPECT(drive.words[CAUSES + 2] == BV_CAUSE_TIMEOUT);
     EXPECT(bv_has_unstored(&drive));
+    run_is(0x10002);
     EXPECT(bv_raise(&drive, buffer, B).kind == BV_STORE);
+    run_is(0x10003);
     here(BV_AT_STORE);
     surface(BV_SURFACE_GOOD, lost, 0, BV_OFFER);
     EXPECT(!bv_has_unstored(&drive));
@@ -323,6 +427,112 @@ static void travel(void)
     EXPECT(bv_is_latched(&drive));
     here(BV_AT_IDLE);
     EXPECT(phases == (1u << (BV_AT_TRIAL_READ + 1)) - 1);
+}
+
+/* IMAGES: bv_convert with both buffers at the end of a page, of which each other byte must stay. */
+
+static struct fence froms, tos;
+
+/* Turns `n` bytes into `len` others. Returns what was replied; the others are the last of `tos`. */
+static struct bv_reply convert(const uint8_t *image, size_t n, size_t len)
+{
+    uint8_t *from = froms.bytes + page - n, *to = tos.bytes + page - len;
+    trying = "convert";
+    protect(froms, PROT_READ | PROT_WRITE);
+    memcpy(from, image, n);
+    protect(froms, PROT_READ);
+    memset(tos.bytes, 0xEE, page);
+    struct bv_reply reply = bv_convert(from, n, to, len);
+    size_t kept = reply.kind == BV_REFUSED ? page : page - len;
+    for (size_t k = 0; k < kept; k++)
+        EXPECT(tos.bytes[k] == 0xEE);
+    if (reply.kind != BV_REFUSED) {
+        EXPECT(reply.kind == BV_WAIT && reply.value == 0);
+        taken++;
+        return reply;
+    }
+    EXPECT(reply.value == BV_BAD_BUFFER || (BV_BAD_FORM <= reply.value && reply.value <= BV_BAD_FIELD));
+    codes[reply.value]++;
+    protect(tos, PROT_READ);
+    struct bv_reply again = bv_convert(from, n, to, len);
+    EXPECT(again.kind == reply.kind && again.value == reply.value);
+    protect(tos, PROT_READ | PROT_WRITE);
+    return reply;
+}
+
+/* The image is turned into this one. */
+static void turns_into(const uint8_t *image, const uint8_t *wanted)
+{
+    EXPECT(convert(image, S, S).kind == BV_WAIT);
+    EXPECT(memcmp(tos.bytes + page - S, wanted, S) == 0);
+}
+
+static void refused(const uint8_t *image, size_t n, size_t len, uint32_t code)
+{
+    struct bv_reply reply = convert(image, n, len);
+    EXPECT(reply.kind == BV_REFUSED && reply.value == code);
+}
+
+/* Each byte of form B that has a rule, changed: with the old sum and with the right one. */
+static void refuse_fields(const uint8_t *image)
+{
+    static const struct {
+        uint16_t at;
+        uint8_t byte;
+    } changes[] = {{8, 1},  {9, 33},  {9, 1},  {10, 1},    {11, 17}, {12, 1},   {13, 101}, {13, 0},  {14, 1}, {15, 23},
+                   {16, 1}, {17, 38}, {19, 4}, {20, 0xFE}, {23, 4},  {23, 255}, {24, 0xFF}, {27, 1}, {529, 1}};
+    uint8_t changed[S];
+    for (size_t k = 0; k < sizeof changes / sizeof changes[0]; k++) {
+        memcpy(changed, image, S);
+        changed[changes[k].at] = changes[k].byte;
+        refused(changed, S, S, BV_BAD_SUM);
+        sum_up(changed);
+        refused(changed, S, S, BV_BAD_FIELD);
+    }
+}
+
+/* Each byte of form A that has a rule, and the four first of form B, changed. */
+static void refuse_forms(const uint8_t *a, const uint8_t *b)
+{
+    uint8_t changed[S];
+    for (int k = 0; k < S; k++) {
+        /* In the place of a block's low byte another block may stand. */
+        if (k == 28 || k == 37)
+            continue;
+        memcpy(changed, a, S);
+        changed[k] ^= 0x80;
+        refused(changed, S, S, BV_BAD_FORM);
+    }
+    for (int k = 0; k < 4; k++) {
+        memcpy(changed, b, S);
+        changed[k] ^= 1;
+        refused(changed, S, S, BV_BAD_FORM);
+        sum_up(changed);
+        refused(changed, S, S, BV_BAD_FORM);
+    }
+}
+
+/* Turns images into their other form, and refuses what is none. */
+static void convert_images(void)
+{
+    static const uint8_t zeros[600];
+    uint8_t a[S], b[S], past[S];
+    lay_form_a(a);
+    lay_form_b(b, 0, BV_CAUSE_UNKNOWN, BV_CAUSE_UNKNOWN);
+    lay_form_b(past, 0xFFFFFFFF, BV_CAUSE_NO_SETTLE, BV_CAUSE_TIMEOUT);
+    turns_into(a, b);
+    turns_into(b, a);
+    turns_into(past, a);
+    refused(zeros, S, S, BV_BAD_FORM);
+    refuse_forms(a, past);
+    refuse_fields(past);
+    for (size_t n = 0; n <= sizeof zeros; n += n == 0 || n >= S - 2 ? 1 : 106) {
+        if (n == S)
+            continue;
+        refused(zeros, n, S, BV_BAD_BUFFER);
+        refused(past, S, n, BV_BAD_BUFFER);
+        refused(zeros, n, n, BV_BAD_BUFFER);
+    }
 }
 
 /* bv_start writes every byte of the record, wherever it lies, and none beside it. */
@@ -356,12 +566,17 @@ int main(void)
     buffers = fence(sizeof buffer, 1);
     far_drives = fence(BV_DRIVE_BYTES, 0);
     memset(bytes, 0x5A, sizeof bytes);
+    froms = fence(sizeof buffer, 1);
+    tos = fence(sizeof buffer, 1);
     travel();
+    convert_images();
     start_writes_all();
-    for (int code = 1; code <= 5; code++)
+    printf("refused and written nothing:");
+    for (int code = 1; code <= 8; code++) {
         EXPECT(codes[code] > 0);
-    printf("refused and written nothing: %lu with code 1, %lu with 2, %lu with 3, %lu with 4, %lu with 5; taken: %lu\n",
-           codes[1], codes[2], codes[3], codes[4], codes[5], taken);
+        printf(" %lu with code %d%s", codes[code], code, code < 8 ? "," : "");
+    }
+    printf("; taken: %lu\n", taken);
     printf("bv_start writes each of the %d bytes, and none beside them\n", BV_DRIVE_BYTES);
     return 0;
 }

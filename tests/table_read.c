@@ -1,9 +1,10 @@
-/* Document 02, request 2, through the library: a read of FFFFFF builds the table's image in the data part.
+/* Document 02, requests 2 and 6, through the library: a read of FFFFFF builds the table's image of form A in the
+ * data part.
  *
- * With empty, half-full and full lists, and over other bytes in every place of the part, the part is then
- * what bv_image gives. The call runs on a stack that was painted before, so that afterwards one can see how
- * much of it was written, and that nowhere in it stands a copy of the image. Link with -z now, or the dynamic
- * linker looks for memcpy on that stack.
+ * With empty, half-full and full lists, read from either form, and over other bytes in every place of the part,
+ * the part is then what bv_convert makes of what bv_image gives. The call runs on a stack that was painted before,
+ * so that afterwards one can see how much of it was written, and that nowhere in it stands a copy of the image, in
+ * either form. Link with -z now, or the dynamic linker looks for memcpy on that stack.
  *
  * "table_read SPARES BADS" makes one read of FFFFFF, for a counter of instructions: act() is to be counted. */
 #define _XOPEN_SOURCE 700
@@ -84,7 +85,7 @@ static uint8_t *entry(uint8_t *at, uint32_t number)
     return at;
 }
 
-/* An image with so many entries, every fifth spare a dead one. */
+/* An image of form A with so many entries, every fifth spare a dead one. */
 static void lay_out(uint8_t *image, unsigned spares, unsigned bads)
 {
     static const uint8_t fixed[] = "PROFILE      \0\0\0\x03\x90\0\x26\0\x02\x14\x20";
@@ -99,6 +100,28 @@ static void lay_out(uint8_t *image, unsigned spares, unsigned bads)
     for (unsigned k = 0; k < bads; k++)
         at = entry(at, 40 + 91 * k);
     entry(at, 0xFFFFFF);
+}
+
+/* Turns an image into its other form. */
+static void turn(const uint8_t *image, uint8_t *other)
+{
+    memset(other, 0xEE, BV_SECTOR_BYTES);
+    EXPECT(is(bv_convert(image, BV_SECTOR_BYTES, other, BV_SECTOR_BYTES), BV_WAIT, 0));
+}
+
+/* Turns an image of form A into one of form B with a past: run number 1020304 and causes of all kinds. */
+static void lay_past(const uint8_t *image, unsigned spares, uint8_t *past)
+{
+    unsigned sum = 0;
+    turn(image, past);
+    for (int k = 0; k < 4; k++)
+        past[BV_FORM_B_RUN + k] = k + 1;
+    for (unsigned k = 0; k < spares; k++)
+        past[BV_FORM_B_SPARES + 4 * k + 3] = k % 4;
+    for (int k = 0; k < BV_FORM_B_SUM; k++)
+        sum += past[k];
+    past[BV_FORM_B_SUM] = sum >> 8 & 0xFF;
+    past[BV_FORM_B_SUM + 1] = sum & 0xFF;
 }
 
 /* THE STACK */
@@ -121,9 +144,10 @@ static __attribute__((noinline)) void act(void)
 /* The image by way of an array: what must be noticed. */
 static __attribute__((noinline)) void act_by_copy(void)
 {
-    uint8_t image[BV_SECTOR_BYTES];
+    uint8_t stored[BV_SECTOR_BYTES], image[BV_SECTOR_BYTES];
     frame = __builtin_frame_address(0);
-    reply = bv_image(&drive, image, sizeof image);
+    reply = bv_image(&drive, stored, sizeof stored);
+    turn(stored, image);
     memcpy(buffer + BV_DATA, image, sizeof image);
 }
 
@@ -156,14 +180,28 @@ static int stand(const uint8_t *row, const uint8_t *from)
     return 0;
 }
 
-/* Whether 32 bytes of the image in a row, its zeros left out, stand anywhere in the stack that was written. */
-static int copied(const uint8_t *image, unsigned spares, unsigned bads)
+/* Whether 32 bytes in a row of the first `used` ones of an image, or its first 32, stand anywhere in the stack that
+ * was written. */
+static int copied(const uint8_t *image, unsigned used)
 {
     const uint8_t *low = deepest();
-    for (unsigned k = 0; k <= 3 * spares + 3 * bads; k++)
+    unsigned k = 0;
+    do
         if (stand(image + k, low))
             return 1;
+    while (++k + 32 <= used);
     return 0;
+}
+
+/* How many bytes of an image are in front of its zeros: in form A and in form B. */
+static unsigned used_of_a(unsigned spares, unsigned bads)
+{
+    return 32 + 3 * spares + 3 * bads;
+}
+
+static unsigned used_of_b(unsigned spares, unsigned bads)
+{
+    return BV_FORM_B_SPARES + 4 * spares + 3 * bads;
 }
 
 /* THE TEST */
@@ -179,50 +217,72 @@ static void lay_part(uint8_t *part, int which, const uint8_t *image, const uint8
     }
 }
 
-/* The command is good, the image stands in the data part, and bv_image gives the same. */
-static void expect_image(const uint8_t *image)
+/* The command is good, the image of form A stands in the data part, and bv_image gives the stored one. That is turned
+ * into the image, and the image into one with run number 0 that is turned into the image again. */
+static void expect_image(const uint8_t *image, const uint8_t *stored)
 {
-    uint8_t lent[BV_SECTOR_BYTES];
+    static const uint8_t no_run[4];
+    uint8_t lent[BV_SECTOR_BYTES], other[BV_SECTOR_BYTES];
     EXPECT(is(reply, BV_FINISHED, 0));
     EXPECT(buffer[0] == 0 && buffer[1] == 0 && (buffer[2] & ~BV_S3_FRESH) == 0 && buffer[3] == 0);
     memset(lent, 0xEE, sizeof lent);
     EXPECT(is(bv_image(&drive, lent, sizeof lent), BV_WAIT, 0));
-    EXPECT(memcmp(buffer + BV_DATA, lent, sizeof lent) == 0);
-    EXPECT(memcmp(lent, image, sizeof lent) == 0);
+    EXPECT(memcmp(lent, stored, sizeof lent) == 0);
+    turn(lent, other);
+    EXPECT(memcmp(buffer + BV_DATA, other, sizeof other) == 0);
+    EXPECT(memcmp(other, image, sizeof other) == 0);
+    turn(other, lent);
+    EXPECT(memcmp(lent + BV_FORM_B_RUN, no_run, sizeof no_run) == 0);
+    turn(lent, other);
+    EXPECT(memcmp(other, image, sizeof other) == 0);
 }
 
-/* A drive with lists of these lengths; returns the most stack that a read of FFFFFF wrote to. */
-static size_t try_lists(unsigned spares, unsigned bads)
+/* A drive with lists of these lengths, read from an image of either form; returns the most stack that a read of
+ * FFFFFF wrote to. The table in form A is `image`, and `stored` in form B. */
+static size_t try_start(const uint8_t *read, const uint8_t *image, const uint8_t *stored, unsigned spares,
+                        unsigned bads)
 {
-    uint8_t image[BV_SECTOR_BYTES], other[BV_SECTOR_BYTES], part[BV_SECTOR_BYTES];
+    uint8_t other[BV_SECTOR_BYTES], part[BV_SECTOR_BYTES];
     size_t most = 0;
-    lay_out(image, spares, bads);
     lay_out(other, spares == BV_SPARES ? 0 : BV_SPARES, bads == BV_BADS ? 0 : BV_BADS);
-    start(image);
+    start(read);
     for (int which = 0; which < PARTS; which++) {
         lay_part(part, which, image, other);
         fill(part);
         command(BV_OP_READ, BV_NUMBER_TABLE, BV_OFFER_READ);
         on_painted_stack(act);
-        EXPECT(!copied(image, spares, bads));
+        EXPECT(!copied(image, used_of_a(spares, bads)) && !copied(stored, used_of_b(spares, bads)));
         if (most < (size_t)(frame - deepest()))
             most = frame - deepest();
-        expect_image(image);
+        expect_image(image, stored);
     }
     on_painted_stack(act_by_copy);
-    EXPECT(copied(image, spares, bads));
+    EXPECT(copied(image, used_of_a(spares, bads)) && copied(stored, used_of_b(spares, bads)));
     return most;
+}
+
+/* Drives with lists of these lengths, read from form A and from form B. */
+static size_t try_lists(unsigned spares, unsigned bads)
+{
+    uint8_t image[BV_SECTOR_BYTES], plain[BV_SECTOR_BYTES], past[BV_SECTOR_BYTES];
+    lay_out(image, spares, bads);
+    turn(image, plain);
+    lay_past(image, spares, past);
+    size_t most = try_start(image, image, plain, spares, bads);
+    size_t other = try_start(past, image, past, spares, bads);
+    return most < other ? other : most;
 }
 
 /* One read of FFFFFF, over zeros. */
 static void read_once(unsigned spares, unsigned bads)
 {
-    uint8_t image[BV_SECTOR_BYTES];
+    uint8_t image[BV_SECTOR_BYTES], stored[BV_SECTOR_BYTES];
     lay_out(image, spares, bads);
+    turn(image, stored);
     start(image);
     command(BV_OP_READ, BV_NUMBER_TABLE, BV_OFFER_READ);
     act();
-    expect_image(image);
+    expect_image(image, stored);
 }
 
 int main(int argc, char **argv)
@@ -237,7 +297,8 @@ int main(int argc, char **argv)
     for (size_t k = 0; k < sizeof lists / sizeof lists[0]; k++) {
         unsigned spares = lists[k][0], bads = lists[k][1];
         size_t most = try_lists(spares, bads);
-        printf("lists of %u and %u: the image over %d other parts, %zu bytes of stack written, no copy in them\n",
+        printf("lists of %u and %u, from either form: the image over %d other parts, %zu bytes of stack written, no "
+               "copy in them\n",
                spares, bads, PARTS, most);
     }
     return 0;

@@ -6,7 +6,9 @@ use Prim.Native.Nat.{ℕ}
 use lib.Dec.{leb}
 use Rattle.logic.proofs.Bools.{and-right}
 use Rattle.image.specs.declared.Found.{Found}
-use Rattle.image.specs.Images.{wellFormed, isTable, readOf}
+use Rattle.image.specs.Images.{wellFormed, isTable, tableOf, runOf, readOf}
+use Rattle.image.specs.declared.Found.the-variants as found
+use Rattle.image.proofs.RoundTrip.{found-exactly}
 use Rattle.drive.specs.declared.Access.{Access}
 use Rattle.drive.specs.declared.Access.the-variants as access
 use Rattle.drive.specs.declared.State.{State}
@@ -33,17 +35,19 @@ reading-ok n known x h r e = and-right known (retryOk r) (ap (accessOk n known) 
 pub reread-ok : (n : ℕ) (known : Bool) (x : Access) → accessOk n known x ≡ true → (r : Trial) → x ≡ access.TrialRead r → trialOk n r ≡ true
 reread-ok n known x h r e = and-right known (trialOk n r) (ap (accessOk n known) (sym e) ∙ h)
 
--- The reader finds a table exactly in a well-formed image.
-found-formed : (i : List ℕ) → isTable (readOf i .found) ≡ wellFormed i
-unfolding readOf
-found-formed i = go (wellFormed i) refl
-  where
-    go : (b : Bool) → wellFormed i ≡ b → isTable (readOf i .found) ≡ wellFormed i
-    go true e = rw e
-    go false e = rw e
-
+-- The reader finds a table exactly in a well-formed image, and with it the run number.
 pub is-formed : (i : List ℕ) (x y : Found) → x ≡ readOf i .found → x ≡ y → wellFormed i ≡ isTable y
-is-formed i x y e f = sym (found-formed i) ∙ ap isTable (sym e ∙ f)
+is-formed i x y e f = sym (found-exactly i) ∙ ap isTable (sym e ∙ f)
+
+abbrev runFound : Found → ℕ
+runFound (found.Lists n m run) = run
+runFound (found.Malformed x) = 0
+
+pub found-run : (i : List ℕ) (x : Found) (n m run : ℕ) → wellFormed i ≡ true → x ≡ readOf i .found → x ≡ found.Lists n m run → runOf i ≡ run
+unfolding readOf
+found-run i x n m run h e f =
+    let r : readOf i .found ≡ found.Lists (tableOf i .nspares) (tableOf i .nbads) (runOf i) = rw h in
+    ap runFound (sym r ∙ sym e ∙ f)
 
 -- The outcome of a read needs the bad list alone.
 pub read-bads : (o : Outcome) (l : State) (s b : List ℕ) (n m : ℕ) (p : Part) → reads o l (lent [] 0 b m) p ≡ reads o l (lent s n b m) p

@@ -13,6 +13,7 @@ ghost use Rattle.drive.specs.Access.{written, writeAnswered, verifyAnswered, fo
 ghost use Rattle.records.specs.Turns.{lent};
 use drive::Access;
 use drive::Answer;
+use drive::Cause;
 use drive::Change;
 use drive::Ending;
 use drive::Leaves;
@@ -84,9 +85,9 @@ fn bytes_fit(read: bool, a: u8, n: usize) -> bool
     if read & (a <= 1) { n == 532 } else { n == 0 }
 }
 
-// Ends the start with the table that was read.
-fn with_table(l: State) -> Turn
-    ensures { λ x. ⌜ x ≡ withTable l ⌝ }
+// Ends the start with the table that was read, and its run number.
+fn with_table(l: State, run: u32) -> Turn
+    ensures { λ x. ⌜ x ≡ withTable l run ⌝ }
 {
     let m = l.marks;
     let known = Marks {
@@ -96,7 +97,7 @@ fn with_table(l: State) -> Turn
         fresh: m.fresh,
     };
     Turn {
-        state: records::with_marks(l, known, Phase::Idle),
+        state: records::with_marks(records::with_run(l, run), known, Phase::Idle),
         answer: Answer::Wait,
         change: Change::Load,
         leaves: Leaves {
@@ -139,10 +140,10 @@ fn start(k: u8, l: State, a: u8, bytes: &[u8]) -> Turn
     }
     let read = image::read_image(bytes);
     let found = read.found;
-    let Found::Lists(_, _) = found else {
+    let Found::Lists(_, _, run) = found else {
         return count_try(k, l);
     };
-    with_table(l)
+    with_table(l, run)
 }
 
 // Offers 01 after the store. Answered 0, the table has no changes to store any more.
@@ -186,7 +187,8 @@ fn write(l: State, n: usize, w: Target, a: u8) -> Turn
     if a == 3 {
         return records::finish(l, Change::Keep, Ending::Latched, s, Part::Kept);
     }
-    sparing::next_spare(n, l, Change::Keep, b, records::met(a, s))
+    let t = Cause::Timeout;
+    sparing::next_spare(n, l, Change::Keep, b, records::met(a, s), t, t)
 }
 
 // Returns what answer a to its verify leads to. equal: it is 0, with the bytes of the data part.

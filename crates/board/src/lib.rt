@@ -111,7 +111,7 @@ pub fn reset(drive: &mut Drive, buf: &mut [u8]) -> Answer
     step.answer
 }
 
-// Builds the table's image in the 532 bytes lent. The record stays as it is.
+// Builds the table's image, form B, in the 532 bytes lent. The record stays as it is.
 pub fn image(drive: &mut Drive, buf: &mut [u8]) -> Answer
     ensures { λ r. ⌜ Leaves (imageOutOf (now (drive .entry)) (now (buf .entry))) r (now (drive .exit)) (now (buf .exit)) ⌝ }
 {

@@ -1,2 +1,3 @@
 pub mod Over
 pub mod Compare
+pub mod Sums

@@ -20,3 +20,8 @@ same (x ∷ xs) (y ∷ ys) = eqb x y && same xs ys
 unfoldable pub allAre : ℕ → List ℕ → Bool
 allAre v [] = true
 allAre v (x ∷ xs) = eqb x v && allAre v xs
+
+-- Returns the sum of the bytes.
+unfoldable pub sum : List ℕ → ℕ
+sum [] = 0
+sum (x ∷ xs) = x + sum xs

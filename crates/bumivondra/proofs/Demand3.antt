@@ -2,6 +2,7 @@
 use mathlib.Core.Path.{_≡_, refl, sym, ap, subst, _∙_}
 use mathlib.Core.Bool.{Bool, true, false, cond}
 use mathlib.Core.List.{List, [], _∷_}
+use native.Mathlib.Omega.{arith}
 use Prim.Native.Nat.{ℕ}
 use borrow.Author.Tests.{eq-eqb}
 use lib.Dec.{eqb}
@@ -45,6 +46,9 @@ answer-back (answer.Refused refusal.Buffer) = refl
 answer-back (answer.Refused refusal.Place) = refl
 answer-back (answer.Refused refusal.Answer) = refl
 answer-back (answer.Refused refusal.Bytes) = refl
+answer-back (answer.Refused refusal.Form) = refl
+answer-back (answer.Refused refusal.Sum) = refl
+answer-back (answer.Refused refusal.Field) = refl
 
 -- Says what holds of a record between two calls.
 record Sound (d : Drive) : Type 0 where
@@ -116,7 +120,7 @@ unfolding startOf
 demand-3-calls old lent h sectors es y =
     let q = eq-eqb (length lent) 536 h in
     let w : World = record { drive = call.started; buffer = replicate 536 0; sectors = sectors; asked = answer.Read tableSector } in
-    let s : Sound call.started = record { typed = fine-typed call.started started-fine; valid = started-valid } in
+    let s : Sound call.started = record { typed = fine-typed call.started started-fine (omega arith); valid = started-valid } in
     let b : started old lent sectors ≡ packs w = rw q in
     let c : begins (startOf (unpackOf old) lent) sectors ≡ w = rw q in
     rw b

@@ -27,7 +27,12 @@ abbrev pub offerOf : ℕ → Offer
 offerOf n = cond (eqb n 0x01) offer.Command (cond (eqb n 0x02) offer.Read (cond (eqb n 0x03) offer.Write (cond (eqb n 0x04) offer.Verify offer.Act)))
 
 abbrev pub refusalOf : ℕ → Refusal
-refusalOf n = cond (eqb n 1) refusal.Record (cond (eqb n 2) refusal.Buffer (cond (eqb n 3) refusal.Place (cond (eqb n 4) refusal.Answer refusal.Bytes)))
+refusalOf n =
+    cond (eqb n 1) refusal.Record
+    (cond (eqb n 2) refusal.Buffer
+    (cond (eqb n 3) refusal.Place
+    (cond (eqb n 4) refusal.Answer
+    (cond (eqb n 5) refusal.Bytes (cond (eqb n 6) refusal.Form (cond (eqb n 7) refusal.Sum refusal.Field))))))
 
 abbrev pub answerOf : Reply → Answer
 answerOf r =

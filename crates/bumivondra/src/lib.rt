@@ -1,9 +1,9 @@
-// Exports the seven calls over a record's words, which are lent, and the parity of a byte, to callers in C and Rust.
+// Exports the seven calls over a record's words, which are lent, convert, and the parity of a byte, to callers in C and Rust.
 // include/bumivondra.h says the same in C, with what a caller owes. specs/ says demand 3 of every list of these calls.
 ghost use mathlib.Core.Path.{_≡_};
 ghost use Rattle.drive.specs.Calls as call;
 ghost use Rattle.parity.specs.Bits.{parityOf};
-ghost use Rattle.crossing.specs.Crossing.{shown, callShown, answerShown, startShown, imageShown};
+ghost use Rattle.crossing.specs.Crossing.{shown, callShown, answerShown, startShown, imageShown, told, convertShown};
 use crossing::Reply;
 use packed::Words;
 
@@ -59,6 +59,13 @@ pub extern "C" fn bv_image(drive: &Words, buf: &mut [u8]) -> Reply
     ensures { λ r. ⌜ shown r (now (drive .entry)) (now (buf .exit)) ≡ imageShown (now (drive .entry)) (now (buf .entry)) ⌝ }
 {
     crossing::image(drive, buf)
+}
+
+#[no_mangle]
+pub extern "C" fn bv_convert(from: &[u8], to: &mut [u8]) -> Reply
+    ensures { λ r. ⌜ told r (now (to .exit)) ≡ convertShown (now (from .entry)) (now (to .entry)) ⌝ }
+{
+    crossing::convert(from, to)
 }
 
 #[no_mangle]

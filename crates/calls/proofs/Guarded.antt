@@ -7,9 +7,7 @@ use borrow.Author.Tests.{leb-true, eqb-true}
 use lib.Dec.{eqb, leb}
 use lib.ListN.{length}
 use Rattle.logic.proofs.Bools.{clash, and-left, and-right}
-use Rattle.table.specs.Tables.{tableOk}
 use Rattle.table.proofs.Keeps.{passes}
-use Rattle.image.specs.Images.{tableImage}
 use Rattle.drive.specs.declared.Answer.the-variants as answer
 use Rattle.drive.specs.declared.Change.the-variants as change
 use Rattle.drive.specs.declared.Drive.{Drive}
@@ -17,11 +15,12 @@ use Rattle.drive.specs.declared.Refusal.{Refusal}
 use Rattle.drive.specs.declared.Refusal.the-variants as refusal
 use Rattle.drive.specs.declared.Turn.{Turn}
 use Rattle.drive.specs.Records.{phaseOk, stateOk, recordOk}
-use Rattle.drive.specs.Results.{changed, refuse, partLeft, statusLeft, leave, guarded}
+use Rattle.drive.specs.Results.{storedImage, refuse, partLeft, statusLeft, leave, guarded}
 use Rattle.drive.specs.Calls.{called, imageSays, imageOutOf}
+use Rattle.records.proofs.Passed.{passed}
 use Rattle.calls.specs.declared.Verdict.{Verdict}
 use Rattle.calls.specs.declared.Verdict.the-variants as verdict
-use Rattle.calls.specs.Gives.{guardOf, Returns, handed}
+use Rattle.calls.specs.Gives.{guardOf, Returns, notesOf, alteredOf, handed}
 
 -- Says what passed codes 1 and 2 has: the k bytes lent are n, and the counts of the record are within their bounds.
 pub record Sound (d : Drive) (k n : ℕ) : Type 0 where
@@ -32,16 +31,17 @@ pub record Sound (d : Drive) (k n : ℕ) : Type 0 where
   pub fed : d .state .fed ≤ 533
   pub state : stateOk (d .table .nspares) (d .state) ≡ true
 
-sound-so : (d : Drive) (k n : ℕ) → recordOk d ≡ true → eqb k n ≡ true → Sound d k n
-unfolding recordOk stateOk
-sound-so d k n h e =
+sound-so : (d : Drive) (m n : ℕ) → recordOk d ≡ true → eqb m n ≡ true → Sound d m n
+unfolding stateOk
+sound-so d m n h e =
     let l = d .state in
     let s = d .table .nspares in
-    let o = and-right (tableOk (d .table)) (stateOk s l) h in
-    let p = passes (d .table) (and-left (tableOk (d .table)) (stateOk s l) h) in
+    let k = passed d h in
+    let o = k .state in
+    let p = passes (d .table) (k .table) in
     let c = and-left (leb (l .count) 6 && leb (l .fed) 533) (phaseOk s (l .marks .known) (l .phase)) o in
     record {
-      long = eqb-true k n e;
+      long = eqb-true m n e;
       spares = p .few-spares;
       bads = p .few-bads;
       count = leb-true (l .count) 6 (and-left (leb (l .count) 6) (leb (l .fed) 533) c);
@@ -84,24 +84,24 @@ module _ (d : Drive) (u : List ℕ) {g : Verdict} (e : g ≡ guardOf (recordOk d
 
     -- The table is changed as the turn says, and a refusal says nothing.
     module _ {r : Refusal} {y : Turn} (f : g ≡ verdict.Refuses r) (k : y ≡ refuse r (d .state)) where
-      pub refused : Returns (called d u bs x) (handed (d .table) y) u
+      pub refused : Returns (called d u bs x) (handed (notesOf d) y) u
       unfolding partLeft statusLeft
       refused = let z = turned (verdict.Refuses r) f in (rw (z, k), rw z)
 
-      pub surface-refused : Returns (called d u bs x) (handed (changed (y .change) (d .table) bs) y) u
+      pub surface-refused : Returns (called d u bs x) (handed (alteredOf (y .change) (notesOf d) bs) y) u
       surface-refused = rw k (rw k at refused)
 
     module _ {y : Turn} {v : List ℕ} (f : g ≡ verdict.Passes) (k : y ≡ x) (w : v ≡ leave (y .leaves) (d .table) bs u) where
-      pub surface-given : Returns (called d u bs x) (handed (changed (y .change) (d .table) bs) y) v
+      pub surface-given : Returns (called d u bs x) (handed (alteredOf (y .change) (notesOf d) bs) y) v
       surface-given = let z = turned verdict.Passes f in (rw (z, k), rw (z, ← k) w)
 
-      pub given : x .change ≡ change.Keep → Returns (called d u bs x) (handed (d .table) y) v
+      pub given : x .change ≡ change.Keep → Returns (called d u bs x) (handed (notesOf d) y) v
       given h = let e : y .change ≡ change.Keep = rw k h in rw e at surface-given
 
 -- A call for the image.
 module _ (d : Drive) (u : List ℕ) {g : Verdict} (e : g ≡ guardOf (recordOk d) (eqb (length u) 532)) where
   imaged : (v : Verdict) → g ≡ v
-      → imageOutOf d u ≡ choose v (λ (r : Refusal). imageSays d (answer.Refused r) u) (cond (d .state .marks .known) (imageSays d answer.Wait (tableImage (d .table))) (imageSays d (answer.Refused refusal.Place) u))
+      → imageOutOf d u ≡ choose v (λ (r : Refusal). imageSays d (answer.Refused r) u) (cond (d .state .marks .known) (imageSays d answer.Wait (storedImage d)) (imageSays d (answer.Refused refusal.Place) u))
   unfolding imageOutOf
   imaged v k = by-verdict d (length u) 532 e v (λ (r : Refusal). imageSays d (answer.Refused r) u) _ k
 
@@ -112,5 +112,5 @@ module _ (d : Drive) (u : List ℕ) {g : Verdict} (e : g ≡ guardOf (recordOk d
     pub image-no-table : d .state .marks .known ≡ false → imageOutOf d u ≡ imageSays d (answer.Refused refusal.Place) u
     image-no-table k = imaged verdict.Passes f ∙ rw k
 
-    pub image-given : d .state .marks .known ≡ true → imageOutOf d u ≡ imageSays d answer.Wait (tableImage (d .table))
+    pub image-given : d .state .marks .known ≡ true → imageOutOf d u ≡ imageSays d answer.Wait (storedImage d)
     image-given k = imaged verdict.Passes f ∙ rw k

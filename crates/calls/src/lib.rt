@@ -1,4 +1,4 @@
-// The seven calls of document 01. Each refuses with codes 1 and 2, lets its rule decide, and leaves the
+// The seven calls of document 01, and convert of document 02, request 6. Each of the seven refuses with codes 1 and 2, lets its rule decide, and leaves the
 // buffer as the turn says. Over lent lists: whoever holds a record, in whatever form, calls these. Over
 // the whole record: the methods of Controller.
 ghost use mathlib.Core.Path.{_≡_};
@@ -9,9 +9,10 @@ ghost use Rattle.drive.specs.Words.{dataOf};
 ghost use Rattle.drive.specs.Records.{recordOk};
 ghost use Rattle.drive.specs.Access.{verifies};
 ghost use Rattle.drive.specs.Calls as call;
+ghost use Rattle.drive.specs.Calls.{refusalFor, convertOf};
 ghost use Rattle.drive.specs.Calls.{started, startOf, raiseOf, lowerOf, feedOf, surfaceOf, resetOf, imageOutOf};
 ghost use Rattle.records.specs.Turns.{lent};
-ghost use Rattle.calls.specs.Gives.{guardOf, Returns, recordOf, handed, Gives, Answers};
+ghost use Rattle.calls.specs.Gives.{guardOf, Returns, recordOf, handed, Gives, Answers, Converts};
 use drive::Access;
 use drive::Answer;
 use drive::Drive;
@@ -21,7 +22,10 @@ use drive::Refusal;
 use drive::State;
 use drive::Step;
 use drive::Turn;
+use image::Fault;
+use image::Found;
 use table::Table;
+use tables::Noted;
 
 pub mod tables;
 
@@ -37,12 +41,15 @@ fn guard<'a>(
     n: usize,
     bads: &'a [u16],
     m: usize,
+    causes: &'a [u16],
     l: State,
     fits: bool,
 ) -> Verdict
-    ensures { λ r. ⌜ r ≡ guardOf (recordOk (recordOf (lent (now (spares .entry)) n (now (bads .entry)) m) l)) fits ⌝ }
+    ensures { λ r. ⌜ r ≡ guardOf (recordOk (recordOf (lent (now (spares .entry)) n (now (bads .entry)) m) (now (causes .entry)) l)) fits ⌝ }
 {
-    if !(table::lists_ok(spares, n, bads, m) & records::state_ok(n, l)) {
+    if !(table::lists_ok(spares, n, bads, m)
+        & table::causes_ok(causes, n)
+        & records::state_ok(n, l)) {
         return Verdict::Refuses(Refusal::Record);
     }
     if !fits {
@@ -57,12 +64,13 @@ pub fn raise<'a>(
     n: usize,
     bads: &'a [u16],
     m: usize,
+    causes: &'a [u16],
     l: State,
     buf: &mut [u8],
 ) -> Turn
-    ensures { λ x. ⌜ Gives call.raise (lent (now (spares .entry)) n (now (bads .entry)) m) l (now (buf .entry)) x (now (buf .exit)) ⌝ }
+    ensures { λ x. ⌜ Gives call.raise (lent (now (spares .entry)) n (now (bads .entry)) m) (now (causes .entry)) l (now (buf .entry)) x (now (buf .exit)) ⌝ }
 {
-    let g = guard(spares, n, bads, m, l, buf.len() == 536);
+    let g = guard(spares, n, bads, m, causes, l, buf.len() == 536);
     match g {
         Verdict::Refuses(r) => records::refuse(l, r),
         Verdict::Passes => {
@@ -80,13 +88,14 @@ pub fn lower<'a>(
     n: usize,
     bads: &'a [u16],
     m: usize,
+    causes: &'a [u16],
     l: State,
     buf: &mut [u8],
     b: u8,
 ) -> Turn
-    ensures { λ x. ⌜ Gives (call.lower b) (lent (now (spares .entry)) n (now (bads .entry)) m) l (now (buf .entry)) x (now (buf .exit)) ⌝ }
+    ensures { λ x. ⌜ Gives (call.lower b) (lent (now (spares .entry)) n (now (bads .entry)) m) (now (causes .entry)) l (now (buf .entry)) x (now (buf .exit)) ⌝ }
 {
-    let g = guard(spares, n, bads, m, l, buf.len() == 536);
+    let g = guard(spares, n, bads, m, causes, l, buf.len() == 536);
     match g {
         Verdict::Refuses(r) => records::refuse(l, r),
         Verdict::Passes => {
@@ -104,13 +113,14 @@ pub fn feed<'a>(
     n: usize,
     bads: &'a [u16],
     m: usize,
+    causes: &'a [u16],
     l: State,
     buf: &mut [u8],
     bytes: &[u8],
 ) -> Turn
-    ensures { λ x. ⌜ Gives (call.feed (now (bytes .entry))) (lent (now (spares .entry)) n (now (bads .entry)) m) l (now (buf .entry)) x (now (buf .exit)) ⌝ }
+    ensures { λ x. ⌜ Gives (call.feed (now (bytes .entry))) (lent (now (spares .entry)) n (now (bads .entry)) m) (now (causes .entry)) l (now (buf .entry)) x (now (buf .exit)) ⌝ }
 {
-    let g = guard(spares, n, bads, m, l, buf.len() == 536);
+    let g = guard(spares, n, bads, m, causes, l, buf.len() == 536);
     match g {
         Verdict::Refuses(r) => records::refuse(l, r),
         Verdict::Passes => {
@@ -139,14 +149,15 @@ pub fn surface<'a>(
     n: usize,
     bads: &'a [u16],
     m: usize,
+    causes: &'a [u16],
     l: State,
     buf: &mut [u8],
     a: u8,
     bytes: &[u8],
 ) -> Turn
-    ensures { λ x. ⌜ Answers a (now (bytes .entry)) (lent (now (spares .entry)) n (now (bads .entry)) m) l (now (buf .entry)) x (now (buf .exit)) ⌝ }
+    ensures { λ x. ⌜ Answers a (now (bytes .entry)) (lent (now (spares .entry)) n (now (bads .entry)) m) (now (causes .entry)) l (now (buf .entry)) x (now (buf .exit)) ⌝ }
 {
-    let g = guard(spares, n, bads, m, l, buf.len() == 536);
+    let g = guard(spares, n, bads, m, causes, l, buf.len() == 536);
     match g {
         Verdict::Refuses(r) => records::refuse(l, r),
         Verdict::Passes => {
@@ -166,12 +177,13 @@ pub fn reset<'a>(
     n: usize,
     bads: &'a [u16],
     m: usize,
+    causes: &'a [u16],
     l: State,
     buf: &mut [u8],
 ) -> Turn
-    ensures { λ x. ⌜ Gives call.reset (lent (now (spares .entry)) n (now (bads .entry)) m) l (now (buf .entry)) x (now (buf .exit)) ⌝ }
+    ensures { λ x. ⌜ Gives call.reset (lent (now (spares .entry)) n (now (bads .entry)) m) (now (causes .entry)) l (now (buf .entry)) x (now (buf .exit)) ⌝ }
 {
-    let g = guard(spares, n, bads, m, l, buf.len() == 536);
+    let g = guard(spares, n, bads, m, causes, l, buf.len() == 536);
     match g {
         Verdict::Refuses(r) => records::refuse(l, r),
         Verdict::Passes => handshake::reset(l),
@@ -195,22 +207,40 @@ fn started() -> Drive
         command: [0; 6],
         count: 0,
         fed: 0,
+        run: 0,
     };
-    Drive { table: t, state: l }
+    Drive {
+        table: t,
+        causes: [0; 32],
+        state: l,
+    }
 }
 
-// Hands a turn back with the table that comes after it.
-fn hand_back(t: Table, x: Turn) -> Step
-    ensures { λ r. ⌜ r ≡ handed t x ⌝ }
+// Hands a turn back with the table and the causes that come after it.
+fn hand_back(k: Noted, x: Turn) -> Step
+    ensures { λ r. ⌜ r ≡ handed k x ⌝ }
 {
+    let t = k.table;
+    let causes = k.causes;
     let next = x.state;
     let answer = x.answer;
     Step {
         drive: Drive {
             table: t,
+            causes: causes,
             state: next,
         },
         answer: answer,
+    }
+}
+
+// Returns a table with its causes.
+fn noted(t: Table, causes: [u16; 32]) -> Noted
+    ensures { λ r. ⌜ r ≡ record { table = t; causes = causes } ⌝ }
+{
+    Noted {
+        table: t,
+        causes: causes,
     }
 }
 
@@ -221,6 +251,42 @@ fn say(d: Drive, a: Answer) -> Step
     Step {
         drive: d,
         answer: a,
+    }
+}
+
+// Returns the refusal of bytes that are no image.
+fn refusal_for(x: Fault) -> Refusal
+    ensures { λ r. ⌜ r ≡ refusalFor x ⌝ }
+{
+    match x {
+        Fault::Form => Refusal::Form,
+        Fault::Sum => Refusal::Sum,
+        Fault::Field => Refusal::Field,
+    }
+}
+
+// Turns an image of either form into the other, in a second lent buffer.
+pub fn convert(from: &[u8], to: &mut [u8]) -> Answer
+    ensures { λ a. ⌜ Converts (convertOf (now (from .entry)) (now (to .entry))) a (now (to .exit)) ⌝ }
+{
+    if from.len() != 532 {
+        return Answer::Refused(Refusal::Buffer);
+    }
+    if to.len() != 532 {
+        return Answer::Refused(Refusal::Buffer);
+    }
+    let read = image::read_image(from);
+    let found = read.found;
+    match found {
+        Found::Malformed(x) => Answer::Refused(refusal_for(x)),
+        Found::Lists(n, m, _) => {
+            if image::is_form_b(from) {
+                leaving::write_table(&read.spares, n, &read.bads, m, to);
+            } else {
+                leaving::write_stored(0, &read.spares, n, &read.bads, m, &read.causes, to);
+            }
+            Answer::Wait
+        }
     }
 }
 
@@ -247,9 +313,10 @@ impl Controller {
     {
         let d = self.0;
         let t = d.table;
+        let cs = d.causes;
         let l = d.state;
-        let x = raise(&t.spares, t.nspares, &t.bads, t.nbads, l, buf);
-        hand_back(t, x)
+        let x = raise(&t.spares, t.nspares, &t.bads, t.nbads, &cs, l, buf);
+        hand_back(noted(t, cs), x)
     }
 
     // Lowers the CMD line with byte b.
@@ -258,9 +325,10 @@ impl Controller {
     {
         let d = self.0;
         let t = d.table;
+        let cs = d.causes;
         let l = d.state;
-        let x = lower(&t.spares, t.nspares, &t.bads, t.nbads, l, buf, b);
-        hand_back(t, x)
+        let x = lower(&t.spares, t.nspares, &t.bads, t.nbads, &cs, l, buf, b);
+        hand_back(noted(t, cs), x)
     }
 
     // Feeds bytes.
@@ -269,9 +337,10 @@ impl Controller {
     {
         let d = self.0;
         let t = d.table;
+        let cs = d.causes;
         let l = d.state;
-        let x = feed(&t.spares, t.nspares, &t.bads, t.nbads, l, buf, bytes);
-        hand_back(t, x)
+        let x = feed(&t.spares, t.nspares, &t.bads, t.nbads, &cs, l, buf, bytes);
+        hand_back(noted(t, cs), x)
     }
 
     // Takes the surface's answer and the bytes that came with it.
@@ -280,10 +349,21 @@ impl Controller {
     {
         let d = self.0;
         let t = d.table;
+        let cs = d.causes;
         let l = d.state;
-        let x = surface(&t.spares, t.nspares, &t.bads, t.nbads, l, buf, a, bytes);
+        let x = surface(
+            &t.spares,
+            t.nspares,
+            &t.bads,
+            t.nbads,
+            &cs,
+            l,
+            buf,
+            a,
+            bytes,
+        );
         let change = x.change;
-        hand_back(tables::alter(t, change, bytes), x)
+        hand_back(tables::alter(noted(t, cs), change, bytes), x)
     }
 
     // Resets the drive.
@@ -292,19 +372,29 @@ impl Controller {
     {
         let d = self.0;
         let t = d.table;
+        let cs = d.causes;
         let l = d.state;
-        let x = reset(&t.spares, t.nspares, &t.bads, t.nbads, l, buf);
-        hand_back(t, x)
+        let x = reset(&t.spares, t.nspares, &t.bads, t.nbads, &cs, l, buf);
+        hand_back(noted(t, cs), x)
     }
 
-    // Builds the table's image in the 532 bytes lent.
+    // Builds the table's image, form B, in the 532 bytes lent.
     pub fn image(self, buf: &mut [u8]) -> Step
         ensures { λ x. ⌜ Returns (imageOutOf (self .0) (now (buf .entry))) x (now (buf .exit)) ⌝ }
     {
         let d = self.0;
         let t = d.table;
+        let cs = d.causes;
         let l = d.state;
-        let g = guard(&t.spares, t.nspares, &t.bads, t.nbads, l, buf.len() == 532);
+        let g = guard(
+            &t.spares,
+            t.nspares,
+            &t.bads,
+            t.nbads,
+            &cs,
+            l,
+            buf.len() == 532,
+        );
         let m = l.marks;
         match g {
             Verdict::Refuses(r) => say(d, Answer::Refused(r)),
@@ -312,7 +402,7 @@ impl Controller {
                 if !m.known {
                     return say(d, Answer::Refused(Refusal::Place));
                 }
-                leaving::write_table(&t.spares, t.nspares, &t.bads, t.nbads, buf);
+                leaving::write_stored(l.run, &t.spares, t.nspares, &t.bads, t.nbads, &cs, buf);
                 say(d, Answer::Wait)
             }
         }

@@ -14,19 +14,20 @@ use Rattle.drive.specs.declared.Answer.the-variants as answer
 use Rattle.drive.specs.Views.{ofAnswer}
 use Rattle.drive.specs.Results.{Out}
 use Rattle.records.specs.Turns.{lent}
-use Rattle.calls.specs.Gives.{recordOf, Returns}
-use Rattle.packed.specs.Packing.{packState, packTable, packOf, sparesAt, badsAt, tableAt, stateAt}
+use Rattle.calls.specs.declared.tables.Noted.{Noted}
+use Rattle.calls.specs.Gives.{recordOf, notesOf, Returns}
+use Rattle.packed.specs.Packing.{packState, packOf, unpackOf, sparesAt, badsAt, causesAt, tableAt, stateAt}
 use Rattle.packed.proofs.Round.{table-words}
 use Rattle.crossing.specs.declared.Reply.{Reply}
-use Rattle.crossing.specs.Crossing.{replyOf, shown, kept, crossed}
+use Rattle.crossing.specs.Crossing.{replyOf, shown, kept, crossed, noteWords}
 
--- THE LISTS AND THE STATE THAT ARE LENT TO A CALL are those of the words.
-module _ (w : List ℕ) {s b : List ℕ} {n m : ℕ} {l : State} where
+-- THE LISTS, THE CAUSES AND THE STATE THAT ARE LENT TO A CALL are those of the words.
+module _ (w : List ℕ) {s b k : List ℕ} {n m : ℕ} {l : State} where
   pub of-words :
-      (P : Table → State → Type 0) → s ≡ sparesAt w → n ≡ getD w 19 0 → b ≡ badsAt w → m ≡ getD w 20 0 → l ≡ stateAt w → P (lent s n b m) l → P (tableAt w) (stateAt w)
+      (P : Table → List ℕ → State → Type 0) → s ≡ sparesAt w → n ≡ getD w 22 0 → b ≡ badsAt w → m ≡ getD w 23 0 → k ≡ causesAt w → l ≡ stateAt w
+      → P (lent s n b m) k l → P (tableAt w) (causesAt w) (stateAt w)
   unfolding tableAt
-  of-words P es en eb em el p =
-      subst (λ (t : Table). P t (stateAt w)) (λ i. lent (es i) (en i) (eb i) (em i)) (subst (λ (l : State). P (lent s n b m) l) el p)
+  of-words P es en eb em ek el p = subst (λ (x : Table × (List ℕ × State)). P (x .0) (x .1 .0) (x .1 .1)) (λ i. (lent (es i) (en i) (eb i) (em i), (ek i, el i))) p
 
 -- THE REPLY: its kind is 6 exactly for a refusal.
 refused-kind : (a : Answer) → eqb (replyOf a .kind) 6 ≡ ofAnswer a .refused
@@ -58,23 +59,26 @@ pub shows : (w v u : List ℕ) (x : Out) (s : Step) (r : Reply) → Returns x s 
 shows w v u x s r g e k = (λ i. shown (e i) (k i) (g .1 i)) ∙ ap (λ (s : Step). shown (replyOf (s .answer)) (kept (s .answer) w (packOf (s .drive))) (x .bytes)) (g .0)
 
 -- THE WORDS
-module _ (w : List ℕ) (h : length w ≡ 153) (a : getD w 19 0 ≤ 65535) (b : getD w 20 0 ≤ 65535) where
-  -- A state written into the words is packed beside their table,
-  pub state-packed : (l : State) → packState l ++ drop 19 w ≡ packOf (recordOf (tableAt w) l)
+module _ (w : List ℕ) (h : length w ≡ 188) (a : getD w 22 0 ≤ 65535) (b : getD w 23 0 ≤ 65535) where
+  -- A state written into the words is packed beside their table and its causes,
+  pub state-packed : (l : State) → packState l ++ drop 22 w ≡ packOf (recordOf (tableAt w) (causesAt w) l)
   unfolding packOf
   state-packed l = ap (λ (r : List ℕ). packState l ++ r) (sym (table-words w h a b))
 
-  -- and a table that is packed again changes nothing.
-  pub table-kept : w ≡ take 19 w ++ packTable (tableAt w)
-  table-kept = sym (ap (λ (r : List ℕ). take 19 w ++ r) (table-words w h a b) ∙ take-append-drop 19 w)
+  -- and a table that is packed again with its causes changes nothing.
+  pub table-kept : w ≡ take 22 w ++ noteWords (notesOf (unpackOf w))
+  table-kept = sym (ap (λ (r : List ℕ). take 22 w ++ r) (table-words w h a b) ∙ take-append-drop 22 w)
 
--- A state that is written leaves the table,
-pub table-stays : (w : List ℕ) (l : State) → tableAt (packState l ++ drop 19 w) ≡ tableAt w
+-- A state that is written leaves the table and its causes,
+pub table-stays : (w : List ℕ) (l : State) → notesOf (unpackOf (packState l ++ drop 22 w)) ≡ notesOf (unpackOf w)
 unfolding tableAt packState
 table-stays w l =
-    λ i. record { spares = take 32 (drop-drop 2 19 w i); bads = take 100 (drop-drop 34 19 w i); nspares = getD-drop 19 w 0 0 i; nbads = getD-drop 19 w 1 0 i }
+    λ i. record {
+      table = record { spares = take 32 (drop-drop 2 22 w i); bads = take 100 (drop-drop 34 22 w i); nspares = getD-drop 22 w 0 0 i; nbads = getD-drop 22 w 1 0 i };
+      causes = take 32 (drop-drop 134 22 w i);
+    }
 
--- and a table beside it makes the whole record.
-pub both-packed : (r : List ℕ) (l : State) (t : Table) → take 19 (packState l ++ r) ++ packTable t ≡ packOf (recordOf t l)
+-- and a table with its causes beside it makes the whole record.
+pub both-packed : (r : List ℕ) (l : State) (k : Noted) → take 22 (packState l ++ r) ++ noteWords k ≡ packOf (recordOf (k .table) (k .causes) l)
 unfolding packOf packState
-both-packed r l t = refl
+both-packed r l k = refl

@@ -1,18 +1,18 @@
 -- The calls as C sees them: over a record's words, with the answer as two numbers.
 use mathlib.Core.Bool.{Bool, true, false, cond}
 use mathlib.Core.Path.{_≡_}
-use mathlib.Core.List.{List}
+use mathlib.Core.List.{List, _++_}
 use Prim.Native.Nat.{ℕ}
-use Rattle.table.specs.declared.Table.{Table}
 use Rattle.drive.specs.declared.Turn.{Turn}
 use Rattle.drive.specs.declared.Answer.{Answer}
 use Rattle.drive.specs.declared.Answer.the-variants as answer
 use Rattle.drive.specs.Words.{response, codeOf}
 use Rattle.drive.specs.Results.{Out}
-use Rattle.drive.specs.Calls.{Call, surface, stepOf, startOf, imageOutOf}
+use Rattle.drive.specs.Calls.{Call, surface, stepOf, startOf, imageOutOf, convertOf}
 use Rattle.drive.specs.Views.{ofAnswer}
-use Rattle.packed.specs.Packing.{packOf, unpackOf}
-use Rattle.calls.specs.Gives.{recordOf}
+use Rattle.packed.specs.Packing.{packTable, packOf, unpackOf}
+use Rattle.calls.specs.declared.tables.Noted.{Noted}
+use Rattle.calls.specs.Gives.{handed}
 use Rattle.crossing.specs.declared.Reply.{Reply}
 
 abbrev pub reply : ℕ → ℕ → Reply
@@ -61,6 +61,22 @@ startShown w u = crossed w (startOf (unpackOf w) u)
 abbrev pub imageShown : List ℕ → List ℕ → Shown
 imageShown w u = shown (replyOf (imageOutOf (unpackOf w) u .step .answer)) w (imageOutOf (unpackOf w) u .bytes)
 
--- Says that r and v are the reply and the words after the turn x on the words w, with the table t after it.
-abbrev pub Keeps : Table → Turn → List ℕ → Reply → List ℕ → Type 0
-Keeps t x w r v = (r ≡ replyOf (x .answer)) × (v ≡ kept (x .answer) w (packOf (recordOf t (x .state))))
+-- Holds what C is shown of convert: the reply and the second buffer's bytes. It has no record.
+pub record Told : Type 0 where
+  pub reply : Reply
+  pub bytes : List ℕ
+
+abbrev pub told : Reply → List ℕ → Told
+told r u = record { reply = r; bytes = u }
+
+-- Returns what C is shown of convert.
+abbrev pub convertShown : List ℕ → List ℕ → Told
+convertShown from to = told (replyOf (convertOf from to .answer)) (convertOf from to .bytes)
+
+-- Returns the words of a table and its causes.
+abbrev pub noteWords : Noted → List ℕ
+noteWords k = packTable (k .table) ++ k .causes
+
+-- Says that r and v are the reply and the words after the turn x on the words w, with the table and the causes k after it.
+abbrev pub Keeps : Noted → Turn → List ℕ → Reply → List ℕ → Type 0
+Keeps k x w r v = (r ≡ replyOf (x .answer)) × (v ≡ kept (x .answer) w (packOf (handed k x .drive)))

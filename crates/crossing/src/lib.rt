@@ -1,15 +1,15 @@
 // The calls over a record's words, which are lent: unpacked, called, and what comes of it written back. A
-// refused call writes nothing.
+// refused call writes nothing. Convert has no record.
 ghost use mathlib.Core.Path.{_≡_};
 ghost use mathlib.Core.List.{_++_};
 ghost use lib.ListN.{length, take};
 ghost use Rattle.drive.specs.Words.{codeOf};
-ghost use Rattle.drive.specs.Results.{changed};
 ghost use Rattle.drive.specs.Calls as call;
-ghost use Rattle.calls.specs.Gives.{Gives, Formed, Answers};
-ghost use Rattle.packed.specs.Packing.{packTable, stateAt, tableAt, unpackOf};
-ghost use Rattle.crossing.specs.Crossing.{reply, replyOf, Keeps, shown, startShown, imageShown};
+ghost use Rattle.calls.specs.Gives.{Gives, Formed, Answers, notesOf, alteredOf};
+ghost use Rattle.packed.specs.Packing.{stateAt, tableAt, causesAt, unpackOf};
+ghost use Rattle.crossing.specs.Crossing.{reply, replyOf, noteWords, Keeps, shown, startShown, imageShown, told, convertShown};
 use calls::Controller;
+use calls::tables::Noted;
 use drive::Answer;
 use drive::Change;
 use drive::Drive;
@@ -34,6 +34,9 @@ fn code_of(r: Refusal) -> u32
         Refusal::Place => 3,
         Refusal::Answer => 4,
         Refusal::Bytes => 5,
+        Refusal::Form => 6,
+        Refusal::Sum => 7,
+        Refusal::Field => 8,
     }
 }
 
@@ -65,63 +68,107 @@ pub fn reply_of(a: Answer) -> Reply
 
 // Raises the CMD line.
 pub fn raise(w: &[u16], buf: &mut [u8]) -> Turn
-    requires { ⌜ length (now w) ≡ 153 ⌝ }
-    ensures { λ x. ⌜ Gives call.raise (tableAt (now (w .entry))) (stateAt (now (w .entry))) (now (buf .entry)) x (now (buf .exit)) ⌝ }
+    requires { ⌜ length (now w) ≡ 188 ⌝ }
+    ensures { λ x. ⌜ Gives call.raise (tableAt (now (w .entry))) (causesAt (now (w .entry))) (stateAt (now (w .entry))) (now (buf .entry)) x (now (buf .exit)) ⌝ }
 {
-    let n = packed::number(w[19]);
-    let m = packed::number(w[20]);
+    let n = packed::number(w[22]);
+    let m = packed::number(w[23]);
     let l = packed::state_at(w);
-    calls::raise(packed::spares(w), n, packed::bads(w), m, l, buf)
+    calls::raise(
+        packed::spares(w),
+        n,
+        packed::bads(w),
+        m,
+        packed::causes(w),
+        l,
+        buf,
+    )
 }
 
 // Lowers the CMD line with byte b.
 pub fn lower(w: &[u16], buf: &mut [u8], b: u8) -> Turn
-    requires { ⌜ length (now w) ≡ 153 ⌝ }
-    ensures { λ x. ⌜ Gives (call.lower b) (tableAt (now (w .entry))) (stateAt (now (w .entry))) (now (buf .entry)) x (now (buf .exit)) ⌝ }
+    requires { ⌜ length (now w) ≡ 188 ⌝ }
+    ensures { λ x. ⌜ Gives (call.lower b) (tableAt (now (w .entry))) (causesAt (now (w .entry))) (stateAt (now (w .entry))) (now (buf .entry)) x (now (buf .exit)) ⌝ }
 {
-    let n = packed::number(w[19]);
-    let m = packed::number(w[20]);
+    let n = packed::number(w[22]);
+    let m = packed::number(w[23]);
     let l = packed::state_at(w);
-    calls::lower(packed::spares(w), n, packed::bads(w), m, l, buf, b)
+    calls::lower(
+        packed::spares(w),
+        n,
+        packed::bads(w),
+        m,
+        packed::causes(w),
+        l,
+        buf,
+        b,
+    )
 }
 
 // Feeds bytes.
 pub fn feed(w: &[u16], buf: &mut [u8], bytes: &[u8]) -> Turn
-    requires { ⌜ length (now w) ≡ 153 ⌝ }
-    ensures { λ x. ⌜ Gives (call.feed (now (bytes .entry))) (tableAt (now (w .entry))) (stateAt (now (w .entry))) (now (buf .entry)) x (now (buf .exit)) ⌝ }
+    requires { ⌜ length (now w) ≡ 188 ⌝ }
+    ensures { λ x. ⌜ Gives (call.feed (now (bytes .entry))) (tableAt (now (w .entry))) (causesAt (now (w .entry))) (stateAt (now (w .entry))) (now (buf .entry)) x (now (buf .exit)) ⌝ }
 {
-    let n = packed::number(w[19]);
-    let m = packed::number(w[20]);
+    let n = packed::number(w[22]);
+    let m = packed::number(w[23]);
     let l = packed::state_at(w);
-    calls::feed(packed::spares(w), n, packed::bads(w), m, l, buf, bytes)
+    calls::feed(
+        packed::spares(w),
+        n,
+        packed::bads(w),
+        m,
+        packed::causes(w),
+        l,
+        buf,
+        bytes,
+    )
 }
 
 // Takes the surface's answer and the bytes that came with it.
 pub fn surface(w: &[u16], buf: &mut [u8], a: u8, bytes: &[u8]) -> Turn
-    requires { ⌜ length (now w) ≡ 153 ⌝ }
-    ensures { λ x. ⌜ Answers a (now (bytes .entry)) (tableAt (now (w .entry))) (stateAt (now (w .entry))) (now (buf .entry)) x (now (buf .exit)) ⌝ }
+    requires { ⌜ length (now w) ≡ 188 ⌝ }
+    ensures { λ x. ⌜ Answers a (now (bytes .entry)) (tableAt (now (w .entry))) (causesAt (now (w .entry))) (stateAt (now (w .entry))) (now (buf .entry)) x (now (buf .exit)) ⌝ }
 {
-    let n = packed::number(w[19]);
-    let m = packed::number(w[20]);
+    let n = packed::number(w[22]);
+    let m = packed::number(w[23]);
     let l = packed::state_at(w);
-    calls::surface(packed::spares(w), n, packed::bads(w), m, l, buf, a, bytes)
+    calls::surface(
+        packed::spares(w),
+        n,
+        packed::bads(w),
+        m,
+        packed::causes(w),
+        l,
+        buf,
+        a,
+        bytes,
+    )
 }
 
 // Resets the drive.
 pub fn reset(w: &[u16], buf: &mut [u8]) -> Turn
-    requires { ⌜ length (now w) ≡ 153 ⌝ }
-    ensures { λ x. ⌜ Gives call.reset (tableAt (now (w .entry))) (stateAt (now (w .entry))) (now (buf .entry)) x (now (buf .exit)) ⌝ }
+    requires { ⌜ length (now w) ≡ 188 ⌝ }
+    ensures { λ x. ⌜ Gives call.reset (tableAt (now (w .entry))) (causesAt (now (w .entry))) (stateAt (now (w .entry))) (now (buf .entry)) x (now (buf .exit)) ⌝ }
 {
-    let n = packed::number(w[19]);
-    let m = packed::number(w[20]);
+    let n = packed::number(w[22]);
+    let m = packed::number(w[23]);
     let l = packed::state_at(w);
-    calls::reset(packed::spares(w), n, packed::bads(w), m, l, buf)
+    calls::reset(
+        packed::spares(w),
+        n,
+        packed::bads(w),
+        m,
+        packed::causes(w),
+        l,
+        buf,
+    )
 }
 
 // Writes the state of a turn, unless it refuses, and returns its reply.
 pub fn keep(w: &mut [u16], x: Turn) -> Reply
-    requires { ⌜ length (now w) ≡ 153 ⌝ }
-    ensures { λ r. ⌜ Keeps (tableAt (now (w .entry))) x (now (w .entry)) r (now (w .exit)) ⌝ }
+    requires { ⌜ length (now w) ≡ 188 ⌝ }
+    ensures { λ r. ⌜ Keeps (notesOf (unpackOf (now (w .entry)))) x (now (w .entry)) r (now (w .exit)) ⌝ }
 {
     let a = x.answer;
     let r = reply_of(a);
@@ -133,24 +180,30 @@ pub fn keep(w: &mut [u16], x: Turn) -> Reply
     r
 }
 
-// Writes what a change makes of the table.
+// Writes what a change makes of the table and its causes.
 fn alter(w: &mut [u16], c: Change, bytes: &[u8])
-    requires { ⌜ (length (now w) ≡ 153) × Formed (now bytes) c ⌝ }
-    ensures { λ r. ⌜ now (w .exit) ≡ take 19 (now (w .entry)) ++ packTable (changed c (tableAt (now (w .entry))) (now (bytes .entry))) ⌝ }
+    requires { ⌜ (length (now w) ≡ 188) × Formed (now bytes) c ⌝ }
+    ensures { λ r. ⌜ now (w .exit) ≡ take 22 (now (w .entry)) ++ noteWords (alteredOf c (notesOf (unpackOf (now (w .entry)))) (now (bytes .entry))) ⌝ }
 {
     match c {
         Change::Keep => {}
         _ => {
-            let t = packed::table_at(w);
-            packed::put_table(w, calls::tables::alter(t, c, bytes));
+            let k = Noted {
+                table: packed::table_at(w),
+                causes: packed::causes_at(w),
+            };
+            let r = calls::tables::alter(k, c, bytes);
+            let t = r.table;
+            let causes = r.causes;
+            packed::put_table(w, t, causes);
         }
     }
 }
 
-// Writes the state and the table of a turn, unless it refuses, and returns its reply.
+// Writes the state, the table and the causes of a turn, unless it refuses, and returns its reply.
 pub fn settle(w: &mut [u16], x: Turn, bytes: &[u8]) -> Reply
-    requires { ⌜ (length (now w) ≡ 153) × Formed (now bytes) (x .change) ⌝ }
-    ensures { λ r. ⌜ Keeps (changed (x .change) (tableAt (now (w .entry))) (now (bytes .entry))) x (now (w .entry)) r (now (w .exit)) ⌝ }
+    requires { ⌜ (length (now w) ≡ 188) × Formed (now bytes) (x .change) ⌝ }
+    ensures { λ r. ⌜ Keeps (alteredOf (x .change) (notesOf (unpackOf (now (w .entry)))) (now (bytes .entry))) x (now (w .entry)) r (now (w .exit)) ⌝ }
 {
     let r = keep(w, x);
     if r.kind == 6 {
@@ -163,17 +216,22 @@ pub fn settle(w: &mut [u16], x: Turn, bytes: &[u8]) -> Reply
 
 // Returns the record of the words.
 fn record_at(w: &[u16]) -> Controller
-    requires { ⌜ length (now w) ≡ 153 ⌝ }
+    requires { ⌜ length (now w) ≡ 188 ⌝ }
     ensures { λ r. ⌜ r .0 ≡ unpackOf (now (w .entry)) ⌝ }
 {
     let t = packed::table_at(w);
+    let causes = packed::causes_at(w);
     let l = packed::state_at(w);
-    Controller(Drive { table: t, state: l })
+    Controller(Drive {
+        table: t,
+        causes: causes,
+        state: l,
+    })
 }
 
 // Starts the drive: zeroes the buffer, writes a new record and returns the reply, unless it refuses.
 pub fn start(w: &mut [u16], buf: &mut [u8]) -> Reply
-    requires { ⌜ length (now w) ≡ 153 ⌝ }
+    requires { ⌜ length (now w) ≡ 188 ⌝ }
     ensures { λ r. ⌜ shown r (now (w .exit)) (now (buf .exit)) ≡ startShown (now (w .entry)) (now (buf .entry)) ⌝ }
 {
     let step = record_at(w).start(buf);
@@ -184,18 +242,27 @@ pub fn start(w: &mut [u16], buf: &mut [u8]) -> Reply
     }
     let d = step.drive;
     let t = d.table;
+    let causes = d.causes;
     let l = d.state;
     packed::put_state(w, l);
-    packed::put_table(w, t);
+    packed::put_table(w, t, causes);
     r
 }
 
-// Builds the table's image in the 532 bytes lent.
+// Builds the table's image, form B, in the 532 bytes lent.
 pub fn image(w: &[u16], buf: &mut [u8]) -> Reply
-    requires { ⌜ length (now w) ≡ 153 ⌝ }
+    requires { ⌜ length (now w) ≡ 188 ⌝ }
     ensures { λ r. ⌜ shown r (now (w .entry)) (now (buf .exit)) ≡ imageShown (now (w .entry)) (now (buf .entry)) ⌝ }
 {
     let step = record_at(w).image(buf);
     let a = step.answer;
+    reply_of(a)
+}
+
+// Turns an image of either form into the other, in a second lent buffer.
+pub fn convert(from: &[u8], to: &mut [u8]) -> Reply
+    ensures { λ r. ⌜ told r (now (to .exit)) ≡ convertShown (now (from .entry)) (now (to .entry)) ⌝ }
+{
+    let a = calls::convert(from, to);
     reply_of(a)
 }

@@ -37,20 +37,20 @@ use Rattle.demands.proofs.Sim.{Ln, W, Hs, Blocky, placeOf, Books, Quiet
 use Rattle.demands.proofs.Books.{books-weaken}
 use Rattle.demands.proofs.Entries.{fits-silent, fits-failed, fits-first, entry-none, ground-failed, ground-none}
 
-module _ (start σ : Sectors) (t : Table) (mk : Marks) (pl : Block → Where) (ca : Block → List Bytes) (u c : Bytes) (n f : ℕ) (q : Offer) (h fd : Bytes) (to' wr : Bool) (lr : Where)
+module _ (start σ : Sectors) (t : Table) (cs : Bytes) (mk : Marks) (pl : Block → Where) (ca : Block → List Bytes) (u c : Bytes) (n f rn : ℕ) (q : Offer) (h fd : Bytes) (to' wr : Bool) (lr : Where)
     (lc : length c ≡ 6) (gr : Ground (mk .known) t σ pl ca) (go : (eqb (response q) 0x02 || eqb (response q) 0x06) ≡ true) (cm : Cmd c h)
     (dw : isRead (kindOf c) ≡ false → dataOf u ≡ padded fd) (sp : Bool) where
   abbrev H₀ : History
   H₀ = Hs pl ca (answer.Offer q) h fd false to' wr lr
 
   abbrev l₀ : State
-  l₀ = Ln (phase.Offered q) mk c n f
+  l₀ = Ln (phase.Offered q) mk c n f rn
 
   abbrev G₀ : Turn → Type 0
-  G₀ x = Good start (W t l₀ u σ (answer.Offer q)) H₀ (ev (lower 0x55) sp) (outOf t [] u x)
+  G₀ x = Good start (W t cs l₀ u σ (answer.Offer q)) H₀ (ev (lower 0x55) sp) (outOf t cs [] u x)
 
   abbrev o₀ : Turn → Entry
-  o₀ x = entryOf (ev (lower 0x55) sp) (outOf t [] u x)
+  o₀ x = entryOf (ev (lower 0x55) sp) (outOf t cs [] u x)
 
   -- It may end at once, failed,
   end-failed : (e : Ending) → fails e ≡ true → isMove e ≡ false → G₀ (ends l₀ e part.Kept)

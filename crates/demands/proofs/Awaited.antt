@@ -49,11 +49,11 @@ pub record Accepted (d : Drive) (u : List ℕ) (a : ℕ) (bs : List ℕ) : Type 
   pub long : eqb (length u) 536 ≡ true
   pub answer : answerFits (asksRead access) a ≡ true
   pub bytes : bytesFit (asksRead access) a (length bs) ≡ true
-  pub gives : surfaceOf d u a bs ≡ outOf (d .table) bs u (followed access d u a bs)
+  pub gives : surfaceOf d u a bs ≡ outOf (d .table) (d .causes) bs u (followed access d u a bs)
 
 module _ (d : Drive) (u : List ℕ) (a : ℕ) (bs : List ℕ) where
   abbrev If : Turn → Type 0
-  If y = surfaceOf d u a bs ≡ outOf (d .table) bs u y → ofAnswer (y .answer) .refused ≡ false → Accepted d u a bs
+  If y = surfaceOf d u a bs ≡ outOf (d .table) (d .causes) bs u y → ofAnswer (y .answer) .refused ≡ false → Accepted d u a bs
 
   by-phase : recordOk d ≡ true → eqb (length u) 536 ≡ true → (p : Phase) → d .state .phase ≡ p → If (answered p (d .state) (d .table) a bs (verifies p a && same bs (dataOf u)))
   unfolding answered

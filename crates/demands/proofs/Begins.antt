@@ -10,6 +10,7 @@ use lib.ListN.{length, replicate}
 use Rattle.logic.proofs.Bools.{and-left, and-right}
 use Rattle.geometry.specs.declared.Block.{Block}
 use Rattle.table.specs.declared.Table.{Table}
+use Rattle.drive.specs.declared.Cause.{Cause}
 use Rattle.drive.specs.declared.Access.{Access}
 use Rattle.drive.specs.declared.Access.the-variants as access
 use Rattle.drive.specs.declared.Change.{Change}
@@ -62,11 +63,11 @@ Leaves x = fresh (x .state .phase) ≡ true
 
 -- WHAT EACH RULE LEAVES
 module _ (l : State) (t : Table) where
-  nexts : (n : ℕ) (c : Change) (b : Block) (s : Seen) → NextSpare Leaves n l c b s
+  nexts : (n : ℕ) (c : Change) (b : Block) (s : Seen) {x y : Cause} → NextSpare Leaves n l c b s x y
   nexts n c b s = record { spare = λ e. refl; no-spare = λ e. refl }
 
-  misses : (r : Trial) (s : Seen) → Missed Leaves l t r s
-  misses r s = record { dead = λ e. nexts (t .nspares + 1) change.Kill (r .block) s; left = λ e. nexts (t .nspares) change.Keep (r .block) s }
+  misses : (r : Trial) (s : Seen) {x : Cause} → Missed Leaves l t r s x
+  misses r s = record { dead = λ e. nexts (t .nspares + 1) _ (r .block) s; left = λ e. nexts (t .nspares) change.Keep (r .block) s }
 
   stops : (r : Trial) → Stopped Leaves l r
   stops r = record { dead = λ e. refl; present = λ e. refl }

@@ -14,7 +14,9 @@ use Rattle.logic.proofs.Bools.{clash}
 use Rattle.table.specs.declared.Table.{Table}
 use Rattle.table.specs.Tables.{tableOk, killedNext, listed, withBad, withoutBad}
 use Rattle.table.proofs.Lists.{entered-spares, entered-shaped, removed-spares, removed-shaped}
-use Rattle.image.specs.Images.{tableImage}
+use Rattle.image.specs.FormB.{imageB}
+use Rattle.drive.specs.declared.Cause.{Cause}
+use Rattle.drive.specs.declared.Cause.the-variants as cause
 use Rattle.drive.specs.declared.State.{State}
 use Rattle.drive.specs.declared.Marks.{Marks}
 use Rattle.drive.specs.declared.Seen.{Seen}
@@ -72,6 +74,8 @@ pub record Job (asked : Answer) : Type 0 where
   pub command : Bytes
   pub count : ℕ
   pub fed : ℕ
+  pub run : ℕ
+  pub causes : Bytes
   pub phase : Phase
   pub buffer : Bytes
   pub place : Block → Where
@@ -95,22 +99,22 @@ pub record Job (asked : Answer) : Type 0 where
   pub sized : length buffer ≡ 536
 
 module _ {A : Answer} (j : Job A) where
-  open Job j using (start, sectors as σ, table as t, marks as mk, command as c, count as n, fed as f, phase as p, buffer as u, place as pl, candidates as ca, heard as h, given as fd, wrote as wr, lastRead as lr, block as b, reads as rd, number as a, bytes as bs, spoils as sp, full as lc, known as kn, blocky as i, numbered as num, kind as isr, elsewhere as nl, valid as tk)
+  open Job j using (start, sectors as σ, table as t, marks as mk, command as c, count as n, fed as f, run as rn, causes as cs, phase as p, buffer as u, place as pl, candidates as ca, heard as h, given as fd, wrote as wr, lastRead as lr, block as b, reads as rd, number as a, bytes as bs, spoils as sp, full as lc, known as kn, blocky as i, numbered as num, kind as isr, elsewhere as nl, valid as tk)
 
   abbrev pub H₂ : History
   H₂ = Hs pl ca A h fd true true wr lr
 
   abbrev pub l₂ : State
-  l₂ = Ln p mk c n f
+  l₂ = Ln p mk c n f rn
 
   abbrev pub e₂ : Event
   e₂ = ev (surface a bs) sp
 
   abbrev pub G₂ : Turn → Type 0
-  G₂ x = Good start (W t l₂ u σ A) H₂ e₂ (outOf t bs u x)
+  G₂ x = Good start (W t cs l₂ u σ A) H₂ e₂ (outOf t cs bs u x)
 
   abbrev pub o₂ : Turn → Entry
-  o₂ x = entryOf e₂ (outOf t bs u x)
+  o₂ x = entryOf e₂ (outOf t cs bs u x)
 
   -- Returns the buffer before its status is written, and its data part.
   abbrev pub B : Part → Bytes
@@ -121,7 +125,7 @@ module _ {A : Answer} (j : Job A) where
 
   -- Returns the sectors after the call; says that the surface's rule holds for it.
   abbrev pub σ₂ : Sectors
-  σ₂ = landed (target A) a sp (sent A u (tableImage t)) σ
+  σ₂ = landed (target A) a sp (sent A u (imageB rn t cs)) σ
 
   abbrev pub R₂ : Type 0
   R₂ = brings (ofAnswer A .read) (eqb a 0) bs σ
@@ -253,20 +257,20 @@ module _ {A : Answer} (j : Job A) where
       )
 
   -- SPARING: a sector that failed gives way to the next spare,
-  pub next-spare : wr ≡ true → (ch : Change) (m : ℕ) (x : Block) (s : Seen) → x ≡ b → Bound ca b rd (B part.Kept) (padded fd) → changed ch t bs .nspares ≡ m
-      → (R₂ → Books (changed ch t bs) σ₂ pl ca (Own b (D part.Kept))) → NextSpare G₂ m l₂ ch x s
-  next-spare wt ch m x s eb bd em k =
+  pub next-spare : wr ≡ true → (ch : Change) (m : ℕ) (x : Block) (s : Seen) {y z : Cause} → x ≡ b → Bound ca b rd (B part.Kept) (padded fd) → changed ch t bs .nspares ≡ m
+      → (R₂ → Books (changed ch t bs) σ₂ pl ca (Own b (D part.Kept))) → NextSpare G₂ m l₂ ch x s y z
+  next-spare wt ch m x s {y} {z} eb bd em k =
       record {
-        spare = λ e. goes-trying ch (onSpare m x s) part.Kept eb (record { present = λ z. clash (sym z) refl; aside = λ z. (rw em (ltb-true m 32 e), ap spareOf (sym em)) }) (λ ok. bd) k;
+        spare = λ e. goes-trying ch (onSpare m x s y z) part.Kept eb (record { present = λ z. clash (sym z) refl; aside = λ z. (rw em (ltb-true m 32 e), ap spareOf (sym em)) }) (λ ok. bd) k;
         no-spare = λ e. ends-failed wt ch ending.NoSpare s part.Kept refl refl bd k;
       }
 
   -- and a trial ends.
   module _ (wt : wr ≡ true) (r : Trial) (eb : r .block ≡ b) (st : Spot t b r) (bd : Bound ca b rd (B part.Kept) (padded fd)) (k : R₂ → Books t σ₂ pl ca (Own b (D part.Kept))) where
-    pub misses : (s : Seen) → Missed G₂ l₂ t r s
-    misses s =
+    pub misses : (s : Seen) {x : Cause} → Missed G₂ l₂ t r s x
+    misses s {x} =
         record {
-          dead = λ z. next-spare wt change.Kill (t .nspares + 1) (r .block) s eb bd (killed-count t (st .aside z .0)) (λ ok. books-dead (st .aside z .0) (k ok));
+          dead = λ z. next-spare wt (change.Kill x) (t .nspares + 1) (r .block) s eb bd (killed-count t (st .aside z .0)) (λ ok. books-dead (st .aside z .0) (k ok));
           left = λ z. next-spare wt change.Keep (t .nspares) (r .block) s eb bd refl k;
         }
 
@@ -274,7 +278,7 @@ module _ {A : Answer} (j : Job A) where
     pub stops : Stopped G₂ l₂ r
     stops =
         record {
-          dead = λ z. ends-failed wt change.Kill ending.Latched (r .seen) part.Kept refl refl bd (λ ok. books-dead (st .aside z .0) (k ok));
+          dead = λ z. ends-failed wt (change.Kill cause.NoSettle) ending.Latched (r .seen) part.Kept refl refl bd (λ ok. books-dead (st .aside z .0) (k ok));
           present = λ z. ends-failed wt change.Keep ending.Latched (r .seen) part.Kept refl refl bd k;
         }
 
@@ -282,7 +286,7 @@ module _ {A : Answer} (j : Job A) where
     pub passes : lr ≡ at (r .sector) → Sole σ₂ (r .sector) (B part.Kept) → Verified G₂ l₂ t r
     passes el so =
         record {
-          moved = λ z. ends-moved (r .sector) el (change.Move (r .block)) (r .seen) part.Kept (bd .as-write) (λ ok. bd .as-read) (λ ok. there z ok);
+          moved = λ z. ends-moved (r .sector) el (change.Move (r .block) (r .before) (r .present)) (r .seen) part.Kept (bd .as-write) (λ ok. bd .as-read) (λ ok. there z ok);
           listed = λ z y. ends-fine (change.Remove (r .block)) (r .seen) part.Kept (bd .as-write) (λ ok. bd .as-read)
               (λ ok. books-table (withoutBad t (r .block)) (removed-shaped t (r .block) (k ok .shaped)) (removed-spares t (r .block)) (sole z ok));
           stays = λ z y. ends-fine change.Keep (r .seen) part.Kept (bd .as-write) (λ ok. bd .as-read) (λ ok. sole z ok);

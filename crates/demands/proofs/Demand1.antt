@@ -10,6 +10,7 @@ use Rattle.geometry.specs.declared.Block.{Block}
 use Rattle.logic.proofs.Bools.{clash, and-right}
 use Rattle.table.specs.declared.Table.{Table}
 use Rattle.table.specs.Tables.{tableOk}
+use Rattle.drive.specs.declared.Cause.{Cause}
 use Rattle.drive.specs.declared.Access.{Access}
 use Rattle.drive.specs.declared.Access.the-variants as access
 use Rattle.drive.specs.declared.Change.{Change}
@@ -33,6 +34,7 @@ use Rattle.drive.specs.Calls.{Call, surfaceOf, stepOf}
 use Rattle.drive.specs.Bound.{ofCommand, isCommand, accesses, most, Demand1Bound}
 use Rattle.drive.specs.Views.{ofAnswer}
 use Rattle.records.proofs.Ladders.{NextSpare, Missed, Stopped, tried-cases, checked-cases, lost-cases, settled-cases, GoesOnReading, after-read-cases, write-cases, verify-cases}
+use Rattle.records.proofs.Passed.{passed as parts}
 use Rattle.demands.proofs.Awaited.{ofPhase, accepted, by-surface}
 use Rattle.demands.proofs.Busy.{killed-count}
 use Rattle.demands.proofs.Refusals.{refused-unchanged}
@@ -103,14 +105,14 @@ module _ (t : Table) (l : State) (bs : List ℕ) (k : ℕ) (pos : 0 < k) where
   abbrev Falls : Turn → Type 0
   Falls x = cost (changed (x .change) t bs .nspares) (x .state .phase) < k
 
-  nexts : (n : ℕ) (c : Change) (b : Block) (s : Seen) → changed c t bs .nspares ≡ n → sparesLeft n < k → NextSpare Falls n l c b s
+  nexts : (n : ℕ) (c : Change) (b : Block) (s : Seen) → changed c t bs .nspares ≡ n → sparesLeft n < k → {x y : Cause} → NextSpare Falls n l c b s x y
   nexts n c b s e h = record { spare = λ q. let p = ltb-true n 32 q in omega (arith, p, e, h); no-spare = λ q. pos }
 
   module _ (r : Trial) (room : r .spare ≡ true → t .nspares < 32) (low : triesLeft (t .nspares) r < k) where
-    misses : (s : Seen) → Missed Falls l t r s
+    misses : (s : Seen) {x : Cause} → Missed Falls l t r s x
     misses s =
         record {
-          dead = λ e. let n = room e in let g = rw e at low in nexts (t .nspares + 1) change.Kill (r .block) s (killed-count t n) g;
+          dead = λ e. let n = room e in let g = rw e at low in nexts (t .nspares + 1) (change.Kill _) (r .block) s (killed-count t n) g;
           left = λ e. let g = rw e at low in nexts (t .nspares) change.Keep (r .block) s refl g;
         }
 
@@ -195,10 +197,9 @@ abbrev costOf : Drive → ℕ
 costOf d = cost (d .table .nspares) (d .state .phase)
 
 pub phase-of : (d : Drive) → recordOk d ≡ true → phaseOk (d .table .nspares) (d .state .marks .known) (d .state .phase) ≡ true
-unfolding recordOk stateOk
+unfolding stateOk
 phase-of d h =
-    and-right (leb (d .state .count) 6 && leb (d .state .fed) 533) (phaseOk (d .table .nspares) (d .state .marks .known) (d .state .phase))
-    (and-right (tableOk (d .table)) (stateOk (d .table .nspares) (d .state)) h)
+    and-right (leb (d .state .count) 6 && leb (d .state .fed) 533) (phaseOk (d .table .nspares) (d .state .marks .known) (d .state .phase)) (parts d h .state)
 
 -- AN ACCEPTED CALL while a command is under way lowers it.
 module _ (d : Drive) (u : List ℕ) (cm : isCommand (d .state .phase) ≡ true) where

@@ -48,6 +48,7 @@ use Rattle.demands.proofs.Parts.{data-with, data-put}
 use Rattle.demands.proofs.Sim.{Ln, W, Hs, Blocky, placeOf, Books, Quiet, Own, Ground, resting, Bound, Spot, Sole, Work, rereads, writing, verifying, trying, checking, Sim, at-start, at-rest, at-work, Good, ev, declined, sim-apart}
 use Rattle.demands.proofs.Books.{same-sector, held-inj, putSector-same, books-write, books-aside, books-weaken, books-only, books-learn}
 use Rattle.demands.proofs.Entries.{fits-silent}
+use Rattle.records.proofs.Passed.{passed as parts}
 use Rattle.demands.proofs.Rest.{ruled, loads, Keeps, awaiting, rests}
 use Rattle.demands.proofs.Busy.{Job, l₂, G₂, D, R₂, ends-fine, ends-failed, goes-trying, goes-verifying, goes-checking, next-spare, misses, stops, passes, Gr, goes-on, reads-stopped, reads-fine}
 
@@ -194,7 +195,7 @@ module _ {s : Sector} (j : Job (answer.Read s)) where
       })
 
 -- EVERY CALL WHILE A COMMAND IS UNDER WAY.
-module _ (start σ : Sectors) (t : Table) (mk : Marks) (pl : Block → Where) (ca : Block → List Bytes) (u c : Bytes) (n f : ℕ) (h fd : Bytes) (wr : Bool) (lr : Where) (b : Block) (rd : Bool)
+module _ (start σ : Sectors) (t : Table) (cs : Bytes) (mk : Marks) (pl : Block → Where) (ca : Block → List Bytes) (u c : Bytes) (n f rn : ℕ) (h fd : Bytes) (wr : Bool) (lr : Where) (b : Block) (rd : Bool)
     (lu : length u ≡ 536) (tk : tableOk t ≡ true) (lc : length c ≡ 6) (kn : mk .known ≡ true) (i : Blocky b) (num : numberOf h ≡ b .0) (isr : isRead (kindOf h) ≡ rd) where
   abbrev job : Access → (A : Answer) → isTableSector (ofAnswer A .read) ≡ false → ℕ → Bytes → Bool → Job A
   job x A nl a bs sp =
@@ -206,6 +207,8 @@ module _ (start σ : Sectors) (t : Table) (mk : Marks) (pl : Block → Where) (c
         command = c;
         count = n;
         fed = f;
+        run = rn;
+        causes = cs;
         phase = phase.Awaiting x;
         buffer = u;
         place = pl;
@@ -229,8 +232,8 @@ module _ (start σ : Sectors) (t : Table) (mk : Marks) (pl : Block → Where) (c
         sized = lu;
       }
 
-  works : {x : Access} {A : Answer} → Work t σ pl ca b rd u (padded fd) x A wr lr → Sim start (W t (Ln (phase.Awaiting x) mk c n f) u σ A) (Hs pl ca A h fd true true wr lr) → (k : Call) (sp : Bool)
-      → Keeps start (W t (Ln (phase.Awaiting x) mk c n f) u σ A) (Hs pl ca A h fd true true wr lr) k sp
+  works : {x : Access} {A : Answer} → Work t σ pl ca b rd u (padded fd) x A wr lr → Sim start (W t cs (Ln (phase.Awaiting x) mk c n f rn) u σ A) (Hs pl ca A h fd true true wr lr) → (k : Call) (sp : Bool)
+      → Keeps start (W t cs (Ln (phase.Awaiting x) mk c n f rn) u σ A) (Hs pl ca A h fd true true wr lr) k sp
   unfolding follows
   works (rereads {r = r} {s = s} eb er es op g k) m =
       let nl = off-table s (λ y. not-table (spareList t) b (k .short) (sym es ∙ y)) in
@@ -245,19 +248,19 @@ module _ (start σ : Sectors) (t : Table) (mk : Marks) (pl : Block → Where) (c
       awaiting m (λ a bs sp z. check-answered (job (access.TrialRead r) (answer.Read s) nl a bs sp) r eb er wt el st bd so k _)
 
 -- THE START'S READS.
-module _ (start : Sectors) (t : Table) (mk : Marks) (c : Bytes) (n f j : ℕ) (u : Bytes) (pl : Block → Where) (ca : Block → List Bytes) (h fd : Bytes) (to' wr : Bool) (lr : Where)
+module _ (start : Sectors) (t : Table) (cs : Bytes) (mk : Marks) (c : Bytes) (n f j rn : ℕ) (u : Bytes) (pl : Block → Where) (ca : Block → List Bytes) (h fd : Bytes) (to' wr : Bool) (lr : Where)
     (lc : length c ≡ 6) (kn : mk .known ≡ false) (none : (b : Block) → pl b ≡ nowhere)
-    (m : Sim start (W t (Ln (phase.Awaiting (access.Start j)) mk c n f) u start (answer.Read tableSector)) (Hs pl ca (answer.Read tableSector) h fd false to' wr lr)) where
+    (m : Sim start (W t cs (Ln (phase.Awaiting (access.Start j)) mk c n f rn) u start (answer.Read tableSector)) (Hs pl ca (answer.Read tableSector) h fd false to' wr lr)) where
   abbrev Gs : ℕ → Bytes → Bool → Turn → Type 0
-  Gs a bs sp x = Good start (W t (Ln (phase.Awaiting (access.Start j)) mk c n f) u start (answer.Read tableSector)) (Hs pl ca (answer.Read tableSector) h fd false to' wr lr) (ev (surface a bs) sp) (outOf t bs u x)
+  Gs a bs sp x = Good start (W t cs (Ln (phase.Awaiting (access.Start j)) mk c n f rn) u start (answer.Read tableSector)) (Hs pl ca (answer.Read tableSector) h fd false to' wr lr) (ev (surface a bs) sp) (outOf t cs bs u x)
 
   bare : Ground (mk .known) t start pl ca
   bare = record { tabled = λ q. clash q kn; tableless = λ q. none }
 
-  start-read : (a : ℕ) (bs : Bytes) (sp : Bool) → Gs a bs sp (startAnswered j (Ln (phase.Awaiting (access.Start j)) mk c n f) a bs)
+  start-read : (a : ℕ) (bs : Bytes) (sp : Bool) → Gs a bs sp (startAnswered j (Ln (phase.Awaiting (access.Start j)) mk c n f rn) a bs)
   unfolding partLeft statusLeft next heard learns acts underway touches touchesFirst reports placeNext candidatesNext
   start-read a bs sp =
-      start-cases (Gs a bs sp) j (Ln (phase.Awaiting (access.Start j)) mk c n f) a bs
+      start-cases (Gs a bs sp) j (Ln (phase.Awaiting (access.Start j)) mk c n f rn) a bs
       (record {
         table = λ q. λ ok. (
           fits-silent _ _ refl refl,
@@ -268,22 +271,22 @@ module _ (start : Sectors) (t : Table) (mk : Marks) (c : Bytes) (n f j : ℕ) (u
         gives-up = λ q y. λ ok. (fits-silent _ _ refl refl, rw q (at-rest lc bare resting));
       })
 
-  starts : (x : Call) (sp : Bool) → Keeps start (W t (Ln (phase.Awaiting (access.Start j)) mk c n f) u start (answer.Read tableSector)) (Hs pl ca (answer.Read tableSector) h fd false to' wr lr) x sp
+  starts : (x : Call) (sp : Bool) → Keeps start (W t cs (Ln (phase.Awaiting (access.Start j)) mk c n f rn) u start (answer.Read tableSector)) (Hs pl ca (answer.Read tableSector) h fd false to' wr lr) x sp
   unfolding follows
   starts = awaiting m (λ a bs sp z. start-read a bs sp)
 
 -- ONE CALL, past the codes 1 and 2.
 kept-by-rule : {start : Sectors} {w : World} {H : History} → Sim start w H → length (w .buffer) ≡ 536 → tableOk (w .drive .table) ≡ true → (x : Call) (sp : Bool)
     → Keeps start w H x sp
-kept-by-rule {start} (at-start {t = t} {mk = mk} {c = c} {n = n} {f = f} {k = k} {u = u} {pl = pl} {ca = ca} {h = h} {fd = fd} {to = to} {wr = wr} {lr = lr} lc kn none) lu tk x sp =
-    starts start t mk c n f k u pl ca h fd to wr lr lc kn none (at-start lc kn none) x sp
-kept-by-rule {start} (at-rest {t = t} {σ = σ} {pl = pl} {ca = ca} lc gr sh) lu tk x sp = rests start σ t pl ca lu lc gr sh (at-rest lc gr sh) x sp
-kept-by-rule {start} (at-work {t = t} {mk = mk} {c = c} {n = n} {f = f} {u = u} {σ = σ} {pl = pl} {ca = ca} {h = h} {fd = fd} {wr = wr} {lr = lr} {b = b} {rd = rd} lc kn i num isr wk) lu tk x sp =
-    works start σ t mk pl ca u c n f h fd wr lr b rd lu tk lc kn i num isr wk (at-work lc kn i num isr wk) x sp
+kept-by-rule {start} (at-start {t = t} {cs = cs} {mk = mk} {c = c} {n = n} {f = f} {k = k} {rn = rn} {u = u} {pl = pl} {ca = ca} {h = h} {fd = fd} {to = to} {wr = wr} {lr = lr} lc kn none) lu tk x sp =
+    starts start t cs mk c n f k rn u pl ca h fd to wr lr lc kn none (at-start lc kn none) x sp
+kept-by-rule {start} (at-rest {t = t} {cs = cs} {σ = σ} {pl = pl} {ca = ca} lc gr sh) lu tk x sp = rests start σ t cs pl ca lu lc gr sh (at-rest lc gr sh) x sp
+kept-by-rule {start} (at-work {t = t} {cs = cs} {mk = mk} {c = c} {n = n} {f = f} {rn = rn} {u = u} {σ = σ} {pl = pl} {ca = ca} {h = h} {fd = fd} {wr = wr} {lr = lr} {b = b} {rd = rd} lc kn i num isr wk) lu tk x sp =
+    works start σ t cs mk pl ca u c n f rn h fd wr lr b rd lu tk lc kn i num isr wk (at-work lc kn i num isr wk) x sp
 
 module _ {start : Sectors} {w : World} {H : History} (m : Sim start w H) where
   abbrev Gg : Call → Bool → Turn → Type 0
-  Gg x sp y = Good start w H (ev x sp) (outOf (w .drive .table) (loads x) (w .buffer) y)
+  Gg x sp y = Good start w H (ev x sp) (outOf (w .drive .table) (w .drive .causes) (loads x) (w .buffer) y)
 
   guards : (x : Call) (sp : Bool) → Gg x sp (guarded (recordOk (w .drive)) (length (w .buffer)) (w .drive .state) (ruled x (w .drive .table) (w .drive .state) (w .buffer)))
   unfolding recordOk
@@ -292,7 +295,7 @@ module _ {start : Sectors} {w : World} {H : History} (m : Sim start w H) where
       (record {
         damaged = λ o. declined x sp refusal.Record (loads x) m;
         length = λ o q. declined x sp refusal.Buffer (loads x) m;
-        passes = λ o q. kept-by-rule m (eqb-true (length (w .buffer)) 536 q) (and-left (tableOk (w .drive .table)) (stateOk (w .drive .table .nspares) (w .drive .state)) o) x sp;
+        passes = λ o q. kept-by-rule m (eqb-true (length (w .buffer)) 536 q) (parts (w .drive) o .table) x sp;
       })
 
   pub step : (x : Call) (sp : Bool) → Good start w H (ev x sp) (made w (ev x sp))

@@ -10,7 +10,7 @@ use Rattle.logic.proofs.Bools.{and-left}
 use Rattle.table.specs.declared.Table.{Table}
 use Rattle.table.specs.Tables.{spareList, badList, tableOk}
 use Rattle.table.proofs.Keeps.{passes}
-use Rattle.image.specs.Images.{tableImage}
+use Rattle.image.specs.FormA.{imageA}
 use Rattle.image.proofs.Writing.{image-length}
 use Rattle.buffer.specs.Runs.{over}
 use Rattle.drive.specs.declared.Drive.{Drive}
@@ -23,6 +23,7 @@ use Rattle.drive.specs.Words.{dataOf, withData}
 use Rattle.drive.specs.Records.{recordOk, stateOk}
 use Rattle.drive.specs.Results.{partLeft, statusLeft, outOf}
 use Rattle.drive.specs.Calls.{Call, raise, lower, feed, surface, reset, called, raiseOf, lowerOf, feedOf, surfaceOf, resetOf, stepOf}
+use Rattle.records.proofs.Passed.{passed as parts}
 use Rattle.records.proofs.Ladders.{guarded-cases}
 
 -- Says that a buffer has 536 bytes.
@@ -33,7 +34,7 @@ data-long : (u x : List ℕ) → Long u → length x ≡ 532 → Long (withData 
 unfolding withData
 data-long u x h k = omega (arith, length-append (take 4 u) x, length-take 4 u)
 
-image-long : (t : Table) → tableOk t ≡ true → length (tableImage t) ≡ 532
+image-long : (t : Table) → tableOk t ≡ true → length (imageA t) ≡ 532
 image-long t k =
     let p = passes t k in
     image-length (spareList t) (badList t) (omega (arith, length-take (t .nspares) (t .spares), p .few-spares)) (omega (arith, length-take (t .nbads) (t .bads), p .few-bads))
@@ -46,7 +47,7 @@ part-long (part.Filled f) t bs u k h =
     let run = take (532 - f) bs in
     omega (arith, length-append (take (4 + f) u ++ run) (drop (4 + f + length run) u), length-append (take (4 + f) u) run, length-take (4 + f) u, length-take (532 - f) bs, length-drop (4 + f + length run) u)
 part-long (part.Zeroed f) t bs u k h = omega (arith, length-append (take (4 + f) u) (replicate (532 - f) 0), length-take (4 + f) u, length-replicate {A = ℕ} (532 - f) 0)
-part-long part.Image t bs u k h = data-long u (tableImage t) h (image-long t k)
+part-long part.Image t bs u k h = data-long u (imageA t) h (image-long t k)
 part-long (part.Figures x) t bs u k h = data-long u _ h refl
 
 status-long : (s : Status) (u : List ℕ) → Long u → Long (statusLeft s u)
@@ -65,11 +66,11 @@ module _ (d : Drive) (u : List ℕ) where
         length = λ k e. refl;
         passes = λ k e.
             let h = eqb-true (length u) 536 e in
-            status-long (x .leaves .status) _ (part-long (x .leaves .part) (d .table) bs u (and-left (tableOk (d .table)) (stateOk (d .table .nspares) (d .state)) k) h) ∙ sym h;
+            status-long (x .leaves .status) _ (part-long (x .leaves .part) (d .table) bs u (parts d k .table) h) ∙ sym h;
       })
     where
       K : Turn → Type 0
-      K y = length (outOf (d .table) bs u y .bytes) ≡ length u
+      K y = length (outOf (d .table) (d .causes) bs u y .bytes) ≡ length u
 
   pub step-length : (c : Call) → length (stepOf c d u .bytes) ≡ length u
   unfolding stepOf raiseOf lowerOf feedOf surfaceOf resetOf

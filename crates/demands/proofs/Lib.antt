@@ -9,6 +9,7 @@ pub mod Rest
 pub mod Busy
 pub mod Demand3
 pub mod Refusals
+pub mod RunNumber
 pub mod Valid
 pub mod Awaited
 pub mod Lengths
@@ -23,3 +24,4 @@ pub mod Trials
 pub mod Begins
 pub mod Made
 pub mod Allowed
+pub mod Converting

@@ -219,7 +219,7 @@ report H o h =
 
 -- WHAT ONE CALL OWES, as a property of its turn: a write that it reports good was made, and the invariant holds again.
 abbrev entry : Call → Bool → Table → Bytes → Bytes → Turn → Entry
-entry c sp t bs u x = entryOf (ev c sp) (outOf t bs u x)
+entry c sp t bs u x = entryOf (ev c sp) (outOf t [] bs u x)
 
 record Owes (start : Sectors) (H : History) (wrote : Wrote) (c : Call) (sp : Bool) (t : Table) (bs u : Bytes) (x : Turn) : Type 0 where
   written : goodWrite H (entry c sp t bs u x) ≡ true → IsMade start H wrote (entry c sp t bs u x)
@@ -238,11 +238,11 @@ module _ (start : Sectors) (H : History) (wrote : Wrote) (c : Call) (sp : Bool) 
   unfinished : (x : Turn) → ofAnswer (x .answer) .finished ≡ false → unread (x .state .phase) ≡ true → P x
   unfinished x f q = record { written = λ h. clash (report H (entry c sp t bs u x) h .finished) f; ready = still-ready (x .state .phase) _ _ q }
 
-  unfine : (x : Turn) → (isBlock (order H .number) ≡ true → Bad t bs u x) → unread (x .state .phase) ≡ true → P x
+  unfine : (x : Turn) → (isBlock (order H .number) ≡ true → Bad t [] bs u x) → unread (x .state .phase) ≡ true → P x
   unfolding good
   unfine x f q =
       record {
-        written = λ h. let r = report H (entry c sp t bs u x) h in absurd (f (r .block) (and-true (ofAnswer (x .answer) .finished) (not (bit 1 (getD (outOf t bs u x .bytes) 0 0))) (r .finished) (r .good)));
+        written = λ h. let r = report H (entry c sp t bs u x) h in absurd (f (r .block) (and-true (ofAnswer (x .answer) .finished) (not (bit 1 (getD (outOf t [] bs u x .bytes) 0 0))) (r .finished) (r .good)));
         ready = still-ready (x .state .phase) _ _ q;
       }
 
@@ -277,7 +277,7 @@ module _ (start : Sectors) (H : History) (wrote : Wrote) (c : Call) (sp : Bool) 
     -- Acting on a command asks for a first access, or ends it.
     acts-owes : order H .number ≡ numberOf (l .command) → P (acted (orderOf (l .command)) l t)
     acts-owes n =
-        let z = acts-first t bs u (orderOf (l .command)) l in
+        let z = acts-first t [] bs u (orderOf (l .command)) l in
         unfine _ (λ i. z .0 (ap isBlock (sym n) ∙ i)) (z .1)
 
     goes : (o : Offer) → KnownOffer o (l .command) H → P (goesOn o l t)
@@ -320,7 +320,7 @@ module _ (start : Sectors) (H : History) (wrote : Wrote) (a : ℕ) (bs : Bytes) 
   goes-on x f q = unfinished start H wrote (surface a bs) sp t bs u x f q
 
   -- An ending that fails owes nothing more, nor does a trial that failed or was stopped.
-  failing : (x : Turn) → Fails t bs u x → S x
+  failing : (x : Turn) → Fails t [] bs u x → S x
   failing x f = unfine start H wrote (surface a bs) sp t bs u x (λ i. f .bad) (f .unread)
 
   starts : (j : ℕ) → S (startAnswered j l a bs)
@@ -421,8 +421,8 @@ module _ (start : Sectors) (H : History) (wrote : Wrote) (a : ℕ) (bs : Bytes) 
         verifies = λ e f. record { written = λ h. clash (report H (at-entry back) h .finished) refl; ready = ap (λ (w : Wrote). w .went) (landed (x .sector) back refl e (n .asked) (n .bytes)) };
         done = λ e f. stays (x .sector) change.Keep clean (ap (λ (y : Answer). isTableSector (ofAnswer y .read)) (n .asked)) (n .place)
             (λ h. ap (λ (w : Wrote). w .went) (landed (x .sector) (ended change.Keep ending.Good clean) refl e (n .asked) (kept ∙ n .bytes)));
-        stops = λ e f. ends t bs u S failing l change.Keep _ _ refl;
-        moves = λ e f. nexts t bs u S failing l _ _ (x .block) _;
+        stops = λ e f. ends t [] bs u S failing l change.Keep _ _ refl;
+        moves = λ e f. nexts t [] bs u S failing l _ _ (x .block) _;
       })
     where
       back : Turn
@@ -436,7 +436,7 @@ module _ (start : Sectors) (H : History) (wrote : Wrote) (a : ℕ) (bs : Bytes) 
   verifies-owe x n there q =
       verify-cases S l x a q
       (record {
-        stops = λ e. ends t bs u S failing l change.Keep _ _ refl;
+        stops = λ e. ends t [] bs u S failing l change.Keep _ _ refl;
         done = λ e f. stays (x .sector) change.Keep clean (ap (λ (y : Answer). isTableSector (ofAnswer y .read)) (n .asked) ∙ n .sector) (n .place) (λ h. stays-there (x .sector) (ended change.Keep ending.Good clean) refl (n .asked) ∙ there);
         fails = λ e f. goes-on _ refl refl;
       })
@@ -448,8 +448,8 @@ module _ (start : Sectors) (H : History) (wrote : Wrote) (a : ℕ) (bs : Bytes) 
       tried-cases S l t r a
       (record {
         done = λ e. record { written = λ h. clash (report H (at-entry back) h .finished) refl; ready = λ i. first e i };
-        stops = λ e. stops t bs u S failing l r;
-        fails = λ e f. misses t bs u S failing l r _;
+        stops = λ e. stops t [] bs u S failing l r;
+        fails = λ e f. misses t [] bs u S failing l r _;
       })
     where
       back : Turn
@@ -511,11 +511,11 @@ module _ (start : Sectors) (H : History) (wrote : Wrote) (a : ℕ) (bs : Bytes) 
     checks =
         checked-cases S l t r a equal
         (record {
-          stops = λ e. stops t bs u S failing l r;
+          stops = λ e. stops t [] bs u S failing l r;
           counts = λ e. record {
             again = λ f. again;
             passes = λ f g. record { moved = λ z. moved f g _; listed = λ z y. in-place z _; stays = λ z y. in-place z _ };
-            fails = λ f g. misses t bs u S failing l r' _;
+            fails = λ f g. misses t [] bs u S failing l r' _;
           };
         })
 

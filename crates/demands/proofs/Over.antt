@@ -49,20 +49,20 @@ module _ (l : State) (t : Table) (a : ℕ) (bs : List ℕ) (equal : Bool) where
       start-cases (NextRead k) k l a bs
       (record { table = λ e. inl (refl, refl); stops = λ e f. inl (refl, refl); again = λ e f. inr (ltb-true k 10 f, refl, refl); gives-up = λ e f. inl (refl, refl) })
 
-  store-next : (x : Access) (u : List ℕ) → ofStore x ≡ true → Ends store (outOf t bs u (follows x l t a bs equal))
+  store-next : (x : Access) (cs u : List ℕ) → ofStore x ≡ true → Ends store (outOf t cs bs u (follows x l t a bs equal))
   unfolding follows storeAnswered
-  store-next (access.Start k) u c = clash c refl
-  store-next access.Store u c = record { answer = refl; phase = refl }
-  store-next (access.Read r) u c = clash c refl
-  store-next (access.Write w) u c = clash c refl
-  store-next (access.Verify w) u c = clash c refl
-  store-next (access.TrialWrite r) u c = clash c refl
-  store-next (access.TrialRead r) u c = clash c refl
+  store-next (access.Start k) cs u c = clash c refl
+  store-next access.Store cs u c = record { answer = refl; phase = refl }
+  store-next (access.Read r) cs u c = clash c refl
+  store-next (access.Write w) cs u c = clash c refl
+  store-next (access.Verify w) cs u c = clash c refl
+  store-next (access.TrialWrite r) cs u c = clash c refl
+  store-next (access.TrialRead r) cs u c = clash c refl
 
   -- No access is followed by a refusal.
   not-refused : (x : Access) → ofAnswer (follows x l t a bs equal .answer) .refused ≡ false
   not-refused x =
-      follows-shape (λ (y : Turn). ofAnswer (y .answer) .refused ≡ false) l (record { ends = λ c e s p k. refl; tries = λ c r p k. refl; says = λ k b p n. n }) t x a bs equal (λ e. refl)
+      follows-shape (λ (y : Turn). ofAnswer (y .answer) .refused ≡ false) l (record { ends = λ c e s p k. refl; tries = λ c r p k. refl; says = λ k b p n w. n }) t x a bs equal (λ e. refl)
 
 -- THE CODES 4 AND 5 refuse exactly what does not suit.
 exactly : (x : Turn) (l : State) (read : Bool) (a n : ℕ) → ofAnswer (x .answer) .refused ≡ false
@@ -135,7 +135,7 @@ pub over-by-finished : OverByFinished
 over-by-finished x d u c = by-surface d u ofCommand c (λ y. ByFinished (stepOf y d u)) (if-refused d u c) (by-reply d u c) x
 
 -- The next record is fine again, and the next buffer as long.
-reply-fine : (d : Drive) (u : List ℕ) (x : Reply) → Fine (d .table) (d .state) → Fine (replied d u x .step .drive .table) (replied d u x .step .drive .state)
+reply-fine : (d : Drive) (u : List ℕ) (x : Reply) → Fine (d .table) (d .causes) (d .state) → Fine (replied d u x .step .drive .table) (replied d u x .step .drive .causes) (replied d u x .step .drive .state)
 reply-fine d u x f = surface-fine d u (x .number) (x .bytes) f
 
 reply-long : (d : Drive) (u : List ℕ) (x : Reply) → length u ≡ 536 → length (replied d u x .bytes) ≡ 536
@@ -173,7 +173,7 @@ Over m d u xs = (n : ℕ) × (n ≤ m) × Completes command d u (take n xs)
 abbrev Either : ℕ → Drive → List ℕ → List Reply → Type 0
 Either m d u xs = Over m d u xs ⊎ (m < accesses d u (andOneMore (take m xs)))
 
-walk : (m : ℕ) (xs : List Reply) (d : Drive) (u : List ℕ) → Fine (d .table) (d .state) → length u ≡ 536 → isCommand (d .state .phase) ≡ true → m ≤ length xs → AllSuit command d u xs → Either m d u xs
+walk : (m : ℕ) (xs : List Reply) (d : Drive) (u : List ℕ) → Fine (d .table) (d .causes) (d .state) → length u ≡ 536 → isCommand (d .state .phase) ≡ true → m ≤ length xs → AllSuit command d u xs → Either m d u xs
 walk zero xs d u f h c le s = inr (omega (arith, counted d u timeout [] c (suited d u timeout (fine-ok d f) h (timeout-suits (d .state .phase) c))))
 walk (suc m) [] d u f h c le s = absurd (omega arith)
 walk (suc m) (x ∷ xs) d u f h c le s =
@@ -219,7 +219,7 @@ start-step d u x k e r =
     subst (StepsTo k) (sym (w .gives)) (subst (λ (y : Access). Then y) (same-access (sym e ∙ w .phase)) (go (start-next (d .state) (d .table) (x .number) (x .bytes) true k)))
   where
     Then : Access → Type 0
-    Then y = StepsTo k (outOf (d .table) (x .bytes) u (followed y d u (x .number) (x .bytes)))
+    Then y = StepsTo k (outOf (d .table) (d .causes) (x .bytes) u (followed y d u (x .number) (x .bytes)))
 
     go : NextRead k (startAnswered k (d .state) (x .number) (x .bytes)) → Then (access.Start k)
     go (inl z) = inl (record { answer = z .0; phase = z .1 })
@@ -229,7 +229,7 @@ start-step d u x k e r =
 abbrev StartedOver : ℕ → Drive → List ℕ → List Reply → Type 0
 StartedOver k d u xs = (n : ℕ) × (n ≤ 11 - k) × Completes start d u (take n xs)
 
-start-walk : (xs : List Reply) (d : Drive) (u : List ℕ) (k : ℕ) → Fine (d .table) (d .state) → length u ≡ 536 → d .state .phase ≡ phase.Awaiting (access.Start k) → k ≤ 10 → 11 - k ≤ length xs → AllSuit start d u xs
+start-walk : (xs : List Reply) (d : Drive) (u : List ℕ) (k : ℕ) → Fine (d .table) (d .causes) (d .state) → length u ≡ 536 → d .state .phase ≡ phase.Awaiting (access.Start k) → k ≤ 10 → 11 - k ≤ length xs → AllSuit start d u xs
     → StartedOver k d u xs
 start-walk [] d u k f h e b le s = absurd (omega arith)
 start-walk (x ∷ xs) d u k f h e b le s =
@@ -252,4 +252,4 @@ pub store-over : StoreOver
 store-over d u k h c [] le s = absurd (omega arith)
 store-over d u k h c (x ∷ xs) le s =
     let w = accepted d u (x .number) (x .bytes) (suited d u x k h (s .0 c)) in
-    (1, omega arith, subst (Ends store) (sym (w .gives)) (store-next (d .state) (d .table) (x .number) (x .bytes) _ (w .access) u (sym (ap (awaits ofStore) (w .phase)) ∙ c)))
+    (1, omega arith, subst (Ends store) (sym (w .gives)) (store-next (d .state) (d .table) (x .number) (x .bytes) _ (w .access) (d .causes) u (sym (ap (awaits ofStore) (w .phase)) ∙ c)))

@@ -8,7 +8,6 @@ use lib.ListN.{length}
 use borrow.Author.Tests.{eq-eqb}
 use Rattle.logic.proofs.Bools.{branch, clash}
 use Rattle.table.specs.declared.Table.{Table}
-use Rattle.image.specs.Images.{tableImage}
 use Rattle.drive.specs.declared.Answer.{Answer}
 use Rattle.drive.specs.declared.Answer.the-variants as answer
 use Rattle.drive.specs.declared.Drive.{Drive}
@@ -22,7 +21,7 @@ use Rattle.drive.specs.declared.Refusal.the-variants as refusal
 use Rattle.drive.specs.declared.Turn.{Turn}
 use Rattle.drive.specs.Words.{codeOf, orderOf}
 use Rattle.drive.specs.Records.{recordOk}
-use Rattle.drive.specs.Results.{Out, partLeft, statusLeft, outOf, refuse, guarded}
+use Rattle.drive.specs.Results.{storedImage, Out, partLeft, statusLeft, outOf, refuse, guarded}
 use Rattle.drive.specs.Handshake.{raised, goesOn, lowered, fedTo, rested}
 use Rattle.drive.specs.Access.{asksRead, answered}
 use Rattle.drive.specs.Calls.{Call, raise, lower, feed, surface, reset, raiseOf, lowerOf, feedOf, surfaceOf, resetOf, stepOf, startOf, imageOutOf}
@@ -56,7 +55,7 @@ module _ (l : State) where
   raises (phase.Awaiting x) = no
 
   shapes : Shapes Is l
-  shapes = record { ends = λ c e s p k. accepts refl; tries = λ c r p k. accepts refl; says = λ k a p n. accepts n }
+  shapes = record { ends = λ c e s p k. accepts refl; tries = λ c r p k. accepts refl; says = λ k a p n r. accepts n }
 
   going : (o : Offer) (t : Table) → Is (goesOn o l t)
   unfolding goesOn
@@ -117,15 +116,15 @@ module _ (d : Drive) (u : List ℕ) where
   not-code answer.Finished e = refl
   not-code (answer.Refused r) e = clash refl e
 
-  judged : (bs : List ℕ) {x : Turn} → recordOk d ≡ true → Verdict (d .state) x → Owes (outOf (d .table) bs u x)
+  judged : (bs : List ℕ) {x : Turn} → recordOk d ≡ true → Verdict (d .state) x → Owes (outOf (d .table) (d .causes) bs u x)
   unfolding partLeft statusLeft
   judged bs o (refuses r e) = record { same = λ z. (refl, refl); code = record { damaged = λ z. clash o z; valid = λ z. e } }
   judged bs o (accepts {x} e) = record { same = λ z. clash z e; code = record { damaged = λ z. clash o z; valid = λ z. not-code (x .answer) e } }
 
-  whole : (bs : List ℕ) (x : Turn) → Verdict (d .state) x → Owes (outOf (d .table) bs u (guarded (recordOk d) (length u) (d .state) x))
+  whole : (bs : List ℕ) (x : Turn) → Verdict (d .state) x → Owes (outOf (d .table) (d .causes) bs u (guarded (recordOk d) (length u) (d .state) x))
   unfolding partLeft statusLeft
   whole bs x h =
-      guarded-cases (λ (y : Turn). Owes (outOf (d .table) bs u y)) (recordOk d) (length u) (d .state) x
+      guarded-cases (λ (y : Turn). Owes (outOf (d .table) (d .causes) bs u y)) (recordOk d) (length u) (d .state) x
       (record {
         damaged = λ e. record { same = λ z. (refl, refl); code = record { damaged = λ z. refl; valid = λ z. clash z e } };
         length = λ o q. judged bs o (refuses refusal.Buffer refl);
@@ -170,7 +169,7 @@ image-keeps d u =
 
 -- and what it writes is the image of the record's table.
 pub image-writes : (d : Drive) (u : List ℕ) → recordOk d ≡ true → length u ≡ 532 → d .state .marks .known ≡ true
-    → (imageOutOf d u .bytes ≡ tableImage (d .table)) × (imageOutOf d u .step .answer ≡ answer.Wait)
+    → (imageOutOf d u .bytes ≡ storedImage d) × (imageOutOf d u .step .answer ≡ answer.Wait)
 unfolding imageOutOf
 image-writes d u o q k = rw (o, eq-eqb (length u) 532 q, k) (refl, refl)
 

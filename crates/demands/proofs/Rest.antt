@@ -13,7 +13,7 @@ use Rattle.logic.proofs.Bools.{branch, clash, and-left, and-right}
 use Rattle.table.specs.declared.Table.{Table}
 use Rattle.table.specs.Tables.{spareList}
 use Rattle.table.proofs.Placing.{not-table}
-use Rattle.image.specs.Images.{tableImage}
+use Rattle.image.specs.FormB.{imageB}
 use Rattle.buffer.specs.Runs.{same}
 use Rattle.drive.specs.declared.State.{State}
 use Rattle.drive.specs.declared.Kind.{Kind}
@@ -63,7 +63,7 @@ loads reset = []
 
 -- Says that a call keeps the invariant with its own rule's result.
 abbrev pub Keeps : Sectors → World → History → Call → Bool → Type 0
-Keeps start w H x sp = Good start w H (ev x sp) (outOf (w .drive .table) (loads x) (w .buffer) (ruled x (w .drive .table) (w .drive .state) (w .buffer)))
+Keeps start w H x sp = Good start w H (ev x sp) (outOf (w .drive .table) (w .drive .causes) (loads x) (w .buffer) (ruled x (w .drive .table) (w .drive .state) (w .buffer)))
 
 -- A write or a write/verify is no read.
 not-read : (k : Kind) (plain : Bool) → cond plain (isWrite k) (isVerify k) ≡ true → isRead k ≡ false
@@ -74,18 +74,18 @@ not-read kind.Verify plain e = refl
 not-read kind.Other plain e = refl
 
 -- WHILE AN ACCESS IS AWAITED only the surface's answer is in place, and one that codes 4 and 5 do not refuse is left to show.
-module _ {start : Sectors} {t : Table} {mk : Marks} {c : Bytes} {n f : ℕ} {x : Access} {u : Bytes} {σ : Sectors} {a : Answer} {H : History} (m : Sim start (W t (Ln (phase.Awaiting x) mk c n f) u σ a) H) where
+module _ {start : Sectors} {t : Table} {cs : Bytes} {mk : Marks} {c : Bytes} {n f rn : ℕ} {x : Access} {u : Bytes} {σ : Sectors} {a : Answer} {H : History} (m : Sim start (W t cs (Ln (phase.Awaiting x) mk c n f rn) u σ a) H) where
   abbrev Ga : ℕ → Bytes → Bool → Turn → Type 0
-  Ga b bs sp y = Good start (W t (Ln (phase.Awaiting x) mk c n f) u σ a) H (ev (surface b bs) sp) (outOf t bs u y)
+  Ga b bs sp y = Good start (W t cs (Ln (phase.Awaiting x) mk c n f rn) u σ a) H (ev (surface b bs) sp) (outOf t cs bs u y)
 
-  pub awaiting : ((b : ℕ) (bs : Bytes) (sp : Bool) → bytesFit (asksRead x) b (length bs) ≡ true → Ga b bs sp (follows x (Ln (phase.Awaiting x) mk c n f) t b bs (isCompared x && eqb b 0 && same bs (dataOf u))))
-      → (k : Call) (sp : Bool) → Keeps start (W t (Ln (phase.Awaiting x) mk c n f) u σ a) H k sp
+  pub awaiting : ((b : ℕ) (bs : Bytes) (sp : Bool) → bytesFit (asksRead x) b (length bs) ≡ true → Ga b bs sp (follows x (Ln (phase.Awaiting x) mk c n f rn) t b bs (isCompared x && eqb b 0 && same bs (dataOf u))))
+      → (k : Call) (sp : Bool) → Keeps start (W t cs (Ln (phase.Awaiting x) mk c n f rn) u σ a) H k sp
   unfolding raised lowered fedTo rested answered
   awaiting g raise sp = declined raise sp refusal.Place [] m
   awaiting g (lower b) sp = declined (lower b) sp refusal.Place [] m
   awaiting g (feed bs) sp = declined (feed bs) sp refusal.Place bs m
   awaiting g (surface b bs) sp =
-      fitting-cases (Ga b bs sp) (asksRead x) (Ln (phase.Awaiting x) mk c n f) b (length bs) _
+      fitting-cases (Ga b bs sp) (asksRead x) (Ln (phase.Awaiting x) mk c n f rn) b (length bs) _
       (record { answer = λ p. declined (surface b bs) sp refusal.Answer bs m; bytes = λ p q. declined (surface b bs) sp refusal.Bytes bs m; fits = λ p q. g b bs sp q })
   awaiting g reset sp = declined reset sp refusal.Place [] m
 
@@ -98,28 +98,28 @@ aside {σ} {pl} {ca} {known} {t} b sp x g =
       tableless = g .tableless;
     }
 
-stored : {start σ : Sectors} {t : Table} {mk : Marks} {pl : Block → Where} {ca : Block → List Bytes} {u c : Bytes} {n f : ℕ} {h fd : Bytes} {to' wr : Bool} {lr : Where}
-    → length c ≡ 6 → Ground (mk .known) t σ pl ca → Sim start (W t (Ln (phase.Awaiting access.Store) mk c n f) u σ answer.Store) (Hs pl ca answer.Store h fd false to' wr lr) → (b : ℕ) (bs : Bytes) (sp : Bool)
-    → Good start (W t (Ln (phase.Awaiting access.Store) mk c n f) u σ answer.Store) (Hs pl ca answer.Store h fd false to' wr lr) (ev (surface b bs) sp) (outOf t bs u (storeAnswered (Ln (phase.Awaiting access.Store) mk c n f) b))
+stored : {start σ : Sectors} {t : Table} {cs : Bytes} {mk : Marks} {pl : Block → Where} {ca : Block → List Bytes} {u c : Bytes} {n f rn : ℕ} {h fd : Bytes} {to' wr : Bool} {lr : Where}
+    → length c ≡ 6 → Ground (mk .known) t σ pl ca → Sim start (W t cs (Ln (phase.Awaiting access.Store) mk c n f rn) u σ answer.Store) (Hs pl ca answer.Store h fd false to' wr lr) → (b : ℕ) (bs : Bytes) (sp : Bool)
+    → Good start (W t cs (Ln (phase.Awaiting access.Store) mk c n f rn) u σ answer.Store) (Hs pl ca answer.Store h fd false to' wr lr) (ev (surface b bs) sp) (outOf t cs bs u (storeAnswered (Ln (phase.Awaiting access.Store) mk c n f rn) b))
 unfolding partLeft statusLeft storeAnswered next heard acts underway touches touchesFirst reports
-stored {start} {σ} {t} {mk} {pl} {ca} {u} {c} {n} {f} {h} {fd} {to'} {wr} {lr} lc gr m b bs sp =
+stored {start} {σ} {t} {cs} {mk} {pl} {ca} {u} {c} {n} {f} {rn} {h} {fd} {to'} {wr} {lr} lc gr m b bs sp =
     let H : History = Hs pl ca answer.Store h fd false to' wr lr in
     let o : Entry = record { call = surface b bs; answer = answer.Offer offer.Command; buffer = u } in
-    λ ok. (fits-silent _ _ refl refl, at-rest lc (ground-none H o start (no-learn H o refl) refl (aside b sp (tableImage t) gr)) offer1)
+    λ ok. (fits-silent _ _ refl refl, at-rest lc (ground-none H o start (no-learn H o refl) refl (aside b sp (imageB rn t cs) gr)) offer1)
 
-module _ (start σ : Sectors) (t : Table) (pl : Block → Where) (ca : Block → List Bytes) where
-  abbrev Kp : Phase → Marks → Bytes → ℕ → ℕ → Bytes → Answer → Bytes → Bytes → Bool → Bool → Where → Call → Bool → Type 0
-  Kp p mk c n f u a h fd to wr lr x sp = Keeps start (W t (Ln p mk c n f) u σ a) (Hs pl ca a h fd false to wr lr) x sp
+module _ (start σ : Sectors) (t : Table) (cs : Bytes) (pl : Block → Where) (ca : Block → List Bytes) where
+  abbrev Kp : Phase → Marks → Bytes → ℕ → ℕ → ℕ → Bytes → Answer → Bytes → Bytes → Bool → Bool → Where → Call → Bool → Type 0
+  Kp p mk c n f rn u a h fd to wr lr x sp = Keeps start (W t cs (Ln p mk c n f rn) u σ a) (Hs pl ca a h fd false to wr lr) x sp
 
-  abbrev Sm : Phase → Marks → Bytes → ℕ → ℕ → Bytes → Answer → Bytes → Bytes → Bool → Bool → Where → Type 0
-  Sm p mk c n f u a h fd to wr lr = Sim start (W t (Ln p mk c n f) u σ a) (Hs pl ca a h fd false to wr lr)
+  abbrev Sm : Phase → Marks → Bytes → ℕ → ℕ → ℕ → Bytes → Answer → Bytes → Bytes → Bool → Bool → Where → Type 0
+  Sm p mk c n f rn u a h fd to wr lr = Sim start (W t cs (Ln p mk c n f rn) u σ a) (Hs pl ca a h fd false to wr lr)
 
   -- Every call in idle keeps the invariant.
-  rest-idle : {mk : Marks} {u c : Bytes} {n f : ℕ} {h fd : Bytes} {to' wr : Bool} {lr : Where} {a : Answer} → length c ≡ 6 → Ground (mk .known) t σ pl ca
-      → Sm phase.Idle mk c n f u a h fd to' wr lr → (x : Call) (sp : Bool) → Kp phase.Idle mk c n f u a h fd to' wr lr x sp
+  rest-idle : {mk : Marks} {u c : Bytes} {n f rn : ℕ} {h fd : Bytes} {to' wr : Bool} {lr : Where} {a : Answer} → length c ≡ 6 → Ground (mk .known) t σ pl ca
+      → Sm phase.Idle mk c n f rn u a h fd to' wr lr → (x : Call) (sp : Bool) → Kp phase.Idle mk c n f rn u a h fd to' wr lr x sp
   unfolding partLeft statusLeft raised lowered fedTo rested answered next heard learns acts underway touches touchesFirst reports placeNext candidatesNext
-  rest-idle {mk} {u} {c} {n} {f} {h} {fd} {to'} {wr} {lr} {a} lc gr m raise sp =
-      raised-idle-cases (λ (y : Turn). Good start (W t (Ln phase.Idle mk c n f) u σ a) (Hs pl ca a h fd false to' wr lr) (ev raise sp) (outOf t [] u y)) (Ln phase.Idle mk c n f)
+  rest-idle {mk} {u} {c} {n} {f} {rn} {h} {fd} {to'} {wr} {lr} {a} lc gr m raise sp =
+      raised-idle-cases (λ (y : Turn). Good start (W t cs (Ln phase.Idle mk c n f rn) u σ a) (Hs pl ca a h fd false to' wr lr) (ev raise sp) (outOf t cs [] u y)) (Ln phase.Idle mk c n f rn)
       (record { stores = λ q. λ ok. (fits-silent _ _ refl refl, at-rest lc gr storing); offers = λ q. λ ok. (fits-silent _ _ refl refl, at-rest lc gr offer1) })
   rest-idle lc gr m (lower b) sp = declined (lower b) sp refusal.Place [] m
   rest-idle lc gr m (feed bs) sp = declined (feed bs) sp refusal.Place bs m
@@ -127,28 +127,28 @@ module _ (start σ : Sectors) (t : Table) (pl : Block → Where) (ca : Block →
   rest-idle lc gr m reset sp = λ ok. (fits-silent _ _ refl refl, at-rest lc gr resting)
 
   -- So does another handshake byte: the command, if any, is neither good nor failed.
-  breaks-off : {mk : Marks} {u c : Bytes} {n f : ℕ} {q : Offer} {h fd : Bytes} {to' wr : Bool} {lr : Where} → length c ≡ 6 → Ground (mk .known) t σ pl ca
-      → Sm (phase.Offered q) mk c n f u (answer.Offer q) h fd to' wr lr → (b : ℕ) (sp : Bool) → eqb b 0x55 ≡ false
-      → Good start (W t (Ln (phase.Offered q) mk c n f) u σ (answer.Offer q)) (Hs pl ca (answer.Offer q) h fd false to' wr lr) (ev (lower b) sp) (outOf t [] u (brokenOff (Ln (phase.Offered q) mk c n f)))
+  breaks-off : {mk : Marks} {u c : Bytes} {n f rn : ℕ} {q : Offer} {h fd : Bytes} {to' wr : Bool} {lr : Where} → length c ≡ 6 → Ground (mk .known) t σ pl ca
+      → Sm (phase.Offered q) mk c n f rn u (answer.Offer q) h fd to' wr lr → (b : ℕ) (sp : Bool) → eqb b 0x55 ≡ false
+      → Good start (W t cs (Ln (phase.Offered q) mk c n f rn) u σ (answer.Offer q)) (Hs pl ca (answer.Offer q) h fd false to' wr lr) (ev (lower b) sp) (outOf t cs [] u (brokenOff (Ln (phase.Offered q) mk c n f rn)))
   unfolding partLeft statusLeft next heard learns acts underway touches touchesFirst reports placeNext candidatesNext
   breaks-off lc gr m b sp e = λ ok. (fits-silent _ _ (rw e) (rw e), rw e (at-rest lc gr resting))
 
   -- So does every call while an offer is made, if the lower with 55 does,
-  rest-offered : {mk : Marks} {u c : Bytes} {n f : ℕ} {q : Offer} {h fd : Bytes} {to' wr : Bool} {lr : Where} → length c ≡ 6 → Ground (mk .known) t σ pl ca
-      → Sm (phase.Offered q) mk c n f u (answer.Offer q) h fd to' wr lr
-      → ((sp : Bool) → Good start (W t (Ln (phase.Offered q) mk c n f) u σ (answer.Offer q)) (Hs pl ca (answer.Offer q) h fd false to' wr lr) (ev (lower 0x55) sp) (outOf t [] u (goesOn q (Ln (phase.Offered q) mk c n f) t)))
-      → (x : Call) (sp : Bool) → Kp (phase.Offered q) mk c n f u (answer.Offer q) h fd to' wr lr x sp
+  rest-offered : {mk : Marks} {u c : Bytes} {n f rn : ℕ} {q : Offer} {h fd : Bytes} {to' wr : Bool} {lr : Where} → length c ≡ 6 → Ground (mk .known) t σ pl ca
+      → Sm (phase.Offered q) mk c n f rn u (answer.Offer q) h fd to' wr lr
+      → ((sp : Bool) → Good start (W t cs (Ln (phase.Offered q) mk c n f rn) u σ (answer.Offer q)) (Hs pl ca (answer.Offer q) h fd false to' wr lr) (ev (lower 0x55) sp) (outOf t cs [] u (goesOn q (Ln (phase.Offered q) mk c n f rn) t)))
+      → (x : Call) (sp : Bool) → Kp (phase.Offered q) mk c n f rn u (answer.Offer q) h fd to' wr lr x sp
   unfolding partLeft statusLeft raised lowered fedTo rested answered next heard learns acts underway touches touchesFirst reports placeNext candidatesNext
   rest-offered lc gr m g raise sp = declined raise sp refusal.Place [] m
-  rest-offered {mk} {u} {c} {n} {f} {q} {h} {fd} {to'} {wr} {lr} lc gr m g (lower b) sp =
-      lowered-cases (λ (y : Turn). Good start w H (ev (lower b) sp) (outOf t [] u y)) q (Ln (phase.Offered q) mk c n f) t b
+  rest-offered {mk} {u} {c} {n} {f} {rn} {q} {h} {fd} {to'} {wr} {lr} lc gr m g (lower b) sp =
+      lowered-cases (λ (y : Turn). Good start w H (ev (lower b) sp) (outOf t cs [] u y)) q (Ln (phase.Offered q) mk c n f rn) t b
       (record {
-        goes = λ e. subst (λ (i : ℕ). Good start w H (ev (lower i) sp) (outOf t [] u (goesOn q (Ln (phase.Offered q) mk c n f) t))) (sym (eqb-true b 0x55 e)) (g sp);
+        goes = λ e. subst (λ (i : ℕ). Good start w H (ev (lower i) sp) (outOf t cs [] u (goesOn q (Ln (phase.Offered q) mk c n f rn) t))) (sym (eqb-true b 0x55 e)) (g sp);
         breaks = λ e. breaks-off lc gr m b sp e;
       })
     where
       w : World
-      w = W t (Ln (phase.Offered q) mk c n f) u σ (answer.Offer q)
+      w = W t cs (Ln (phase.Offered q) mk c n f rn) u σ (answer.Offer q)
 
       H : History
       H = Hs pl ca (answer.Offer q) h fd false to' wr lr
@@ -157,10 +157,10 @@ module _ (start σ : Sectors) (t : Table) (pl : Block → Where) (ca : Block →
   rest-offered lc gr m g reset sp = λ ok. (fits-silent _ _ refl refl, at-rest lc gr resting)
 
   -- while command bytes are taken,
-  rest-command : {mk : Marks} {u c : Bytes} {n f : ℕ} {h fd : Bytes} {to' wr : Bool} {lr : Where} → length u ≡ 536 → length c ≡ 6 → Ground (mk .known) t σ pl ca → Prefix 6 6 c n h
-      → Sm phase.Command mk c n f u answer.Wait h fd to' wr lr → (x : Call) (sp : Bool) → Kp phase.Command mk c n f u answer.Wait h fd to' wr lr x sp
+  rest-command : {mk : Marks} {u c : Bytes} {n f rn : ℕ} {h fd : Bytes} {to' wr : Bool} {lr : Where} → length u ≡ 536 → length c ≡ 6 → Ground (mk .known) t σ pl ca → Prefix 6 6 c n h
+      → Sm phase.Command mk c n f rn u answer.Wait h fd to' wr lr → (x : Call) (sp : Bool) → Kp phase.Command mk c n f rn u answer.Wait h fd to' wr lr x sp
   unfolding partLeft statusLeft raised lowered fedTo rested answered next heard learns acts underway touches touchesFirst reports placeNext candidatesNext
-  rest-command {mk} {u} {c} {n} {f} {h} {fd} {to'} {wr} {lr} lu lc gr p m raise sp =
+  rest-command {mk} {u} {c} {n} {f} {rn} {h} {fd} {to'} {wr} {lr} lu lc gr p m raise sp =
       offer-for-cases P (kindOf c) n
       (record {
         read = λ q. λ ok. (fits-silent _ _ refl refl, at-rest lc gr (offer2 (cmd-of c h n 6 p (and-right (isRead (kindOf c)) (leb 6 n) q) (omega arith)) (and-left (isRead (kindOf c)) (leb 6 n) q)));
@@ -170,7 +170,7 @@ module _ (start σ : Sectors) (t : Table) (pl : Block → Where) (ca : Block →
       })
     where
       P : Offer → Type 0
-      P o = Good start (W t (Ln phase.Command mk c n f) u σ answer.Wait) (Hs pl ca answer.Wait h fd false to' wr lr) (ev raise sp) (outOf t [] u (offers (Ln phase.Command mk c n f) o))
+      P o = Good start (W t cs (Ln phase.Command mk c n f rn) u σ answer.Wait) (Hs pl ca answer.Wait h fd false to' wr lr) (ev raise sp) (outOf t cs [] u (offers (Ln phase.Command mk c n f rn) o))
 
       long : (w : Bool) → (w && leb 4 n) ≡ true → Cmd c h
       long w q = cmd-of c h n 4 p (and-right w (leb 4 n) q) (omega arith)
@@ -182,34 +182,34 @@ module _ (start σ : Sectors) (t : Table) (pl : Block → Where) (ca : Block →
   rest-command lu lc gr p m reset sp = λ ok. (fits-silent _ _ refl refl, at-rest lc gr resting)
 
   -- while data bytes are taken,
-  rest-taking : {mk : Marks} {u c : Bytes} {n f : ℕ} {h fd : Bytes} {to' wr : Bool} {lr : Where} → length u ≡ 536 → length c ≡ 6 → Ground (mk .known) t σ pl ca → Cmd c h → isRead (kindOf c) ≡ false
+  rest-taking : {mk : Marks} {u c : Bytes} {n f rn : ℕ} {h fd : Bytes} {to' wr : Bool} {lr : Where} → length u ≡ 536 → length c ≡ 6 → Ground (mk .known) t σ pl ca → Cmd c h → isRead (kindOf c) ≡ false
       → Prefix 532 533 (dataOf u) f fd
-      → Sm phase.Data mk c n f u answer.Wait h fd to' wr lr → (x : Call) (sp : Bool) → Kp phase.Data mk c n f u answer.Wait h fd to' wr lr x sp
+      → Sm phase.Data mk c n f rn u answer.Wait h fd to' wr lr → (x : Call) (sp : Bool) → Kp phase.Data mk c n f rn u answer.Wait h fd to' wr lr x sp
   unfolding partLeft statusLeft raised lowered fedTo rested answered next heard learns acts underway touches touchesFirst reports placeNext candidatesNext
   rest-taking {u = u} {f = f} {fd = fd} lu lc gr cm op tk m raise sp = λ ok. (fits-silent _ _ refl refl, at-rest lc gr (offer6 cm op (data-padded u fd f lu tk)))
   rest-taking lu lc gr cm op tk m (lower b) sp = declined (lower b) sp refusal.Place [] m
-  rest-taking {mk} {u} {c} {n} {f} {h} {fd} lu lc gr cm op tk m (feed bs) sp =
+  rest-taking {mk} {u} {c} {n} {f} {rn} {h} {fd} lu lc gr cm op tk m (feed bs) sp =
       λ ok. (fits-silent _ _ refl refl, at-rest lc gr (takes (cmd-more c h bs cm) op (data-fed u bs fd f lu tk)))
   rest-taking lu lc gr cm op tk m (surface b bs) sp = declined (surface b bs) sp refusal.Place bs m
   rest-taking lu lc gr cm op tk m reset sp = λ ok. (fits-silent _ _ refl refl, at-rest lc gr resting)
 
-  rest-storing : {mk : Marks} {u c : Bytes} {n f : ℕ} {h fd : Bytes} {to' wr : Bool} {lr : Where} → length c ≡ 6 → Ground (mk .known) t σ pl ca
-      → Sm (phase.Awaiting access.Store) mk c n f u answer.Store h fd to' wr lr → (x : Call) (sp : Bool) → Kp (phase.Awaiting access.Store) mk c n f u answer.Store h fd to' wr lr x sp
+  rest-storing : {mk : Marks} {u c : Bytes} {n f rn : ℕ} {h fd : Bytes} {to' wr : Bool} {lr : Where} → length c ≡ 6 → Ground (mk .known) t σ pl ca
+      → Sm (phase.Awaiting access.Store) mk c n f rn u answer.Store h fd to' wr lr → (x : Call) (sp : Bool) → Kp (phase.Awaiting access.Store) mk c n f rn u answer.Store h fd to' wr lr x sp
   unfolding follows
   rest-storing lc gr m x sp = awaiting m (λ b bs sp z. stored lc gr m b bs sp) x sp
 
   -- EVERY CALL BETWEEN COMMANDS.
-  pub rests : {mk : Marks} {u c : Bytes} {n f : ℕ} {p : Phase} {h fd : Bytes} {to' wr : Bool} {lr : Where} {a : Answer} → length u ≡ 536 → length c ≡ 6 → Ground (mk .known) t σ pl ca → Shake u p c n f a h fd
-      → Sm p mk c n f u a h fd to' wr lr → (x : Call) (sp : Bool) → Kp p mk c n f u a h fd to' wr lr x sp
+  pub rests : {mk : Marks} {u c : Bytes} {n f rn : ℕ} {p : Phase} {h fd : Bytes} {to' wr : Bool} {lr : Where} {a : Answer} → length u ≡ 536 → length c ≡ 6 → Ground (mk .known) t σ pl ca → Shake u p c n f a h fd
+      → Sm p mk c n f rn u a h fd to' wr lr → (x : Call) (sp : Bool) → Kp p mk c n f rn u a h fd to' wr lr x sp
   unfolding partLeft statusLeft goesOn next heard learns acts underway touches touchesFirst reports placeNext candidatesNext
   rests lu lc gr storing m x sp = rest-storing lc gr m x sp
   rests lu lc gr resting m x sp = rest-idle lc gr m x sp
   rests {c = c} lu lc gr offer1 m x sp = rest-offered lc gr m (λ s. λ ok. (fits-silent _ _ refl refl, at-rest lc gr (heads (prefix-none 6 6 c lc)))) x sp
   rests lu lc gr (heads p) m x sp = rest-command lu lc gr p m x sp
-  rests {mk} {u} {to' = to'} {wr = wr} {lr = lr} lu lc gr (offer2 {c = c} {n = n} {h = h} {fd = fd} cm op) m x sp =
-      rest-offered lc gr m (λ s. acts-well start σ t mk pl ca u c n 0 offer.Read h fd to' wr lr lc gr refl cm (λ z. clash op z) s) x sp
+  rests {mk} {u} {rn = rn} {to' = to'} {wr = wr} {lr = lr} lu lc gr (offer2 {c = c} {n = n} {h = h} {fd = fd} cm op) m x sp =
+      rest-offered lc gr m (λ s. acts-well start σ t cs mk pl ca u c n 0 rn offer.Read h fd to' wr lr lc gr refl cm (λ z. clash op z) s) x sp
   rests {u = u} lu lc gr (offer3 cm op) m x sp = rest-offered lc gr m (λ s. λ ok. (fits-silent _ _ refl refl, at-rest lc gr (takes cm op (prefix-none 532 533 (dataOf u) (data-length u lu))))) x sp
   rests {u = u} lu lc gr (offer4 cm op) m x sp = rest-offered lc gr m (λ s. λ ok. (fits-silent _ _ refl refl, at-rest lc gr (takes cm op (prefix-none 532 533 (dataOf u) (data-length u lu))))) x sp
   rests lu lc gr (takes cm op tk) m x sp = rest-taking lu lc gr cm op tk m x sp
-  rests {mk} {u} {to' = to'} {wr = wr} {lr = lr} lu lc gr (offer6 {c = c} {n = n} {f = f} {h = h} {fd = fd} cm op ed) m x sp =
-      rest-offered lc gr m (λ s. acts-well start σ t mk pl ca u c n f offer.Act h fd to' wr lr lc gr refl cm (λ z. ed) s) x sp
+  rests {mk} {u} {rn = rn} {to' = to'} {wr = wr} {lr = lr} lu lc gr (offer6 {c = c} {n = n} {f = f} {h = h} {fd = fd} cm op ed) m x sp =
+      rest-offered lc gr m (λ s. acts-well start σ t cs mk pl ca u c n f rn offer.Act h fd to' wr lr lc gr refl cm (λ z. ed) s) x sp

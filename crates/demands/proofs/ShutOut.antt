@@ -17,6 +17,7 @@ use Rattle.table.specs.declared.Table.{Table}
 use Rattle.table.specs.Tables.{spareList, killedNext}
 use Rattle.buffer.specs.Runs.{same}
 use Rattle.buffer.proofs.Compare.{same-equal}
+use Rattle.drive.specs.declared.Cause.{Cause}
 use Rattle.drive.specs.declared.Access.{Access}
 use Rattle.drive.specs.declared.Access.the-variants as access
 use Rattle.drive.specs.declared.Answer.the-variants as answer
@@ -93,10 +94,10 @@ not-compared (phase.Awaiting (access.Verify w)) h = sym h
 not-compared (phase.Awaiting (access.TrialWrite r)) h = refl
 not-compared (phase.Awaiting (access.TrialRead r)) h = sym h
 
-module _ (t : Table) (bs u : List ℕ) where
+module _ (t : Table) (cs bs u : List ℕ) where
   -- Says that a turn does not end well.
   abbrev pub Bad : Turn → Type 0
-  Bad x = endsWell (outOf t bs u x) ≡ true → ⊥
+  Bad x = endsWell (outOf t cs bs u x) ≡ true → ⊥
 
   -- A failure is one, whatever becomes of the table.
   pub bad-finish : (l : State) (e : Ending) (s : Seen) (p : Part) → fails e ≡ true → Bad (finish l change.Keep e s p)
@@ -136,10 +137,10 @@ module _ (t : Table) (bs u : List ℕ) where
     pub ended : (c : Change) (e : Ending) (s : Seen) → fails e ≡ true → P (finish l c e s part.Kept)
     ended c e s f = h _ (record { bad = bad-finish l e s part.Kept f; unread = refl })
 
-    pub nexts : (n : ℕ) (c : Change) (b : Block) (s : Seen) → NextSpare P n l c b s
+    pub nexts : (n : ℕ) (c : Change) (b : Block) (s : Seen) {x y : Cause} → NextSpare P n l c b s x y
     nexts n c b s = record { spare = λ e. h _ (record { bad = λ z. clash z refl; unread = refl }); no-spare = λ e. ended c _ s refl }
 
-    pub misses : (r : Trial) (s : Seen) → Missed P l t r s
+    pub misses : (r : Trial) (s : Seen) {x : Cause} → Missed P l t r s x
     misses r s = record { dead = λ e. nexts _ _ (r .block) s; left = λ e. nexts _ _ (r .block) s }
 
     pub stops : (r : Trial) → Stopped P l r
@@ -147,19 +148,19 @@ module _ (t : Table) (bs u : List ℕ) where
 
   -- A WRITE REPORTED GOOD WAS MADE. A write command ends well by its write only if that is a plain write's, answered 0;
   module _ (l : State) (w : Target) (a : ℕ) where
-    pub write-made : endsWell (outOf t bs u (writeAnswered l t w a)) ≡ true → (a ≡ 0) × (w .verify ≡ false)
+    pub write-made : endsWell (outOf t cs bs u (writeAnswered l t w a)) ≡ true → (a ≡ 0) × (w .verify ≡ false)
     write-made =
         write-cases N l t w a
         (record { verifies = λ e f h. clash h refl; done = λ e f h. (eqb-true a 0 e, f); stops = λ e f. ended N not-well l change.Keep _ _ refl; moves = λ e f. nexts N not-well l _ _ (w .block) _ })
       where
         N : Turn → Type 0
-        N x = endsWell (outOf t bs u x) ≡ true → (a ≡ 0) × (w .verify ≡ false)
+        N x = endsWell (outOf t cs bs u x) ≡ true → (a ≡ 0) × (w .verify ≡ false)
 
         not-well : (x : Turn) → Fails x → N x
         not-well x f h = absurd (f .bad h)
 
     -- by its first verify only if that brought the same bytes;
-    pub verify-made : endsWell (outOf t bs u (verifyAnswered l w a (eqb a 0 && same bs (dataOf u)))) ≡ true → (a ≡ 0) × (bs ≡ dataOf u)
+    pub verify-made : endsWell (outOf t cs bs u (verifyAnswered l w a (eqb a 0 && same bs (dataOf u)))) ≡ true → (a ≡ 0) × (bs ≡ dataOf u)
     verify-made =
         verify-cases N l w a (eqb a 0 && same bs (dataOf u))
         (record {
@@ -169,7 +170,7 @@ module _ (t : Table) (bs u : List ℕ) where
         })
       where
         N : Turn → Type 0
-        N x = endsWell (outOf t bs u x) ≡ true → (a ≡ 0) × (bs ≡ dataOf u)
+        N x = endsWell (outOf t cs bs u x) ≡ true → (a ≡ 0) × (bs ≡ dataOf u)
 
   module _ (l : State) (r : Trial) (a : ℕ) where
     -- a trial's first reread is asked for only after its write was answered 0,
@@ -183,7 +184,7 @@ module _ (t : Table) (bs u : List ℕ) where
         not-read x f h = clash h (not-compared (x .state .phase) (f .unread))
 
     -- and a command ends well by a trial only with its last reread, and at most 30 failures.
-    pub trial-passed : (equal : Bool) → endsWell (outOf t bs u (checked l t r a equal)) ≡ true → (100 ≤ counted r a equal .rereads) × (counted r a equal .failures ≤ 30)
+    pub trial-passed : (equal : Bool) → endsWell (outOf t cs bs u (checked l t r a equal)) ≡ true → (100 ≤ counted r a equal .rereads) × (counted r a equal .failures ≤ 30)
     trial-passed equal =
         let x : Trial = counted r a equal in
         checked-cases N l t r a equal
@@ -197,7 +198,7 @@ module _ (t : Table) (bs u : List ℕ) where
         })
       where
         N : Turn → Type 0
-        N x = endsWell (outOf t bs u x) ≡ true → (100 ≤ counted r a equal .rereads) × (counted r a equal .failures ≤ 30)
+        N x = endsWell (outOf t cs bs u x) ≡ true → (100 ≤ counted r a equal .rereads) × (counted r a equal .failures ≤ 30)
 
         not-well : (x : Turn) → Fails x → N x
         not-well x f h = absurd (f .bad h)
@@ -207,11 +208,11 @@ abbrev pub saysNoSpare : Out → Bool
 saysNoSpare y = ofAnswer (y .step .answer) .finished && bit 64 (getD (y .bytes) 1 0)
 
 -- "NO SPARE" ONLY WITH 32 ENTRIES LISTED: the table as the call leaves it has no unused spare.
-module _ (l : State) (t : Table) (bs u : List ℕ) where
+module _ (l : State) (t : Table) (cs bs u : List ℕ) where
   abbrev pub Full : Turn → Type 0
-  Full x = saysNoSpare (outOf t bs u x) ≡ true → 32 ≤ outOf t bs u x .step .drive .table .nspares
+  Full x = saysNoSpare (outOf t cs bs u x) ≡ true → 32 ≤ outOf t cs bs u x .step .drive .table .nspares
 
-  quiet : {A : Type 0} (e : Ending) (s : Seen) (p : Part) → bit 64 (rowOf e .1) ≡ false → saysNoSpare (outOf t bs u (finish l change.Keep e s p)) ≡ true → A
+  quiet : {A : Type 0} (e : Ending) (s : Seen) (p : Part) → bit 64 (rowOf e .1) ≡ false → saysNoSpare (outOf t cs bs u (finish l change.Keep e s p)) ≡ true → A
   unfolding statusLeft statusOf
   quiet e s p h z = clash z h
 
@@ -219,10 +220,10 @@ module _ (l : State) (t : Table) (bs u : List ℕ) where
   unfolding killedNext
   killed-most h = branch (λ (x : Table). 32 ≤ x .nspares) (ltb (t .nspares) 32) (λ e. h) (λ e. ltb-false (t .nspares) 32 e)
 
-  left-full : (b : Block) (s : Seen) → NextSpare Full (t .nspares) l change.Keep b s
+  left-full : (b : Block) (s : Seen) {x y : Cause} → NextSpare Full (t .nspares) l change.Keep b s x y
   left-full b s = record { spare = λ g z. clash z refl; no-spare = λ g z. ltb-false (t .nspares) 32 g }
 
-  misses-full : (r : Trial) (s : Seen) → Missed Full l t r s
+  misses-full : (r : Trial) (s : Seen) {x : Cause} → Missed Full l t r s x
   misses-full r s =
       record {
         dead = λ e. record { spare = λ g z. clash z refl; no-spare = λ g z. killed-most (ltb-false (t .nspares + 1) 32 g) };
@@ -271,15 +272,15 @@ module _ (l : State) (t : Table) (bs u : List ℕ) where
   no-spare-read (outcome.Stop r) p = quiet ending.Latched _ p refl
 
 -- Returns the result of a command that ended well, with these bytes in the data part.
-abbrev pub goodWith : Table → State → Seen → List ℕ → Out
-goodWith t l s bs =
-    record { step = record { drive = record { table = t; state = withMarks l (finished (l .marks) change.Keep ending.Good) phase.Idle }; answer = answer.Finished }; bytes = four (statusOf ending.Good s (l .marks .fresh)) ++ bs }
+abbrev pub goodWith : Table → List ℕ → State → Seen → List ℕ → Out
+goodWith t cs l s bs =
+    record { step = record { drive = record { table = t; causes = cs; state = withMarks l (finished (l .marks) change.Keep ending.Good) phase.Idle }; answer = answer.Finished }; bytes = four (statusOf ending.Good s (l .marks .fresh)) ++ bs }
 
 -- A FIRST GOOD READ IS GOOD, with those bytes.
-pub first-good : (r : Retry) (l : State) (t : Table) (u bs : List ℕ) (equal : Bool) → r .first ≡ true → r .good ≡ false → length u ≡ 536 → length bs ≡ 532
-    → outOf t bs u (answered (phase.Awaiting (access.Read r)) l t 0 bs equal) ≡ goodWith t l (r .seen) bs
+pub first-good : (r : Retry) (l : State) (t : Table) (cs u bs : List ℕ) (equal : Bool) → r .first ≡ true → r .good ≡ false → length u ≡ 536 → length bs ≡ 532
+    → outOf t cs bs u (answered (phase.Awaiting (access.Read r)) l t 0 bs equal) ≡ goodWith t cs l (r .seen) bs
 unfolding answered fitting follows afterRead reads keptPart partLeft statusLeft
-first-good r l t u bs equal f g lu lb = rw (eq-eqb (length bs) 532 lb, f, g, take-all 532 bs (omega arith), data-put u bs lu lb, data-with u bs lu)
+first-good r l t cs u bs equal f g lu lb = rw (eq-eqb (length bs) 532 lb, f, g, take-all 532 bs (omega arith), data-put u bs lu lb, data-with u bs lu)
 
 -- A READ OF A BLOCK WHOSE FIRST ANSWER IS 0 FINISHES GOOD WITH THOSE BYTES.
 module _ (v : ℕ) (d : Drive) (u bs : List ℕ) (o : OffersRead v d) (ty : Typed d) (lu : length u ≡ 536) (lb : length bs ≡ 532) (i : isBlock v ≡ true) where
@@ -287,7 +288,7 @@ module _ (v : ℕ) (d : Drive) (u bs : List ℕ) (o : OffersRead v d) (ty : Type
   order = orderOf (d .state .command)
 
   abbrev asked : Out
-  asked = outOf (d .table) [] u (firstRead order (d .state) (spareList (d .table)))
+  asked = outOf (d .table) (d .causes) [] u (firstRead order (d .state) (spareList (d .table)))
 
   not-this : (m : ℕ) → isBlock m ≡ false → eqb (order .number) m ≡ false
   not-this m e = ne-eqb (order .number) m (λ q. clash (ap isBlock (sym q ∙ o .number) ∙ i) e)
@@ -310,9 +311,9 @@ module _ (v : ℕ) (d : Drive) (u bs : List ℕ) (o : OffersRead v d) (ty : Type
   asked-ok = subst (λ (x : Out). recordOk (x .step .drive) ≡ true) asks-for-it (step-valid (lower 0x55) d u (omega arith) ty (o .valid))
 
   -- and its answer 0 ends the command, good, with the bytes that it brought.
-  pub gives-it : surfaceOf (asked .step .drive) u 0 bs ≡ goodWith (d .table) (asked .step .drive .state) clean bs
+  pub gives-it : surfaceOf (asked .step .drive) u 0 bs ≡ goodWith (d .table) (d .causes) (asked .step .drive .state) clean bs
   unfolding surfaceOf
-  gives-it = rw (asked-ok, eq-eqb (length u) 536 lu) (first-good _ (asked .step .drive .state) (d .table) u bs _ refl refl lu lb)
+  gives-it = rw (asked-ok, eq-eqb (length u) 536 lu) (first-good _ (asked .step .drive .state) (d .table) (d .causes) u bs _ refl refl lu lb)
 
   -- However it ends, its status 4 is the number of the R rereads answered 1 or 2, R being the fifth byte of the command.
   pub status-4-of-it : (x : Reply) (xs : List Reply) → Completes command (asked .step .drive) u (x ∷ xs)
@@ -333,9 +334,9 @@ over-cond f false x y = refl
 
 -- ACTING ON A COMMAND DEPENDS ON ITS OWN OPCODE, NUMBER, R, T AND COUNT OF DATA BYTES, ON TABLE AND MARKS, and on nothing else: two
 -- states that differ in all else give the same answer, change of the table, phase and marks, and leave the same in the buffer.
-pub acts-alike : (o : Order) (p p' : Phase) (m : Marks) (c c' : List ℕ) (n n' f : ℕ) (t : Table) → Alike (acted o (Ln p m c n f) t) (acted o (Ln p' m c' n' f) t)
+pub acts-alike : (o : Order) (p p' : Phase) (m : Marks) (c c' : List ℕ) (n n' f k k' : ℕ) (t : Table) → Alike (acted o (Ln p m c n f k) t) (acted o (Ln p' m c' n' f k') t)
 unfolding acted writes
-acts-alike o p p' m c c' n n' f t =
+acts-alike o p p' m c c' n n' f k k' t =
     record {
       answer = simp (over-cond (λ (x : Turn). x .answer));
       change = simp (over-cond (λ (x : Turn). x .change));

@@ -36,11 +36,11 @@ use Rattle.drive.specs.Views.{Bytes, Where, nowhere, at}
 use Rattle.demands.proofs.Parts.{Prefix, Cmd}
 
 -- Returns a state, a world, a history, written out.
-abbrev pub Ln : Phase → Marks → Bytes → ℕ → ℕ → State
-Ln p mk c n f = record { phase = p; marks = mk; command = c; count = n; fed = f }
+abbrev pub Ln : Phase → Marks → Bytes → ℕ → ℕ → ℕ → State
+Ln p mk c n f rn = record { phase = p; marks = mk; command = c; count = n; fed = f; run = rn }
 
-abbrev pub W : Table → State → Bytes → Sectors → Answer → World
-W t l u σ a = record { drive = record { table = t; state = l }; buffer = u; sectors = σ; asked = a }
+abbrev pub W : Table → Bytes → State → Bytes → Sectors → Answer → World
+W t cs l u σ a = record { drive = record { table = t; causes = cs; state = l }; buffer = u; sectors = σ; asked = a }
 
 abbrev pub Hs : (Block → Where) → (Block → List Bytes) → Answer → Bytes → Bytes → Bool → Bool → Bool → Where → History
 Hs pl ca a h fd ac to wr lr =
@@ -113,14 +113,14 @@ pub data Work (t : Table) (σ : Sectors) (pl : Block → Where) (ca : Block → 
 
 -- THE INVARIANT: lists what record, buffer, sectors and history may be together.
 pub data Sim (start : Sectors) : World → History → Type 0 where
-  at-start : {t : Table} {mk : Marks} {c : Bytes} {n f k : ℕ} {u : Bytes} {pl : Block → Where} {ca : Block → List Bytes} {h fd : Bytes} {to wr : Bool} {lr : Where}
+  at-start : {t : Table} {cs : Bytes} {mk : Marks} {c : Bytes} {n f k rn : ℕ} {u : Bytes} {pl : Block → Where} {ca : Block → List Bytes} {h fd : Bytes} {to wr : Bool} {lr : Where}
       → length c ≡ 6 → mk .known ≡ false → ((b : Block) → pl b ≡ nowhere)
-      → Sim start (W t (Ln (phase.Awaiting (access.Start k)) mk c n f) u start (answer.Read tableSector)) (Hs pl ca (answer.Read tableSector) h fd false to wr lr)
-  at-rest : {t : Table} {mk : Marks} {c : Bytes} {n f : ℕ} {p : Phase} {u : Bytes} {σ : Sectors} {a : Answer} {pl : Block → Where} {ca : Block → List Bytes} {h fd : Bytes} {to wr : Bool} {lr : Where}
-      → length c ≡ 6 → Ground (mk .known) t σ pl ca → Shake u p c n f a h fd → Sim start (W t (Ln p mk c n f) u σ a) (Hs pl ca a h fd false to wr lr)
-  at-work : {t : Table} {mk : Marks} {c : Bytes} {n f : ℕ} {x : Access} {u : Bytes} {σ : Sectors} {a : Answer} {pl : Block → Where} {ca : Block → List Bytes} {h fd : Bytes} {wr : Bool} {lr : Where} {b : Block} {rd : Bool}
+      → Sim start (W t cs (Ln (phase.Awaiting (access.Start k)) mk c n f rn) u start (answer.Read tableSector)) (Hs pl ca (answer.Read tableSector) h fd false to wr lr)
+  at-rest : {t : Table} {cs : Bytes} {mk : Marks} {c : Bytes} {n f rn : ℕ} {p : Phase} {u : Bytes} {σ : Sectors} {a : Answer} {pl : Block → Where} {ca : Block → List Bytes} {h fd : Bytes} {to wr : Bool} {lr : Where}
+      → length c ≡ 6 → Ground (mk .known) t σ pl ca → Shake u p c n f a h fd → Sim start (W t cs (Ln p mk c n f rn) u σ a) (Hs pl ca a h fd false to wr lr)
+  at-work : {t : Table} {cs : Bytes} {mk : Marks} {c : Bytes} {n f rn : ℕ} {x : Access} {u : Bytes} {σ : Sectors} {a : Answer} {pl : Block → Where} {ca : Block → List Bytes} {h fd : Bytes} {wr : Bool} {lr : Where} {b : Block} {rd : Bool}
       → length c ≡ 6 → mk .known ≡ true → Blocky b → numberOf h ≡ b .0 → isRead (kindOf h) ≡ rd → Work t σ pl ca b rd u (padded fd) x a wr lr
-      → Sim start (W t (Ln (phase.Awaiting x) mk c n f) u σ a) (Hs pl ca a h fd true true wr lr)
+      → Sim start (W t cs (Ln (phase.Awaiting x) mk c n f rn) u σ a) (Hs pl ca a h fd true true wr lr)
 
 -- WHAT A CALL HAS TO KEEP, as a property of its result.
 abbrev pub Good : Sectors → World → History → Event → Out → Type 0
@@ -130,8 +130,8 @@ abbrev pub ev : Call → Bool → Event
 ev c sp = record { call = c; spoils = sp }
 
 -- A refusal keeps all.
-pub declined : {start : Sectors} {t : Table} {l : State} {u : Bytes} {σ : Sectors} {a : Answer} {H : History} (c : Call) (sp : Bool) (r : Refusal) (bs : Bytes)
-    → Sim start (W t l u σ a) H → Good start (W t l u σ a) H (ev c sp) (outOf t bs u (refuse r l))
+pub declined : {start : Sectors} {t : Table} {cs : Bytes} {l : State} {u : Bytes} {σ : Sectors} {a : Answer} {H : History} (c : Call) (sp : Bool) (r : Refusal) (bs : Bytes)
+    → Sim start (W t cs l u σ a) H → Good start (W t cs l u σ a) H (ev c sp) (outOf t cs bs u (refuse r l))
 unfolding next partLeft statusLeft
 declined c sp r bs m = λ ok. (record { read-rule = λ x. clash x refl; first-rule = λ x. clash x refl }, m)
 

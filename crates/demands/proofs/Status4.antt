@@ -11,6 +11,7 @@ use borrow.Author.Tests.{eqb-true, ltb-true, ltb-false, leb-true}
 use Rattle.geometry.specs.declared.Block.{Block}
 use Rattle.logic.proofs.Bools.{clash, and-left}
 use Rattle.table.specs.declared.Table.{Table}
+use Rattle.drive.specs.declared.Cause.{Cause}
 use Rattle.drive.specs.declared.Access.{Access}
 use Rattle.drive.specs.declared.Access.the-variants as access
 use Rattle.drive.specs.declared.Answer.{Answer}
@@ -92,10 +93,10 @@ module _ (t : Table) (l : State) (bs u : List ℕ) (F : List ℕ → ℕ) where
   ended e s p h = inl (refl, refl, h)
 
   -- sparing,
-  nexts : (n : ℕ) (c : Change) (b : Block) (s : Seen) → ((ys : List ℕ) → s .errors ≡ F ys) → NextSpare K n l c b s
+  nexts : (n : ℕ) (c : Change) (b : Block) (s : Seen) → ((ys : List ℕ) → s .errors ≡ F ys) → {x y : Cause} → NextSpare K n l c b s x y
   nexts n c b s h = record { spare = λ e. inr (refl, refl, refl, h); no-spare = λ e. ended _ _ _ (h []) }
 
-  misses : (r : Trial) (s : Seen) → ((ys : List ℕ) → s .errors ≡ F ys) → Missed K l t r s
+  misses : (r : Trial) (s : Seen) → ((ys : List ℕ) → s .errors ≡ F ys) → {x : Cause} → Missed K l t r s x
   misses r s h = record { dead = λ e. nexts _ _ (r .block) s h; left = λ e. nexts _ _ (r .block) s h }
 
   stops : (r : Trial) → r .seen .errors ≡ F [] → Stopped K l r

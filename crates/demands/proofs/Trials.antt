@@ -11,6 +11,7 @@ use Rattle.logic.proofs.Bools.{clash, and-left, and-right}
 use Rattle.geometry.specs.declared.Block.{Block}
 use Rattle.table.specs.declared.Table.{Table}
 use Rattle.buffer.specs.Runs.{same}
+use Rattle.drive.specs.declared.Cause.{Cause}
 use Rattle.drive.specs.declared.Access.the-variants as access
 use Rattle.drive.specs.declared.Answer.{Answer}
 use Rattle.drive.specs.declared.Answer.the-variants as answer
@@ -39,9 +40,9 @@ use Rattle.records.proofs.Ladders.{NextSpare, judged-cases}
 use Rattle.demands.proofs.Statuses.{fails, good-is, data-ended}
 
 -- WHAT THE LAST ANSWER DECIDES, with n spares listed if the sector failed, and f failures
-module _ (t : Table) (l : State) (u bs : List ℕ) (n f : ℕ) where
+module _ (t : Table) (cs : List ℕ) (l : State) (u bs : List ℕ) (n f : ℕ) where
   abbrev Decides : Turn → Type 0
-  Decides x = Decided n f (dataOf u) (outOf t bs u x)
+  Decides x = Decided n f (dataOf u) (outOf t cs bs u x)
 
   passed : leb f 30 ≡ true → (c : Change) (e : Ending) (s : Seen) → fails e ≡ false → Decides (finish l c e s part.Kept)
   unfolding good partLeft statusLeft
@@ -53,7 +54,7 @@ module _ (t : Table) (l : State) (u bs : List ℕ) (n f : ℕ) where
         stays = data-ended raise answer.Finished e s (l .marks .fresh) u;
       }
 
-  missed : leb f 30 ≡ false → (c : Change) (b : Block) (s : Seen) → NextSpare Decides n l c b s
+  missed : leb f 30 ≡ false → (c : Change) (b : Block) (s : Seen) {x y : Cause} → NextSpare Decides n l c b s x y
   unfolding good partLeft statusLeft
   missed h c b s =
       record {
@@ -67,22 +68,22 @@ module _ (t : Table) (l : State) (u bs : List ℕ) (n f : ℕ) where
             };
       }
 
-decides : (t : Table) (l : State) (u bs : List ℕ) (r : Trial) → 100 ≤ r .rereads → Decides t l u bs (listedThen t r) (r .failures) (judged l t r)
-decides t l u bs r h =
-    judged-cases (Decides t l u bs (listedThen t r) (r .failures)) l t r
+decides : (t : Table) (cs : List ℕ) (l : State) (u bs : List ℕ) (r : Trial) → 100 ≤ r .rereads → Decides t cs l u bs (listedThen t r) (r .failures) (judged l t r)
+decides t cs l u bs r h =
+    judged-cases (Decides t cs l u bs (listedThen t r) (r .failures)) l t r
     (record {
       again = λ e. clash e (le-ltb (r .rereads) 100 h);
       passes = λ e p.
-          let good-end = passed t l u bs (listedThen t r) (r .failures) p in
+          let good-end = passed t cs l u bs (listedThen t r) (r .failures) p in
           record {
-            moved = λ g. good-end (change.Move (r .block)) ending.Moved (r .seen) refl;
+            moved = λ g. good-end (change.Move (r .block) (r .before) (r .present)) ending.Moved (r .seen) refl;
             listed = λ g i. good-end (change.Remove (r .block)) ending.Good (r .seen) refl;
             stays = λ g i. good-end change.Keep ending.Good (r .seen) refl;
           };
       fails = λ e p.
           record {
-            dead = λ g. rw g (missed t l u bs (t .nspares + 1) (r .failures) p change.Kill (r .block) (r .seen));
-            left = λ g. rw g (missed t l u bs (t .nspares) (r .failures) p change.Keep (r .block) (r .seen));
+            dead = λ g. rw g (missed t cs l u bs (t .nspares + 1) (r .failures) p (change.Kill (r .last)) (r .block) (r .seen));
+            left = λ g. rw g (missed t cs l u bs (t .nspares) (r .failures) p change.Keep (r .block) (r .seen));
           };
     })
 
@@ -95,10 +96,10 @@ few : (same : Bool) {f n : ℕ} → f ≤ n → f + cond same 0 1 ≤ n + 1
 few true h = omega arith
 few false h = omega arith
 
-module _ (t : Table) (l : State) (u : List ℕ) (long : length u ≡ 536) where
+module _ (t : Table) (cs : List ℕ) (l : State) (u : List ℕ) (long : length u ≡ 536) where
   -- Returns a record that awaits a reread of a trial, and a call's result with it.
   abbrev awaiting : Trial → Drive
-  awaiting r = record { table = t; state = inPhase l (phase.Awaiting (access.TrialRead r)) }
+  awaiting r = record { table = t; causes = cs; state = inPhase l (phase.Awaiting (access.TrialRead r)) }
 
   abbrev asked : Trial → Answer → Out
   asked r a = record { step = record { drive = awaiting r; answer = a }; bytes = u }
@@ -110,7 +111,7 @@ module _ (t : Table) (l : State) (u : List ℕ) (long : length u ≡ 536) where
   abbrev after : Trial → Reply → Trial
   after r y = counted r (y .number) (isSame y)
 
-  judges : (r : Trial) (y : Reply) → recordOk (awaiting r) ≡ true → counts y ≡ true → replied (awaiting r) u y ≡ outOf t (y .bytes) u (judged (awaiting r .state) t (after r y))
+  judges : (r : Trial) (y : Reply) → recordOk (awaiting r) ≡ true → counts y ≡ true → replied (awaiting r) u y ≡ outOf t cs (y .bytes) u (judged (awaiting r .state) t (after r y))
   unfolding surfaceOf answered fitting follows checked
   judges r y k c =
       let a = y .number in
@@ -144,7 +145,7 @@ module _ (t : Table) (l : State) (u : List ℕ) (long : length u ≡ 536) where
       → r .rereads < 100 → r .rereads + length ys ≡ 100 → Decided (listedThen t r) (r .failures + failing (dataOf u) ys) (dataOf u) (through (asked r a) ys)
   last [] r a v f c h n = absurd (omega arith)
   last (y ∷ []) r a v f c h n =
-      subst (Decided (listedThen t r) (r .failures + cond (isSame y) 0 1) (dataOf u)) (sym (judges r y v (c .0))) (decides t (awaiting r .state) u (y .bytes) (after r y) (omega arith))
+      subst (Decided (listedThen t r) (r .failures + cond (isSame y) 0 1) (dataOf u)) (sym (judges r y v (c .0))) (decides t cs (awaiting r .state) u (y .bytes) (after r y) (omega arith))
   last (y ∷ z ∷ zs) r a v f c h n =
       subst₂ (λ (m : ℕ) (x : Out). Decided (listedThen t r) m (dataOf u) (through x (z ∷ zs))) (one-more (isSame y) (r .failures) (failing (dataOf u) (z ∷ zs))) (sym (asks-again r y v (c .0) (omega arith)))
       (last (z ∷ zs) (after r y) (answer.Read (r .sector)) (valid-again r y v f (omega arith)) (few (isSame y) f) (c .1) (omega arith) (omega arith))
@@ -153,16 +154,16 @@ module _ (t : Table) (l : State) (u : List ℕ) (long : length u ≡ 536) where
 pub trial-100 : Trial100
 trial-100 x r ys v h w c n =
     let d = x .step .drive in
-    let there : x ≡ asked (d .table) (d .state) (x .bytes) h r (x .step .answer) =
-    ap (λ (p : Phase). record { step = record { drive = record { table = d .table; state = inPhase (d .state) p }; answer = x .step .answer }; bytes = x .bytes }) (w .phase) in
+    let there : x ≡ asked (d .table) (d .causes) (d .state) (x .bytes) h r (x .step .answer) =
+    ap (λ (p : Phase). record { step = record { drive = record { table = d .table; causes = d .causes; state = inPhase (d .state) p }; answer = x .step .answer }; bytes = x .bytes }) (w .phase) in
     let valid = subst (λ (z : Out). recordOk (z .step .drive) ≡ true) there v in
     let none : r .failures ≤ r .rereads = omega (arith, w .none, w .clean) in
     let all : r .failures + failing (dataOf (x .bytes)) ys ≡ failing (dataOf (x .bytes)) ys = omega (arith, w .clean) in (
       λ k p q.
           subst (λ (z : Out). Rereads r (x .bytes) (through z (take k ys))) (sym there)
-          (rereads (d .table) (d .state) (x .bytes) h k ys r (x .step .answer) valid none c p (omega arith) (omega (arith, w .none))),
+          (rereads (d .table) (d .causes) (d .state) (x .bytes) h k ys r (x .step .answer) valid none c p (omega arith) (omega (arith, w .none))),
       subst₂ (λ (m : ℕ) (z : Out). Decided (listedThen (d .table) r) m (dataOf (x .bytes)) (through z ys)) all (sym there)
-          (last (d .table) (d .state) (x .bytes) h ys r (x .step .answer) valid none c (omega (arith, w .none)) (omega (arith, w .none))),
+          (last (d .table) (d .causes) (d .state) (x .bytes) h ys r (x .step .answer) valid none c (omega (arith, w .none)) (omega (arith, w .none))),
     )
 
 -- Its premise on the answers can be met, by timeouts alone.

@@ -1,5 +1,5 @@
 -- CODE 1 IS NEVER RETURNED FOR A RECORD THAT A CALL RETURNED.
-use mathlib.Core.Path.{_≡_, refl}
+use mathlib.Core.Path.{_≡_, refl, _∙_}
 use mathlib.Core.Bool.{Bool, true, false, cond, not, _&&_, _||_}
 use mathlib.Core.List.{List, [], _∷_, _++_}
 use Prim.Native.Nat.{ℕ, zero, suc, _+_, _-_, _≤_, _<_, min}
@@ -7,20 +7,22 @@ use native.Mathlib.Omega.{arith}
 use lib.Dec.{eqb, ltb, leb}
 use lib.ListN.{length, take, drop, length-append, length-take, length-drop, replicate}
 use lib.Seq.{length-take-le}
-use borrow.Author.Tests.{eq-eqb, ltb-true, ltb-false, le-leb, leb-true, not-false}
+use borrow.Author.Tests.{eq-eqb, lt-ltb, ltb-true, ltb-false, le-leb, leb-true, not-false}
 use Rattle.geometry.specs.Geometry.{isBlock, isSector, spareOf}
 use Rattle.geometry.specs.declared.Block.{Block}
 use Rattle.geometry.specs.declared.Sector.{Sector}
 use Rattle.geometry.proofs.Laws.{spare-sector}
-use Rattle.logic.proofs.Bools.{and-left, and-right, and-true}
+use Rattle.logic.proofs.Bools.{branch, and-left, and-right, and-true}
 use Rattle.table.specs.declared.Table.{Table}
-use Rattle.table.specs.Tables.{spareList, sectorOf, Shaped, tableOk, killedNext, listed, withBad, withoutBad}
+use Rattle.table.specs.Tables.{spareList, badList, sectorOf, Shaped, tableOk, killedNext, listed, withBad, withoutBad, causesOk, causesListed, causesKilled}
+use Rattle.lists.specs.Lists.{memberOf}
 use Rattle.table.proofs.Keeps.{passes, empty-ok, listed-ok, killed-ok, entered-ok, removed-ok}
 use Rattle.table.proofs.Lists.{listed-shaped, killed-shaped, entered-shaped, removed-shaped}
 use Rattle.table.proofs.Placing.{sector-in-range}
+use Rattle.table.proofs.Causes.{listed-causes-ok, killed-causes-ok, listed-causes-length, killed-causes-length}
 use Rattle.image.specs.Images.{wellFormed, tableOf}
-use Rattle.image.proofs.Entries.{bytes-drop}
-use Rattle.image.proofs.RoundTrip.{read-ok, read-shaped}
+use Rattle.image.proofs.Layouts.{bytes-drop}
+use Rattle.image.proofs.RoundTrip.{read-ok, read-shaped, causes-ok, causes-shaped, zeros-ok}
 use Rattle.buffer.specs.Runs.{over}
 use Rattle.drive.specs.declared.Drive.{Drive}
 use Rattle.drive.specs.declared.State.{State}
@@ -38,20 +40,24 @@ use Rattle.drive.specs.declared.Part.{Part}
 use Rattle.drive.specs.declared.Turn.{Turn}
 use Rattle.drive.specs.declared.Phase.{Phase}
 use Rattle.drive.specs.declared.Phase.the-variants as phase
+use Rattle.drive.specs.declared.Cause.{Cause}
+use Rattle.drive.specs.declared.Cause.the-variants as cause
 use Rattle.drive.specs.declared.Change.{Change}
 use Rattle.drive.specs.declared.Change.the-variants as change
 use Rattle.drive.specs.declared.Outcome.{Outcome}
 use Rattle.drive.specs.Records.{retryOk, targetOk, trialOk, accessOk, phaseOk, stateOk, recordOk}
-use Rattle.drive.specs.Results.{changed, inPhase, withMarks, say, onPresent, guarded}
-use Rattle.drive.specs.Words.{kindOf, orderOf, blockOf}
-use Rattle.drive.specs.Handshake.{offerFor, offers, raised, acted, goesOn, lowered, fedTo, rested}
+use Rattle.drive.specs.Results.{changed, noted, inPhase, withMarks, say, onPresent, guarded}
+use Rattle.drive.specs.Words.{causeNumber, kindOf, orderOf, blockOf}
+use Rattle.drive.specs.Handshake.{numbered, offerFor, offers, raised, acted, goesOn, lowered, fedTo, rested}
 use Rattle.drive.specs.Retries.{met, passed, failed, isReread, afterRead}
 use Rattle.drive.specs.Sparing.{onSpare, tried, counted, checked}
 use Rattle.drive.specs.Access.{asksRead, startAnswered, storeAnswered, reads, follows, answered}
 use Rattle.drive.specs.Calls.{Call, raise, lower, feed, surface, reset, raiseOf, lowerOf, feedOf, surfaceOf, resetOf, stepOf, started, startOf}
 use Rattle.drive.specs.Values.{Bytewise, Typed, TypedCall, TypedCalls, NoCode1, Code1Never}
 use Rattle.records.proofs.Ladders.{OnBlock, acted-cases, guarded-cases, fitting-cases, raised-idle-cases, lowered-cases, NextSpare, Missed, Stopped, Verified, tried-cases, checked-cases, start-cases, Lost, lost-cases, settled-cases, GoesOnReading, after-read-cases, write-cases, verify-cases}
+use Rattle.records.proofs.Passed.{passed as parts}
 use Rattle.demands.proofs.Numbers.{on-block}
+use Rattle.demands.proofs.RunNumber.{step-run}
 use Rattle.demands.proofs.Busy.{killed-count}
 use Rattle.demands.proofs.Refusals.{code-1-only}
 
@@ -70,24 +76,36 @@ bytes-append [] s p q k = q k
 bytes-append (x ∷ r) s p q zero = p zero
 bytes-append (x ∷ r) s p q (suc k) = bytes-append r s (λ j. p (suc j)) q k
 
--- Says that a state beside a table is valid and of the right shape, part by part.
-pub record Fine (t : Table) (l : State) : Type 0 where
+-- Says that a table and its causes are valid and of the right shape.
+record Beside (t : Table) (cs : List ℕ) : Type 0 where
   pub table : tableOk t ≡ true
   pub shaped : Shaped t
+  pub noted : causesOk (take (t .nspares) cs) ≡ true
+  pub causes : length cs ≡ 32
+
+-- Says that a state beside a table is valid and of the right shape, part by part.
+pub record Fine (t : Table) (cs : List ℕ) (l : State) : Type 0 where
+  pub table : tableOk t ≡ true
+  pub shaped : Shaped t
+  pub noted : causesOk (take (t .nspares) cs) ≡ true
+  pub causes : length cs ≡ 32
   pub count : l .count ≤ 6
   pub fed : l .fed ≤ 533
   pub phase : phaseOk (t .nspares) (l .marks .known) (l .phase) ≡ true
   pub full : length (l .command) ≡ 6
   pub bytes : Bytewise (l .command)
 
-pub fine-of : (d : Drive) → recordOk d ≡ true → Typed d → Fine (d .table) (d .state)
-unfolding recordOk stateOk
+pub fine-of : (d : Drive) → recordOk d ≡ true → Typed d → Fine (d .table) (d .causes) (d .state)
+unfolding stateOk
 fine-of d h y =
-    let lk = and-right (tableOk (d .table)) (leb (d .state .count) 6 && leb (d .state .fed) 533 && phaseOk (d .table .nspares) (d .state .marks .known) (d .state .phase)) h in
+    let k = parts d h in
+    let lk = k .state in
     let cf = and-left (leb (d .state .count) 6 && leb (d .state .fed) 533) (phaseOk (d .table .nspares) (d .state .marks .known) (d .state .phase)) lk in
     record {
-      table = and-left (tableOk (d .table)) (stateOk (d .table .nspares) (d .state)) h;
+      table = k .table;
       shaped = y .table;
+      noted = k .causes;
+      causes = y .causes;
       count = leb-true (d .state .count) 6 (and-left (leb (d .state .count) 6) (leb (d .state .fed) 533) cf);
       fed = leb-true (d .state .fed) 533 (and-right (leb (d .state .count) 6) (leb (d .state .fed) 533) cf);
       phase = and-right (leb (d .state .count) 6 && leb (d .state .fed) 533) (phaseOk (d .table .nspares) (d .state .marks .known) (d .state .phase)) lk;
@@ -95,12 +113,12 @@ fine-of d h y =
       bytes = y .bytes;
     }
 
-pub fine-ok : (d : Drive) → Fine (d .table) (d .state) → recordOk d ≡ true
+pub fine-ok : (d : Drive) → Fine (d .table) (d .causes) (d .state) → recordOk d ≡ true
 unfolding recordOk stateOk
-fine-ok d f = rw (f .table, le-leb (d .state .count) 6 (f .count), le-leb (d .state .fed) 533 (f .fed)) (f .phase)
+fine-ok d f = rw (f .table, f .noted, le-leb (d .state .count) 6 (f .count), le-leb (d .state .fed) 533 (f .fed)) (f .phase)
 
-pub fine-typed : (d : Drive) → Fine (d .table) (d .state) → Typed d
-fine-typed d f = record { table = f .shaped; full = f .full; bytes = f .bytes }
+pub fine-typed : (d : Drive) → Fine (d .table) (d .causes) (d .state) → d .state .run < 4294967296 → Typed d
+fine-typed d f r = record { table = f .shaped; causes = f .causes; run = r; full = f .full; bytes = f .bytes }
 
 -- Says, part by part, that a retry, a target and a trial pass code 1's tests.
 pub record RetryFacts (r : Retry) : Type 0 where
@@ -165,22 +183,73 @@ one-more false h = omega arith
 spares-few : (t : Table) → tableOk t ≡ true → length (spareList t) ≤ 32
 spares-few t k = omega (arith, length-take (t .nspares) (t .spares), passes t k .few-spares)
 
-module _ (t : Table) (l : State) (f : Fine t l) where
-  -- A state stays valid in another phase and with other marks,
-  to : (m : Marks) (p : Phase) → phaseOk (t .nspares) (m .known) p ≡ true → Fine t (withMarks l m p)
-  to m p h = record { table = f .table; shaped = f .shaped; count = f .count; fed = f .fed; phase = h; full = f .full; bytes = f .bytes }
+-- A cause is at most 3,
+cause-few : (x : Cause) → causeNumber x ≤ 3
+cause-few cause.Unknown = omega arith
+cause-few cause.Crc = omega arith
+cause-few cause.Timeout = omega arith
+cause-few cause.NoSettle = omega arith
 
-  -- and beside another table.
-  onto : (t' : Table) → tableOk t' ≡ true → Shaped t' → (m : Marks) (p : Phase) → phaseOk (t' .nspares) (m .known) p ≡ true → Fine t' (withMarks l m p)
-  onto t' k s m p h = record { table = k; shaped = s; count = f .count; fed = f .fed; phase = h; full = f .full; bytes = f .bytes }
+-- and the bad list has nothing to do with how many spares are listed.
+removed-count : (t : Table) (b : Block) → withoutBad t b .nspares ≡ t .nspares
+unfolding withoutBad
+removed-count t b = branch (λ (x : Table). x .nspares ≡ t .nspares) (memberOf (b .0) (badList t)) (λ e. refl) (λ e. refl)
+
+entered-count : (t : Table) (b : Block) → withBad t b .nspares ≡ t .nspares
+unfolding withBad
+entered-count t b = branch (λ (x : Table). x .nspares ≡ t .nspares) (ltb (t .nbads) 100) (λ e. refl) (λ e. refl)
+
+listed-count : (t : Table) (b : Block) → t .nspares < 32 → listed t b .nspares ≡ t .nspares + 1
+unfolding listed
+listed-count t b h = rw (lt-ltb (t .nspares) 32 h)
+
+module _ (t : Table) (cs : List ℕ) (l : State) (f : Fine t cs l) where
+  -- A state stays valid in another phase and with other marks,
+  to : (m : Marks) (p : Phase) → phaseOk (t .nspares) (m .known) p ≡ true → Fine t cs (withMarks l m p)
+  to m p h = record { table = f .table; shaped = f .shaped; noted = f .noted; causes = f .causes; count = f .count; fed = f .fed; phase = h; full = f .full; bytes = f .bytes }
+
+  -- and beside another table, with other causes.
+  onto : {t' : Table} {cs' : List ℕ} → Beside t' cs' → (m : Marks) (p : Phase) → phaseOk (t' .nspares) (m .known) p ≡ true → Fine t' cs' (withMarks l m p)
+  onto z m p h = record { table = z .table; shaped = z .shaped; noted = z .noted; causes = z .causes; count = f .count; fed = f .fed; phase = h; full = f .full; bytes = f .bytes }
+
+  -- Each change leaves a valid table with valid causes.
+  as-it-is : Beside t cs
+  as-it-is = record { table = f .table; shaped = f .shaped; noted = f .noted; causes = f .causes }
+
+  killed : (x : Cause) → t .nspares < 32 → Beside (killedNext t) (causesKilled t (causeNumber x) cs)
+  killed x n =
+      record {
+        table = killed-ok t (f .shaped) (f .table);
+        shaped = killed-shaped t (f .shaped);
+        noted = rw (killed-count t n) (killed-causes-ok t (causeNumber x) cs n (f .causes) (cause-few x) (f .noted));
+        causes = killed-causes-length t (causeNumber x) cs ∙ f .causes;
+      }
+
+  moved-on : (b : Block) (x y : Cause) → isBlock (b .0) ≡ true → t .nspares < 32 → Beside (withoutBad (listed t b) b) (causesListed t b (causeNumber x) (causeNumber y) cs)
+  moved-on b x y i n =
+      record {
+        table = removed-ok (listed t b) b (listed-shaped t b (f .shaped)) (listed-ok t b (f .shaped) i (f .table));
+        shaped = removed-shaped (listed t b) b (listed-shaped t b (f .shaped));
+        noted = rw (removed-count (listed t b) b, listed-count t b n) (listed-causes-ok t b (causeNumber x) (causeNumber y) cs n (f .causes) (cause-few x) (cause-few y) (f .noted));
+        causes = listed-causes-length t b (causeNumber x) (causeNumber y) cs ∙ f .causes;
+      }
+
+  removed-from : (b : Block) → Beside (withoutBad t b) cs
+  removed-from b = record { table = removed-ok t b (f .shaped) (f .table); shaped = removed-shaped t b (f .shaped); noted = rw (removed-count t b) (f .noted); causes = f .causes }
+
+  entered-in : (b : Block) → isBlock (b .0) ≡ true → memberOf (b .0) (badList t) ≡ false → Beside (withBad t b) cs
+  entered-in b i q = record { table = entered-ok t b (f .shaped) i q (f .table); shaped = entered-shaped t b (f .shaped); noted = rw (entered-count t b) (f .noted); causes = f .causes }
 
   module _ (bs : List ℕ) where
     abbrev Ok : Turn → Type 0
-    Ok x = Fine (changed (x .change) t bs) (x .state)
+    Ok x = Fine (changed (x .change) t bs) (noted (x .change) t cs bs) (x .state)
 
     -- RAISE
-    opens : (o : Offer) (n : ℕ) → n ≤ 6 → Fine t (record { phase = phase.Offered o; marks = l .marks; command = l .command; count = n; fed = 0 })
-    opens o n h = record { table = f .table; shaped = f .shaped; count = h; fed = omega arith; phase = refl; full = f .full; bytes = f .bytes }
+    counts-up : l .marks .known ≡ true → Fine t cs (inPhase (numbered l) (phase.Awaiting access.Store))
+    counts-up h = record { table = f .table; shaped = f .shaped; noted = f .noted; causes = f .causes; count = f .count; fed = f .fed; phase = h; full = f .full; bytes = f .bytes }
+
+    opens : (o : Offer) (n : ℕ) → n ≤ 6 → Fine t cs (record { phase = phase.Offered o; marks = l .marks; command = l .command; count = n; fed = 0; run = l .run })
+    opens o n h = record { table = f .table; shaped = f .shaped; noted = f .noted; causes = f .causes; count = h; fed = omega arith; phase = refl; full = f .full; bytes = f .bytes }
 
     kept-few : (o : Offer) → Ok (offers l o)
     kept-few offer.Command = opens offer.Command 0 (omega arith)
@@ -194,7 +263,7 @@ module _ (t : Table) (l : State) (f : Fine t l) where
     raises phase.Idle =
         raised-idle-cases Ok l
         (record {
-          stores = λ e. to (l .marks) (phase.Awaiting access.Store) (and-left (l .marks .known) (l .marks .changed) (and-left (l .marks .known && l .marks .changed) (not (l .marks .latch)) e));
+          stores = λ e. counts-up (and-left (l .marks .known) (l .marks .changed) (and-left (l .marks .known && l .marks .changed) (not (l .marks .latch)) e));
           offers = λ e. opens offer.Command 0 (omega arith);
         })
     raises (phase.Offered o) = f
@@ -203,7 +272,7 @@ module _ (t : Table) (l : State) (f : Fine t l) where
     raises (phase.Awaiting x) = f
 
     -- LOWER
-    idle-again : (m : Marks) → Fine t (withMarks l m phase.Idle)
+    idle-again : (m : Marks) → Fine t cs (withMarks l m phase.Idle)
     idle-again m = to m phase.Idle refl
 
     -- Returns the command that the record holds.
@@ -254,7 +323,7 @@ module _ (t : Table) (l : State) (f : Fine t l) where
 
     -- FEED
     feeds-command : (xs : List ℕ) → Bytewise xs
-        → Fine t (record { phase = phase.Command; marks = l .marks; command = over (l .count) (take (6 - l .count) xs) (l .command); count = min 6 (l .count + length xs); fed = l .fed })
+        → Fine t cs (record { phase = phase.Command; marks = l .marks; command = over (l .count) (take (6 - l .count) xs) (l .command); count = min 6 (l .count + length xs); fed = l .fed; run = l .run })
     unfolding over
     feeds-command xs h =
         let c = l .command in
@@ -263,6 +332,8 @@ module _ (t : Table) (l : State) (f : Fine t l) where
         record {
           table = f .table;
           shaped = f .shaped;
+          noted = f .noted;
+          causes = f .causes;
           count = omega arith;
           fed = f .fed;
           phase = refl;
@@ -275,7 +346,7 @@ module _ (t : Table) (l : State) (f : Fine t l) where
     feeds phase.Idle xs h = f
     feeds (phase.Offered o) xs h = f
     feeds phase.Command xs h = feeds-command xs h
-    feeds phase.Data xs h = record { table = f .table; shaped = f .shaped; count = f .count; fed = omega arith; phase = refl; full = f .full; bytes = f .bytes }
+    feeds phase.Data xs h = record { table = f .table; shaped = f .shaped; noted = f .noted; causes = f .causes; count = f .count; fed = omega arith; phase = refl; full = f .full; bytes = f .bytes }
     feeds (phase.Awaiting x) xs h = f
 
     -- RESET
@@ -292,7 +363,7 @@ module _ (t : Table) (l : State) (f : Fine t l) where
     starts k a =
         start-cases Ok k l a bs
         (record {
-          table = λ e. let w = and-right (eqb a 0) (wellFormed bs) e in onto (tableOf bs) (read-ok bs w) (read-shaped bs w) _ phase.Idle refl;
+          table = λ e. let w = and-right (eqb a 0) (wellFormed bs) e in record { table = read-ok bs w; shaped = read-shaped bs w; noted = causes-ok bs w; causes = causes-shaped bs w; count = f .count; fed = f .fed; phase = refl; full = f .full; bytes = f .bytes };
           stops = λ e f. idle-again _;
           again = λ e y. to (l .marks) _ (le-leb (k + 1) 10 (omega (arith, ltb-true k 10 y)));
           gives-up = λ e y. idle-again _;
@@ -300,37 +371,35 @@ module _ (t : Table) (l : State) (f : Fine t l) where
 
     stores : (a : ℕ) → Ok (storeAnswered l a)
     unfolding storeAnswered
-    stores a = record { table = f .table; shaped = f .shaped; count = omega arith; fed = omega arith; phase = refl; full = f .full; bytes = f .bytes }
+    stores a = record { table = f .table; shaped = f .shaped; noted = f .noted; causes = f .causes; count = omega arith; fed = omega arith; phase = refl; full = f .full; bytes = f .bytes }
 
     -- SPARING: a turn may try spare m of the table as it is by then.
-    next-spare : (ch : Change) (m : ℕ) (b : Block) (s : Seen) → l .marks .known ≡ true → isBlock (b .0) ≡ true → tableOk (changed ch t bs) ≡ true → Shaped (changed ch t bs) → changed ch t bs .nspares ≡ m
-        → NextSpare Ok m l ch b s
-    next-spare ch m b s kn i k sh em =
+    next-spare : (ch : Change) (m : ℕ) (b : Block) (s : Seen) {x y : Cause} → l .marks .known ≡ true → isBlock (b .0) ≡ true → Beside (changed ch t bs) (noted ch t cs bs) → changed ch t bs .nspares ≡ m
+        → NextSpare Ok m l ch b s x y
+    next-spare ch m b s {x} {y} kn i k em =
         record {
-          spare = λ e. onto (changed ch t bs) k sh _ _ (and-true (l .marks .known) _ kn
-              (trial-ok (changed ch t bs .nspares) (onSpare m b s)
+          spare = λ e. onto k _ _ (and-true (l .marks .known) _ kn
+              (trial-ok (changed ch t bs .nspares) (onSpare m b s x y)
               (record { block = i; sector = spare-sector m (ltb-true m 32 e); few = omega arith; fewer = omega arith; spot = rw (em, e) (eq-eqb (spareOf m .0) (spareOf m .0) refl) })));
-          no-spare = λ e. onto (changed ch t bs) k sh _ phase.Idle refl;
+          no-spare = λ e. onto k _ phase.Idle refl;
         }
 
     module _ (kn : l .marks .known ≡ true) (r : Trial) (i : isBlock (r .block .0) ≡ true) (room : r .spare ≡ true → t .nspares < 32) where
-      misses : (s : Seen) → Missed Ok l t r s
-      misses s =
+      misses : (s : Seen) {x : Cause} → Missed Ok l t r s x
+      misses s {x} =
           record {
-            dead = λ z. next-spare change.Kill (t .nspares + 1) (r .block) s kn i (killed-ok t (f .shaped) (f .table)) (killed-shaped t (f .shaped)) (killed-count t (room z));
-            left = λ z. next-spare change.Keep (t .nspares) (r .block) s kn i (f .table) (f .shaped) refl;
+            dead = λ z. next-spare (change.Kill x) (t .nspares + 1) (r .block) s kn i (killed x (room z)) (killed-count t (room z));
+            left = λ z. next-spare change.Keep (t .nspares) (r .block) s kn i as-it-is refl;
           }
 
       stops : Stopped Ok l r
-      stops = record { dead = λ z. onto (killedNext t) (killed-ok t (f .shaped) (f .table)) (killed-shaped t (f .shaped)) _ phase.Idle refl; present = λ z. idle-again _ }
+      stops = record { dead = λ z. onto (killed cause.NoSettle (room z)) _ phase.Idle refl; present = λ z. idle-again _ }
 
       verifies : Verified Ok l t r
       verifies =
           record {
-            moved = λ z. onto (withoutBad (listed t (r .block)) (r .block))
-                (removed-ok (listed t (r .block)) (r .block) (listed-shaped t (r .block) (f .shaped)) (listed-ok t (r .block) (f .shaped) i (f .table)))
-                (removed-shaped (listed t (r .block)) (r .block) (listed-shaped t (r .block) (f .shaped))) _ phase.Idle refl;
-            listed = λ z y. onto (withoutBad t (r .block)) (removed-ok t (r .block) (f .shaped) (f .table)) (removed-shaped t (r .block) (f .shaped)) _ phase.Idle refl;
+            moved = λ z. onto (moved-on (r .block) (r .before) (r .present) i (room z)) _ phase.Idle refl;
+            listed = λ z y. onto (removed-from (r .block)) _ phase.Idle refl;
             stays = λ z y. idle-again _;
           }
 
@@ -366,7 +435,7 @@ module _ (t : Table) (l : State) (f : Fine t l) where
       loses r i =
           record {
             listed = λ q. idle-again _;
-            entered = λ q z. onto (withBad t (r .block)) (entered-ok t (r .block) (f .shaped) i q (f .table)) (entered-shaped t (r .block) (f .shaped)) _ phase.Idle refl;
+            entered = λ q z. onto (entered-in (r .block) i q) _ phase.Idle refl;
             full = λ q z. idle-again _;
           }
 
@@ -386,7 +455,7 @@ module _ (t : Table) (l : State) (f : Fine t l) where
             loses = λ e z y. lost-cases Ok l t r v (loses r i);
           }
         where
-          again : r .spent ≤ 89 → Fine t (withMarks l (l .marks) (phase.Awaiting (access.Read r)))
+          again : r .spent ≤ 89 → Fine t cs (withMarks l (l .marks) (phase.Awaiting (access.Read r)))
           again q = to (l .marks) (phase.Awaiting (access.Read r)) (and-true (l .marks .known) _ kn (retry-ok r (record { block = i; sector = s; sum = h; spent = q })))
 
     -- A failure leaves the sum as it was or lower, and costs only where no reread is left.
@@ -431,7 +500,7 @@ module _ (t : Table) (l : State) (f : Fine t l) where
           verifies = λ e z. to (l .marks) (phase.Awaiting (access.Verify w)) h;
           done = λ e z. idle-again _;
           stops = λ e z. idle-again _;
-          moves = λ e z. next-spare change.Keep (t .nspares) (w .block) _ k (and-left (isBlock (w .block .0)) (isSector (w .sector .0)) x) (f .table) (f .shaped) refl;
+          moves = λ e z. next-spare change.Keep (t .nspares) (w .block) _ k (and-left (isBlock (w .block .0)) (isSector (w .sector .0)) x) as-it-is refl;
         })
     follow (access.Verify w) h a q =
         let k = and-left (l .marks .known) (targetOk w) h in
@@ -454,28 +523,28 @@ module _ (t : Table) (l : State) (f : Fine t l) where
     guards ok n x h = guarded-cases Ok ok n l x (record { damaged = λ e. f; length = λ e q. f; passes = λ e q. h })
 
 -- EACH CALL RETURNS A VALID RECORD FROM A VALID ONE. A surface call does so whatever its bytes are.
-pub surface-fine : (d : Drive) (u : List ℕ) (a : ℕ) (bs : List ℕ) → Fine (d .table) (d .state) → Fine (surfaceOf d u a bs .step .drive .table) (surfaceOf d u a bs .step .drive .state)
+pub surface-fine : (d : Drive) (u : List ℕ) (a : ℕ) (bs : List ℕ) → Fine (d .table) (d .causes) (d .state) → Fine (surfaceOf d u a bs .step .drive .table) (surfaceOf d u a bs .step .drive .causes) (surfaceOf d u a bs .step .drive .state)
 unfolding surfaceOf
-surface-fine d u a bs f = guards (d .table) (d .state) f bs (recordOk d) (length u) _ (surfaces (d .table) (d .state) f bs (d .state .phase) (f .phase) a _)
+surface-fine d u a bs f = guards (d .table) (d .causes) (d .state) f bs (recordOk d) (length u) _ (surfaces (d .table) (d .causes) (d .state) f bs (d .state .phase) (f .phase) a _)
 
-pub step-fine : (c : Call) (d : Drive) (u : List ℕ) → TypedCall c → Fine (d .table) (d .state) → Fine (stepOf c d u .step .drive .table) (stepOf c d u .step .drive .state)
+pub step-fine : (c : Call) (d : Drive) (u : List ℕ) → TypedCall c → Fine (d .table) (d .causes) (d .state) → Fine (stepOf c d u .step .drive .table) (stepOf c d u .step .drive .causes) (stepOf c d u .step .drive .state)
 unfolding stepOf raiseOf lowerOf feedOf resetOf
-step-fine raise d u y f = guards (d .table) (d .state) f [] (recordOk d) (length u) _ (raises (d .table) (d .state) f [] (d .state .phase))
-step-fine (lower b) d u y f = guards (d .table) (d .state) f [] (recordOk d) (length u) _ (lowers (d .table) (d .state) f [] (d .state .phase) b)
-step-fine (feed xs) d u y f = guards (d .table) (d .state) f xs (recordOk d) (length u) _ (feeds (d .table) (d .state) f xs (d .state .phase) xs y)
+step-fine raise d u y f = guards (d .table) (d .causes) (d .state) f [] (recordOk d) (length u) _ (raises (d .table) (d .causes) (d .state) f [] (d .state .phase))
+step-fine (lower b) d u y f = guards (d .table) (d .causes) (d .state) f [] (recordOk d) (length u) _ (lowers (d .table) (d .causes) (d .state) f [] (d .state .phase) b)
+step-fine (feed xs) d u y f = guards (d .table) (d .causes) (d .state) f xs (recordOk d) (length u) _ (feeds (d .table) (d .causes) (d .state) f xs (d .state .phase) xs y)
 step-fine (surface a bs) d u y f = surface-fine d u a bs f
-step-fine reset d u y f = guards (d .table) (d .state) f [] (recordOk d) (length u) _ (rests (d .table) (d .state) f [] (d .state .phase))
+step-fine reset d u y f = guards (d .table) (d .causes) (d .state) f [] (recordOk d) (length u) _ (rests (d .table) (d .causes) (d .state) f [] (d .state .phase))
 
 pub step-valid : (c : Call) (d : Drive) (u : List ℕ) → TypedCall c → Typed d → recordOk d ≡ true → recordOk (stepOf c d u .step .drive) ≡ true
 step-valid c d u y h k = fine-ok (stepOf c d u .step .drive) (step-fine c d u y (fine-of d k h))
 
 pub step-typed : (c : Call) (d : Drive) (u : List ℕ) → TypedCall c → Typed d → recordOk d ≡ true → Typed (stepOf c d u .step .drive)
-step-typed c d u y h k = fine-typed (stepOf c d u .step .drive) (step-fine c d u y (fine-of d k h))
+step-typed c d u y h k = fine-typed (stepOf c d u .step .drive) (step-fine c d u y (fine-of d k h)) (step-run c d u y (h .run))
 
 -- AND A START RETURNS ONE FROM ANY RECORD.
-pub started-fine : Fine (started .table) (started .state)
+pub started-fine : Fine (started .table) (started .causes) (started .state)
 started-fine =
-    record { table = empty-ok; shaped = (refl, refl); count = omega arith; fed = omega arith; phase = refl; full = refl; bytes = zeros }
+    record { table = empty-ok; shaped = (refl, refl); noted = zeros-ok 0 32; causes = refl; count = omega arith; fed = omega arith; phase = refl; full = refl; bytes = zeros }
   where
     zeros : Bytewise (0 ∷ 0 ∷ 0 ∷ 0 ∷ 0 ∷ 0 ∷ [])
     zeros zero = omega arith
@@ -490,7 +559,7 @@ pub started-valid : recordOk started ≡ true
 started-valid = fine-ok started started-fine
 
 -- NO CALL AFTER A START ANSWERS CODE 1, nor after any record that code 1 does not refuse.
-none-refused : (cs : List Call) (d : Drive) (u : List ℕ) → Fine (d .table) (d .state) → TypedCalls cs → NoCode1 d u cs
+none-refused : (cs : List Call) (d : Drive) (u : List ℕ) → Fine (d .table) (d .causes) (d .state) → TypedCalls cs → NoCode1 d u cs
 none-refused [] d u f y = tt
 none-refused (c ∷ cs) d u f y = (code-1-only c d u (fine-ok d f), none-refused cs (stepOf c d u .step .drive) (stepOf c d u .bytes) (step-fine c d u (y .0) f) (y .1))
 

@@ -4,7 +4,8 @@ use mathlib.Core.Bool.{Bool, true, false}
 use mathlib.Core.List.{List, [], _∷_, _++_}
 use Prim.Native.Nat.{ℕ, zero, suc}
 use lib.ListN.{replicate}
-use Rattle.image.specs.Images.{imageOf}
+use Rattle.image.specs.FormA.{formA}
+use Rattle.drive.specs.declared.Cause.the-variants as cause
 use Rattle.drive.specs.declared.Drive.{Drive}
 use Rattle.drive.specs.declared.State.{State}
 use Rattle.drive.specs.declared.Retry.{Retry}
@@ -33,7 +34,7 @@ storedOnce =
           found [] [] ++ elevenTimeouts
           ++ (raise ⇒ store ∷ timesOut ⇒ offer 0x01 ∷ lower 0x00 ⇒ finished 0x80 0x00 0x00 0 ∷ [])
           ++ stores ++ (reset ⇒ wait ∷ []) ++ opens ++ asksTable 0x80;
-      part = imageOf [] (17 ∷ []);
+      part = formA [] (17 ∷ []);
       place = sector 17;
       candidates = bytes 7 ∷ [];
     }
@@ -48,7 +49,7 @@ listedAlready =
     record {
       sectors = disk [] (17 ∷ []);
       exchanges = found [] (17 ∷ []) ++ elevenTimeouts ++ opens ++ asksTable 0x00;
-      part = imageOf [] (17 ∷ []);
+      part = formA [] (17 ∷ []);
       place = sector 17;
       candidates = bytes 7 ∷ [];
     }
@@ -65,7 +66,7 @@ storeUnsettled =
       exchanges =
           found [] [] ++ elevenTimeouts ++ (raise ⇒ store ∷ unsettled ⇒ offer 0x01 ∷ [])
           ++ asksWrite 1 18 (bytes 1) ++ (go ⇒ write 18 ∷ done ⇒ finished 0x00 0x00 0x00 0 ∷ []) ++ stores ++ asksTable 0x00;
-      part = imageOf [] (17 ∷ []);
+      part = formA [] (17 ∷ []);
       place = sector 17;
       candidates = bytes 7 ∷ [];
     }
@@ -87,7 +88,7 @@ marked latch l = withMarks l (record { known = true; changed = false; latch = la
 
 -- Returns the record marked changed, with no table known.
 abbrev unknown : Drive → Drive
-unknown d = record { table = d .table; state = withMarks (d .state) (record { known = false; changed = true; latch = false; fresh = false }) phase.Idle }
+unknown d = record { table = d .table; causes = d .causes; state = withMarks (d .state) (record { known = false; changed = true; latch = false; fresh = false }) phase.Idle }
 
 -- Holds a read of block 17 of which no access was good.
 abbrev lostRead : Retry
@@ -133,7 +134,7 @@ Ends x c two = (x .change ≡ c) × (x .leaves .status ≡ status.Written (recor
 pub record Passed : Type 0 where
   pub listed : Ends (passedWith false (5 ∷ 17 ∷ []) 2) (change.Remove key) 0x00
   pub not-listed : Ends (passedWith false (5 ∷ []) 1) change.Keep 0x00
-  pub moved : Ends (passedWith true (5 ∷ 17 ∷ []) 2) (change.Move key) 0x04
+  pub moved : Ends (passedWith true (5 ∷ 17 ∷ []) 2) (change.Move key cause.Unknown cause.Unknown) 0x04
 
 pub passed : Passed
 unfolding computed

@@ -3,7 +3,8 @@ use mathlib.Core.Path.{_≡_, refl}
 use mathlib.Core.List.{List, [], _∷_, _++_}
 use Prim.Native.Nat.{ℕ}
 use lib.ListN.{replicate}
-use Rattle.image.specs.Images.{imageOf}
+use Rattle.image.specs.FormA.{formA}
+use Rattle.image.specs.FormB.{formB}
 use Rattle.drive.specs.declared.Drive.{Drive}
 use Rattle.drive.specs.declared.Answer.the-variants as answer
 use Rattle.drive.specs.Calls.{Call, raise, lower, feed, surface, reset, startOf, imageOutOf}
@@ -81,7 +82,7 @@ pub record StatusWritten : Type 0 where
   pub verified : after (writes 2 (done ∷ surface 0 short ∷ [])) ≡ 0 ∷ 0 ∷ 0 ∷ 0 ∷ short
   pub broken-off : after (raise ∷ lower 0xAA ∷ []) ≡ 0x80 ∷ 0 ∷ 0 ∷ 0 ∷ replicate 532 5
   pub of-FFFFFE : after (readsNumber 0xFE) ≡ 0 ∷ 0 ∷ 0 ∷ 0 ∷ replicate 532 5
-  pub of-FFFFFF : after (readsNumber 0xFF) ≡ 0 ∷ 0 ∷ 0 ∷ 0 ∷ imageOf [] []
+  pub of-FFFFFF : after (readsNumber 0xFF) ≡ 0 ∷ 0 ∷ 0 ∷ 0 ∷ formA [] []
   pub of-FFFFFD : after (readsNumber 0xFD) ≡ 0 ∷ 0 ∷ 0 ∷ 0 ∷ 32 ∷ 0 ∷ 0 ∷ 0 ∷ replicate 528 0
   pub of-no-number : after (readsNumber 0xFC) ≡ 1 ∷ 0 ∷ 0x40 ∷ 0 ∷ replicate 532 5
   -- the store leaves the buffer of the read that was lost
@@ -99,8 +100,8 @@ lostBlock = run ready lent (asks 0 0 (replicate 11 timeout)) .step .drive
 pub record OtherCalls : Type 0 where
   pub start : (d : Drive) → startOf d lent .bytes ≡ replicate 536 0
   pub start-refused : (d : Drive) → startOf d (replicate 535 5) .bytes ≡ replicate 535 5
-  pub image : imageOutOf ready (replicate 532 5) .bytes ≡ imageOf [] []
-  pub image-of-a-bad-list : imageOutOf lostBlock (replicate 532 5) .bytes ≡ imageOf [] (0 ∷ [])
+  pub image : imageOutOf ready (replicate 532 5) .bytes ≡ formB 0 [] [] []
+  pub image-of-a-bad-list : imageOutOf lostBlock (replicate 532 5) .bytes ≡ formB 0 [] [] (0 ∷ [])
   pub image-keeps-the-record : imageOutOf ready (replicate 532 5) .step .drive ≡ ready
   -- "in any phase, a busy one included"
   pub image-while-busy : imageOutOf (run ready lent (asks 2 1 []) .step .drive) (replicate 532 5) .step .answer ≡ answer.Wait

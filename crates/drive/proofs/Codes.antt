@@ -6,6 +6,7 @@ use Prim.Native.Nat.{ℕ}
 use lib.ListN.{replicate}
 use Rattle.lists.specs.Lists.{dead}
 use Rattle.table.specs.declared.Table.{Table}
+use Rattle.drive.specs.declared.Cause.the-variants as cause
 use Rattle.drive.specs.declared.Drive.{Drive}
 use Rattle.drive.specs.declared.Target.{Target}
 use Rattle.drive.specs.declared.Trial.{Trial}
@@ -29,7 +30,11 @@ table s n b m = record { spares = s ++ replicate 32 0; bads = b ++ replicate 100
 -- Returns a record with this table, known or not, so many command and data bytes counted, in this phase.
 abbrev pub with : Table → Bool → ℕ → ℕ → Phase → Drive
 with t known n f p =
-    record { table = t; state = record { phase = p; marks = record { known = known; changed = false; latch = false; fresh = false }; command = replicate 6 0; count = n; fed = f } }
+    record {
+      table = t;
+      causes = replicate 32 0;
+      state = record { phase = p; marks = record { known = known; changed = false; latch = false; fresh = false }; command = replicate 6 0; count = n; fed = f; run = 0 };
+    }
 
 -- Returns one with empty lists and the most bytes that code 1 lets pass.
 abbrev pub at : Bool → Phase → Drive
@@ -38,6 +43,10 @@ at known p = with (table [] 0 [] 0) known 6 533 p
 -- Returns an idle one with these lists and no table known.
 abbrev pub lists : List ℕ → ℕ → List ℕ → ℕ → Drive
 lists s n b m = with (table s n b m) false 0 0 phase.Idle
+
+-- Returns an idle one with two dead spares and these causes.
+abbrev caused : List ℕ → Drive
+caused cs = record { table = table (dead ∷ dead ∷ []) 2 [] 0; causes = cs ++ replicate 32 0; state = at false phase.Idle .state }
 
 -- Returns one that awaits an access.
 abbrev pub awaiting : Bool → Access → Drive
@@ -54,7 +63,18 @@ target b s = record { block = record { 0 = b }; sector = record { 0 = s }; verif
 
 -- Returns the trial of sector s for block b, with so many rereads and failures.
 abbrev pub trialOf : ℕ → ℕ → Bool → ℕ → ℕ → Trial
-trialOf b s spare n k = record { block = record { 0 = b }; sector = record { 0 = s }; spare = spare; rereads = n; failures = k; seen = record { errors = 0; crc = false; timeout = false } }
+trialOf b s spare n k =
+    record {
+      block = record { 0 = b };
+      sector = record { 0 = s };
+      spare = spare;
+      rereads = n;
+      failures = k;
+      seen = record { errors = 0; crc = false; timeout = false };
+      last = cause.Unknown;
+      before = cause.Unknown;
+      present = cause.Unknown;
+    }
 
 abbrev Passes : Drive → Type 0
 Passes d = recordOk d ≡ true
@@ -104,6 +124,8 @@ pub record Code1 : Type 0 where
   pub spares-33 : Passes (lists (replicate 32 dead) 32 [] 0) × Fails (lists (replicate 33 dead) 33 [] 0)
   pub bads-101 : Passes (lists [] 0 (blocks 100) 100) × Fails (lists [] 0 (blocks 101) 101)
   pub twice : Fails (lists (5 ∷ 5 ∷ []) 2 [] 0) × Fails (lists [] 0 (5 ∷ 5 ∷ []) 2)
+  -- "a cause above 3", of an entry in use
+  pub causes : Passes (caused (3 ∷ 3 ∷ [])) × Fails (caused (4 ∷ [])) × Fails (caused (0 ∷ 4 ∷ [])) × Passes (caused (0 ∷ 0 ∷ 4 ∷ []))
   pub no-block : Fails (lists (9728 ∷ []) 1 [] 0) × Fails (lists [] 0 (9728 ∷ []) 1) × Fails (lists [] 0 (dead ∷ []) 1)
 
 pub code-1 : Code1
@@ -140,6 +162,7 @@ code-1 =
       spares-33 = (refl, refl);
       bads-101 = (refl, refl);
       twice = (refl, refl);
+      causes = (refl, refl, refl, refl);
       no-block = (refl, refl, refl);
     }
 
@@ -165,7 +188,8 @@ abbrev unstored : Drive
 unstored =
     record {
       table = table [] 0 [] 0;
-      state = record { phase = phase.Idle; marks = record { known = true; changed = true; latch = false; fresh = false }; command = replicate 6 0; count = 0; fed = 0 };
+      causes = replicate 32 0;
+      state = record { phase = phase.Idle; marks = record { known = true; changed = true; latch = false; fresh = false }; command = replicate 6 0; count = 0; fed = 0; run = 0 };
     }
 
 pub record InOrder : Type 0 where

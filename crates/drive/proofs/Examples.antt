@@ -7,7 +7,9 @@ use lib.ListN.{take, replicate}
 use Rattle.geometry.specs.Geometry.{isBlock}
 use Rattle.lists.specs.Lists.{dead}
 use Rattle.table.specs.Tables.{sectorOf, emptyTable}
-use Rattle.image.specs.Images.{imageOf, wellFormed}
+use Rattle.image.specs.FormA.{formA}
+use Rattle.image.specs.Images.{wellFormed}
+use Rattle.drive.specs.declared.Cause.the-variants as cause
 use Rattle.drive.specs.declared.Drive.{Drive}
 use Rattle.drive.specs.declared.Access.the-variants as access
 use Rattle.drive.specs.declared.Phase.{Phase}
@@ -28,14 +30,15 @@ blocks (suc n) = blocks n ++ (n ∷ [])
 
 -- Returns an image that is well formed in all but, perhaps, its counts.
 abbrev pub counted : ℕ → ℕ → List ℕ
-counted spares bads = imageOf (replicate spares dead) (blocks bads)
+counted spares bads = formA (replicate spares dead) (blocks bads)
 
 -- Holds an idle drive with an empty table, which has finished a command since its start.
 abbrev pub ready : Drive
 ready =
     record {
       table = emptyTable;
-      state = record { phase = phase.Idle; marks = record { known = true; changed = false; latch = false; fresh = false }; command = replicate 6 0; count = 0; fed = 0 };
+      causes = replicate 32 0;
+      state = record { phase = phase.Idle; marks = record { known = true; changed = false; latch = false; fresh = false }; command = replicate 6 0; count = 0; fed = 0; run = 0 };
     }
 
 -- Makes calls one after the other.
@@ -67,7 +70,7 @@ Ended x status = (x .step .answer ≡ answer.Finished) × (take 4 (x .bytes) ≡
 -- Awaits the write of the trial of the present sector, with one error met. Document 02, request 4: what was a move begins so.
 abbrev pub moving : Phase
 moving =
-    phase.Awaiting (access.TrialWrite (record { block = record { 0 = 0 }; sector = record { 0 = 0 }; spare = false; rereads = 0; failures = 0; seen = record { errors = 1; crc = true; timeout = false } }))
+    phase.Awaiting (access.TrialWrite (record { block = record { 0 = 0 }; sector = record { 0 = 0 }; spare = false; rereads = 0; failures = 0; seen = record { errors = 1; crc = true; timeout = false }; last = cause.Unknown; before = cause.Unknown; present = cause.Unknown }))
 
 pub record Examples : Type 0 where
   pub block-0 : at-home 0 ≡ 0

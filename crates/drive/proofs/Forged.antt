@@ -7,7 +7,7 @@ use lib.Dec.{eqb}
 use lib.ListN.{getD, replicate}
 use Rattle.logic.proofs.Bools.{clash}
 use Rattle.geometry.specs.declared.Block.{Block}
-use Rattle.image.specs.Images.{imageOf}
+use Rattle.image.specs.FormA.{formA}
 use Rattle.drive.specs.declared.Offer.{Offer}
 use Rattle.drive.specs.declared.Offer.the-variants as offer
 use Rattle.drive.specs.declared.Answer.the-variants as answer
@@ -206,7 +206,7 @@ bytes-with-the-last-one-wrong a = no-candidate-by-its-last-byte (last-asks seven
 abbrev imageElsewhere : List Entry
 imageElsewhere =
     found [] ++ writesGood 1
-    ++ asksRead 18 ++ (says go (reads 18) ∷ ends (surface 0 (imageOf [] [])) 0x01 0x00 0 ∷ []) ++ readsGood 7
+    ++ asksRead 18 ++ (says go (reads 18) ∷ ends (surface 0 (formA [] [])) 0x01 0x00 0 ∷ []) ++ readsGood 7
 
 pub old-bytes-after-an-image-read-elsewhere : Allows sevens blank imageElsewhere → ⊥
 unfolding computed
@@ -246,7 +246,7 @@ bytes-of-a-write-finished-before-its-data a = not-the-one 0 7 refl (last-asks se
 
 -- An image comes while no read is awaited: it is no table.
 abbrev imageUnasked : List Entry
-imageUnasked = found [] ++ writesGood 1 ++ (says (surface 0 (imageOf [] [])) answer.Wait ∷ []) ++ readsGood 7
+imageUnasked = found [] ++ writesGood 1 ++ (says (surface 0 (formA [] [])) answer.Wait ∷ []) ++ readsGood 7
 
 pub old-bytes-after-an-image-not-asked-for : Allows sevens blank imageUnasked → ⊥
 unfolding computed

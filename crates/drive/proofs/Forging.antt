@@ -9,7 +9,7 @@ use lib.Dec.{eqb}
 use lib.ListN.{getD, replicate}
 use Rattle.logic.proofs.Bools.{clash, and-left, and-right}
 use Rattle.geometry.specs.Geometry.{isBlock}
-use Rattle.image.specs.Images.{imageOf}
+use Rattle.image.specs.FormA.{formA}
 use Rattle.buffer.specs.Runs.{same}
 use Rattle.buffer.proofs.Compare.{same-equal}
 use Rattle.drive.specs.declared.Offer.{Offer}
@@ -91,10 +91,10 @@ garbles v = surface 1 (block v)
 
 -- Finds a table with these spares at the start; or none, with an image that came with answer 1 and bytes that are no image.
 abbrev pub found : List ℕ → List Entry
-found spares = says (surface 0 (imageOf spares [])) answer.Wait ∷ []
+found spares = says (surface 0 (formA spares [])) answer.Wait ∷ []
 
 abbrev pub foundNone : List Entry
-foundNone = says (surface 1 (imageOf [] [])) (reads 4960) ∷ says (gives 9) answer.Wait ∷ []
+foundNone = says (surface 1 (formA [] [])) (reads 4960) ∷ says (gives 9) answer.Wait ∷ []
 
 -- Asks for a read of block n, up to the offer after which it is acted on.
 abbrev pub asksRead : ℕ → List Entry

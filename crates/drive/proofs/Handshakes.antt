@@ -4,7 +4,7 @@ use mathlib.Core.Bool.{false}
 use mathlib.Core.List.{List, [], _∷_, _++_}
 use lib.ListN.{replicate}
 use Rattle.lists.specs.Lists.{dead}
-use Rattle.image.specs.Images.{imageOf}
+use Rattle.image.specs.FormA.{formA}
 use Rattle.drive.specs.declared.Drive.{Drive}
 use Rattle.drive.specs.Calls.{raise, lower, feed, surface, reset}
 use Rattle.drive.specs.History.{held}
@@ -19,7 +19,7 @@ noTable =
     record {
       sectors = λ s. held (bytes 7);
       exchanges =
-          (gives 7 ⇒ read 4960 ∷ surface 1 (imageOf [] []) ⇒ read 4960 ∷ []) ++ replicate 7 (timesOut ⇒ read 4960) ++ (timesOut ⇒ wait ∷ [])
+          (gives 7 ⇒ read 4960 ∷ surface 1 (formA [] []) ⇒ read 4960 ∷ []) ++ replicate 7 (timesOut ⇒ read 4960) ++ (timesOut ⇒ wait ∷ [])
           ++ opens ++ asksRead 17 2 2 ++ (go ⇒ finished 0x01 0x08 0x80 0 ∷ [])
           ++ opens ++ asksWrite 1 17 (bytes 1) ++ (go ⇒ finished 0x41 0x08 0x00 0 ∷ [])
           ++ opens ++ asksWrite 2 17 (bytes 2) ++ (go ⇒ finished 0x41 0x08 0x00 0 ∷ [])
@@ -53,7 +53,7 @@ notBlocks =
           ++ opens ++ asksTable 0x00
           ++ opens ++ asksRead 0xFFFFFE 2 2 ++ (go ⇒ finished 0x00 0x00 0x00 0 ∷ [])
           ++ opens ++ asksRead 9728 2 2 ++ (go ⇒ finished 0x01 0x00 0x40 0 ∷ []);
-      part = imageOf (dead ∷ []) [];
+      part = formA (dead ∷ []) [];
       place = sector 17;
       candidates = bytes 7 ∷ [];
     }
@@ -209,7 +209,7 @@ busyTrial =
           ++ (go ⇒ read 17 ∷ []) ++ allRefused ++ (garbles 9 ⇒ read 17 ∷ gives 7 ⇒ write 17 ∷ []) ++ allRefused
           ++ (timesOut ⇒ write 4928 ∷ done ⇒ read 4928 ∷ []) ++ allRefused
           ++ (surface 4 [] ⇒ refused 4 ∷ done ⇒ refused 5 ∷ gives 7 ⇒ read 4928 ∷ unsettled ⇒ finished 0x1D 0x00 0x80 0 ∷ []) ++ opens ++ asksTable 0x00;
-      part = imageOf (dead ∷ []) [];
+      part = formA (dead ∷ []) [];
       place = sector 17;
       candidates = bytes 7 ∷ [];
     }

@@ -3,7 +3,7 @@ use mathlib.Core.Path.{refl}
 use mathlib.Core.List.{[], _∷_, _++_}
 use lib.ListN.{replicate}
 use Rattle.lists.specs.Lists.{dead}
-use Rattle.image.specs.Images.{imageOf}
+use Rattle.image.specs.FormA.{formA}
 use Rattle.drive.specs.declared.Drive.{Drive}
 use Rattle.drive.specs.Calls.{reset}
 use Rattle.drive.proofs.Computing.{computed}
@@ -20,7 +20,7 @@ latched =
           ++ opens ++ asksWrite 1 17 (bytes 2) ++ (go ⇒ finished 0x11 0x00 0x00 0 ∷ [])
           ++ opens ++ asksRead 17 0 0 ++ (go ⇒ read 17 ∷ garbles 9 ⇒ read 17 ∷ gives 7 ⇒ finished 0x19 0x00 0x00 0 ∷ [])
           ++ opens ++ asksTable 0x00;
-      part = imageOf (dead ∷ []) [];
+      part = formA (dead ∷ []) [];
       place = sector 17;
       candidates = bytes 1 ∷ bytes 7 ∷ [];
     }
@@ -60,7 +60,7 @@ presentUnsettled =
           found (17 ∷ []) [] ++ opens ++ asksWrite 2 17 (bytes 1)
           ++ (go ⇒ write 4928 ∷ done ⇒ read 4928 ∷ timesOut ⇒ write 4928 ∷ done ⇒ read 4928 ∷ unsettled ⇒ finished 0x15 0x00 0x80 0 ∷ [])
           ++ opens ++ asksWrite 1 17 (bytes 2) ++ (go ⇒ finished 0x11 0x00 0x00 0 ∷ []) ++ opens ++ asksTable 0x00;
-      part = imageOf (17 ∷ []) [];
+      part = formA (17 ∷ []) [];
       place = sector 4928;
       candidates = bytes 1 ∷ bytes 7 ∷ [];
     }
@@ -78,7 +78,7 @@ verifyUnsettled =
           found [] [] ++ opens ++ asksWrite 2 17 (bytes 1)
           ++ (go ⇒ write 17 ∷ timesOut ⇒ write 4928 ∷ done ⇒ read 4928 ∷ gives 1 ⇒ read 4928 ∷ unsettled ⇒ finished 0x15 0x00 0x80 0 ∷ [])
           ++ opens ++ asksWrite 1 17 (bytes 2) ++ (go ⇒ finished 0x11 0x00 0x00 0 ∷ []) ++ opens ++ asksTable 0x00;
-      part = imageOf (dead ∷ []) [];
+      part = formA (dead ∷ []) [];
       place = sector 17;
       candidates = bytes 1 ∷ bytes 7 ∷ [];
     }
@@ -95,7 +95,7 @@ rereadUnsettled =
       exchanges =
           found [] [] ++ opens ++ asksRead 17 2 2
           ++ (go ⇒ read 17 ∷ garbles 9 ⇒ read 17 ∷ garbles 9 ⇒ read 17 ∷ unsettled ⇒ finished 0x19 0x00 0x80 1 ∷ []) ++ opens ++ asksTable 0x00;
-      part = imageOf [] [];
+      part = formA [] [];
       place = sector 17;
       candidates = bytes 7 ∷ [];
     }
@@ -126,7 +126,7 @@ verifyUnsettledAtOnce =
       exchanges =
           found [] [] ++ opens ++ asksWrite 2 17 (bytes 1) ++ (go ⇒ write 17 ∷ done ⇒ read 17 ∷ unsettled ⇒ finished 0x11 0x00 0x80 0 ∷ [])
           ++ opens ++ asksWrite 2 17 (bytes 2) ++ (go ⇒ finished 0x11 0x00 0x00 0 ∷ []) ++ opens ++ asksTable 0x00;
-      part = imageOf [] [];
+      part = formA [] [];
       place = sector 17;
       candidates = bytes 1 ∷ bytes 7 ∷ [];
     }

@@ -20,3 +20,4 @@ pub mod ViewsForged
 pub mod MadeForged
 pub mod ToldForged
 pub mod Statements
+pub mod Noted

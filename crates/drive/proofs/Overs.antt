@@ -6,7 +6,7 @@ use Prim.Native.Nat.{ℕ, zero, suc}
 use native.Mathlib.Omega.{arith}
 use lib.ListN.{take, replicate}
 use Rattle.logic.proofs.Bools.{clash}
-use Rattle.image.specs.Images.{imageOf}
+use Rattle.image.specs.FormA.{formA}
 use Rattle.drive.specs.declared.Access.the-variants as access
 use Rattle.drive.specs.declared.Answer.{Answer}
 use Rattle.drive.specs.declared.Answer.the-variants as answer
@@ -39,7 +39,7 @@ abbrev late : Reply
 late = reply 2 []
 
 abbrev image : Reply
-image = reply 0 (imageOf [] [])
+image = reply 0 (formA [] [])
 
 abbrev wrong : Reply
 wrong = reply 4 []

@@ -1,22 +1,24 @@
 -- DEMAND 1's BOUND IS REACHED: a read of 1 + 255 + 90 reads, then 33 sectors with a write and a hundred rereads each. There is a
 -- law for each repetition, so that its calls are not computed one by one.
 use mathlib.Core.Path.{_≡_, refl, ap, sym, subst, _∙_}
-use mathlib.Core.Bool.{Bool, true, false, _&&_}
+use mathlib.Core.Bool.{Bool, true, false, cond, _&&_}
 use mathlib.Core.List.{List, [], _∷_, _++_}
 use Prim.Native.Nat.{ℕ, zero, suc, _+_, _-_, _≤_, _<_}
 use native.Mathlib.Omega.{arith}
-use borrow.Author.Tests.{eq-eqb, lt-ltb, le-ltb, le-leb}
+use borrow.Author.Tests.{eq-eqb, ne-eqb, lt-ltb, le-ltb, le-leb}
 use lib.Dec.{eqb, ltb}
-use lib.ListN.{length, replicate}
+use lib.ListN.{length, take, replicate}
 use Rattle.logic.proofs.Bools.{branch, and-left, and-right}
 use Rattle.geometry.specs.Geometry.{spareOf}
 use Rattle.geometry.specs.declared.Sector.{Sector}
 use Rattle.lists.specs.Lists.{dead}
 use Rattle.table.specs.declared.Table.{Table}
-use Rattle.table.specs.Tables.{Shaped, spareList, tableOk, emptyTable, killedNext}
+use Rattle.table.specs.Tables.{Shaped, spareList, tableOk, emptyTable, killedNext, causesOk, causesKilled}
 use Rattle.table.proofs.Keeps.{empty-ok, killed-ok}
 use Rattle.table.proofs.Lists.{killed-shaped}
+use Rattle.table.proofs.Causes.{killed-causes-ok, killed-causes-length}
 use Rattle.buffer.specs.Runs.{same, over}
+use Rattle.drive.specs.declared.Cause.the-variants as cause
 use Rattle.drive.specs.declared.Retry.{Retry}
 use Rattle.drive.specs.declared.Seen.{Seen}
 use Rattle.drive.specs.declared.State.{State}
@@ -33,7 +35,7 @@ use Rattle.drive.specs.Words.{dataOf, statusOf}
 use Rattle.drive.specs.Records.{accessOk, retryOk, trialOk, stateOk, recordOk}
 use Rattle.drive.specs.Results.{Out, outOf, partLeft, statusLeft}
 use Rattle.drive.specs.Retries.{failed, goesOnReading, afterRead}
-use Rattle.drive.specs.Sparing.{nextSpare, missed, tried, judged, checked}
+use Rattle.drive.specs.Sparing.{nextSpare, missed, tried, lastAfter, judged, checked}
 use Rattle.drive.specs.Access.{asksRead, answerFits, bytesFit, fitting, keptPart, settled, reads, follows, answered, isCompared}
 use Rattle.drive.specs.Calls.{Call, raise, lower, feed, surface, surfaceOf, stepOf, started}
 use Rattle.drive.specs.Views.{ofAnswer}
@@ -78,35 +80,43 @@ leads-there (more {y = y} c e r (more c' e' r' l)) = rw e (leads-there {x = y} (
 -- Holds the state in the course of the command. changed: the table has changes that are not stored.
 abbrev during : Bool → Phase → State
 during changed p =
-    record { phase = p; marks = record { known = true; changed = changed; latch = false; fresh = false }; command = 0 ∷ 0 ∷ 0 ∷ 0 ∷ 255 ∷ 1 ∷ []; count = 6; fed = 0 }
+    record { phase = p; marks = record { known = true; changed = changed; latch = false; fresh = false }; command = 0 ∷ 0 ∷ 0 ∷ 0 ∷ 255 ∷ 1 ∷ []; count = 6; fed = 0; run = 0 }
 
 -- Holds what a call gave that asked for an access.
-abbrev asked : Table → Bool → List ℕ → Access → Answer → Out
-asked t changed u x a = record { step = record { drive = record { table = t; state = during changed (phase.Awaiting x) }; answer = a }; bytes = u }
+abbrev asked : Table → List ℕ → Bool → List ℕ → Access → Answer → Out
+asked t cs changed u x a = record { step = record { drive = record { table = t; causes = cs; state = during changed (phase.Awaiting x) }; answer = a }; bytes = u }
 
 -- Says whether an access is a command's, and an answer fits it.
 abbrev suits : Access → ℕ → List ℕ → Bool
 suits x a bs = ofCommand x && (answerFits (asksRead x) a && bytesFit (asksRead x) a (length bs))
 
-module _ (t : Table) (changed : Bool) (u : List ℕ) where
+module _ (t : Table) (cs : List ℕ) (changed : Bool) (u : List ℕ) where
   -- Returns what the answer to an access gives.
   abbrev given : Access → ℕ → List ℕ → Out
-  given x a bs = outOf t bs u (follows x (during changed (phase.Awaiting x)) t a bs (isCompared x && eqb a 0 && same bs (dataOf u)))
+  given x a bs = outOf t cs bs u (follows x (during changed (phase.Awaiting x)) t a bs (isCompared x && eqb a 0 && same bs (dataOf u)))
 
-  gives : tableOk t ≡ true → length u ≡ 536 → (x : Access) (z : Answer) (a : ℕ) (bs : List ℕ) → accessOk (t .nspares) true x ≡ true → suits x a bs ≡ true
-      → stepOf (surface a bs) (asked t changed u x z .step .drive) u ≡ given x a bs
+  gives : tableOk t ≡ true → causesOk (take (t .nspares) cs) ≡ true → length u ≡ 536 → (x : Access) (z : Answer) (a : ℕ) (bs : List ℕ) → accessOk (t .nspares) true x ≡ true → suits x a bs ≡ true
+      → stepOf (surface a bs) (asked t cs changed u x z .step .drive) u ≡ given x a bs
   unfolding stepOf surfaceOf recordOk stateOk answered fitting
-  gives k h x z a bs o f =
+  gives k kc h x z a bs o f =
       let fits = and-right (ofCommand x) (answerFits (asksRead x) a && bytesFit (asksRead x) a (length bs)) f in
       let p = and-left (answerFits (asksRead x) a) (bytesFit (asksRead x) a (length bs)) fits in
       let q = and-right (answerFits (asksRead x) a) (bytesFit (asksRead x) a (length bs)) fits in
-      rw (k, o, eq-eqb (length u) 536 h, p, q)
+      rw (k, kc, o, eq-eqb (length u) 536 h, p, q)
 
   -- An answer that suits leads there.
-  answers : tableOk t ≡ true → length u ≡ 536 → (x : Access) (z : Answer) (a : ℕ) (bs : List ℕ) {cs : List Call} {y w : Out}
+  answers : tableOk t ≡ true → causesOk (take (t .nspares) cs) ≡ true → length u ≡ 536 → (x : Access) (z : Answer) (a : ℕ) (bs : List ℕ) {rest : List Call} {y w : Out}
       → accessOk (t .nspares) true x ≡ true → suits x a bs ≡ true → given x a bs ≡ y → ofAnswer (y .step .answer) .refused ≡ false
-      → Leads y cs w → Leads (asked t changed u x z) (surface a bs ∷ cs) w
-  answers k h x z a bs o f e r l = more {x = asked t changed u x z} (and-left (ofCommand x) _ f) (gives k h x z a bs o f ∙ e) r l
+      → Leads y rest w → Leads (asked t cs changed u x z) (surface a bs ∷ rest) w
+  answers k kc h x z a bs o f e r l = more {x = asked t cs changed u x z} (and-left (ofCommand x) _ f) (gives k kc h x z a bs o f ∙ e) r l
+
+-- Holds the causes of no entry.
+abbrev noCauses : List ℕ
+noCauses = replicate 32 0
+
+none-noted : causesOk (take 0 noCauses) ≡ true
+unfolding causesOk
+none-noted = refl
 
 -- THE READS
 
@@ -127,7 +137,7 @@ abbrev later : ℕ → ℕ → ℕ → Retry
 later left spent errors = retry false left spent (record { errors = errors; crc = true; timeout = false })
 
 abbrev asks-again : Retry → Out
-asks-again r = asked emptyTable false (lent 1) (access.Read r) (answer.Read (r .sector))
+asks-again r = asked emptyTable noCauses false (lent 1) (access.Read r) (answer.Read (r .sector))
 
 later-ok : (n k e : ℕ) → e + n ≤ 255 → k ≤ 89 → retryOk (later n k e) ≡ true
 unfolding retryOk
@@ -152,7 +162,7 @@ further k h = again 0 (k + 1) 255 (omega arith)
 one-fails : (n k e : ℕ) (r : Retry) {cs : List Call} {w : Out} → e + n ≤ 255 → k ≤ 89 → afterRead (later n k e) 1 ≡ outcome.Again r
     → Leads (asks-again r) cs w → Leads (asks-again (later n k e)) (crc ∷ cs) w
 unfolding follows keptPart reads partLeft over statusLeft
-one-fails n k e r h g q l = answers emptyTable false (lent 1) empty-ok refl (access.Read (later n k e)) _ 1 (brought 1) (later-ok n k e h g) refl (rw q) refl l
+one-fails n k e r h g q l = answers emptyTable noCauses false (lent 1) empty-ok none-noted refl (access.Read (later n k e)) _ 1 (brought 1) (later-ok n k e h g) refl (rw q) refl l
 
 rereads-fail : (n e : ℕ) {cs : List Call} {w : Out} → e + n ≡ 255 → Leads (asks-again (later 0 0 255)) cs w → Leads (asks-again (later n 0 e)) (replicate n crc ++ cs) w
 rereads-fail zero e h l = let q : e ≡ 255 = omega arith in rw q l
@@ -164,41 +174,41 @@ further-fail (suc n) k h l = one-fails 0 k 255 (later 0 (k + 1) 255) (omega arit
 
 -- A TRIAL
 
--- Holds the trial of a sector, of which n rereads were made and failed.
+-- Holds the trial of a sector, of which n rereads were made and failed by CRC errors, as all before it did.
 abbrev trial : Sector → Bool → ℕ → Trial
 trial s spare n =
-    record { block = record { 0 = 0 }; sector = s; spare = spare; rereads = n; failures = n; seen = record { errors = 255; crc = true; timeout = false } }
+    record { block = record { 0 = 0 }; sector = s; spare = spare; rereads = n; failures = n; seen = record { errors = 255; crc = true; timeout = false }; last = cond (eqb n 0) cause.Unknown cause.Crc; before = cond spare cause.Crc cause.Unknown; present = cond spare cause.Crc cause.Unknown }
 
 -- Asks for its write, and for a reread.
-abbrev asks-write : Table → Bool → List ℕ → Sector → Bool → Out
-asks-write t changed u s spare = asked t changed u (access.TrialWrite (trial s spare 0)) (answer.Write s)
+abbrev asks-write : Table → List ℕ → Bool → List ℕ → Sector → Bool → Out
+asks-write t cs changed u s spare = asked t cs changed u (access.TrialWrite (trial s spare 0)) (answer.Write s)
 
-abbrev asks-reread : Table → Bool → List ℕ → Sector → Bool → ℕ → Out
-asks-reread t changed u s spare n = asked t changed u (access.TrialRead (trial s spare n)) (answer.Read s)
+abbrev asks-reread : Table → List ℕ → Bool → List ℕ → Sector → Bool → ℕ → Out
+asks-reread t cs changed u s spare n = asked t cs changed u (access.TrialRead (trial s spare n)) (answer.Read s)
 
 -- Returns what the failure of that reread gives.
-abbrev rereadFailed : Table → Bool → List ℕ → Sector → Bool → ℕ → Out
-rereadFailed t changed u s spare n = given t changed u (access.TrialRead (trial s spare n)) 1 (brought 1)
+abbrev rereadFailed : Table → List ℕ → Bool → List ℕ → Sector → Bool → ℕ → Out
+rereadFailed t cs changed u s spare n = given t cs changed u (access.TrialRead (trial s spare n)) 1 (brought 1)
 
 -- A trial that fails leads to what the hundredth failure gives.
-module _ (t : Table) (changed : Bool) (u : List ℕ) (ok : tableOk t ≡ true) (long : length u ≡ 536) (s : Sector) (spare : Bool)
+module _ (t : Table) (cs : List ℕ) (changed : Bool) (u : List ℕ) (ok : tableOk t ≡ true) (noted-ok : causesOk (take (t .nspares) cs) ≡ true) (long : length u ≡ 536) (s : Sector) (spare : Bool)
     (fits : (k : ℕ) → k ≤ 100 → trialOk (t .nspares) (trial s spare k) ≡ true) where
-  another : (k : ℕ) → k < 99 → rereadFailed t changed u s spare k ≡ asks-reread t changed u s spare (k + 1)
-  unfolding follows checked judged partLeft statusLeft
-  another k h = rw (lt-ltb (k + 1) 100 (omega arith))
+  another : (k : ℕ) → k < 99 → rereadFailed t cs changed u s spare k ≡ asks-reread t cs changed u s spare (k + 1)
+  unfolding follows checked lastAfter judged partLeft statusLeft
+  another k h = rw (lt-ltb (k + 1) 100 (omega arith), ne-eqb (k + 1) 0 (λ e. omega arith))
 
-  hundred-fail : (n k : ℕ) {cs : List Call} {y w : Out} → k + n ≡ 99 → rereadFailed t changed u s spare 99 ≡ y → ofAnswer (y .step .answer) .refused ≡ false
-      → Leads y cs w → Leads (asks-reread t changed u s spare k) (replicate (suc n) crc ++ cs) w
+  hundred-fail : (n k : ℕ) {rest : List Call} {y w : Out} → k + n ≡ 99 → rereadFailed t cs changed u s spare 99 ≡ y → ofAnswer (y .step .answer) .refused ≡ false
+      → Leads y rest w → Leads (asks-reread t cs changed u s spare k) (replicate (suc n) crc ++ rest) w
   hundred-fail zero k h e r l =
       let q : k ≡ 99 = omega arith in
-      rw q (answers t changed u ok long (access.TrialRead (trial s spare 99)) _ 1 (brought 1) (fits 99 (omega arith)) refl e r l)
+      rw q (answers t cs changed u ok noted-ok long (access.TrialRead (trial s spare 99)) _ 1 (brought 1) (fits 99 (omega arith)) refl e r l)
   hundred-fail (suc n) k h e r l =
-      answers t changed u ok long (access.TrialRead (trial s spare k)) _ 1 (brought 1) (fits k (omega arith)) refl (another k (omega arith)) refl (hundred-fail n (k + 1) (omega arith) e r l)
+      answers t cs changed u ok noted-ok long (access.TrialRead (trial s spare k)) _ 1 (brought 1) (fits k (omega arith)) refl (another k (omega arith)) refl (hundred-fail n (k + 1) (omega arith) e r l)
 
-  trial-fails : {cs : List Call} {y w : Out} → rereadFailed t changed u s spare 99 ≡ y → ofAnswer (y .step .answer) .refused ≡ false
-      → Leads y cs w → Leads (asks-write t changed u s spare) (surface 0 [] ∷ (replicate 100 crc ++ cs)) w
+  trial-fails : {rest : List Call} {y w : Out} → rereadFailed t cs changed u s spare 99 ≡ y → ofAnswer (y .step .answer) .refused ≡ false
+      → Leads y rest w → Leads (asks-write t cs changed u s spare) (surface 0 [] ∷ (replicate 100 crc ++ rest)) w
   unfolding follows tried partLeft statusLeft
-  trial-fails e r l = answers t changed u ok long (access.TrialWrite (trial s spare 0)) _ 0 [] (fits 0 (omega arith)) refl refl refl (hundred-fail 99 0 refl e r l)
+  trial-fails e r l = answers t cs changed u ok noted-ok long (access.TrialWrite (trial s spare 0)) _ 0 [] (fits 0 (omega arith)) refl refl refl (hundred-fail 99 0 refl e r l)
 
 -- THE SPARES
 
@@ -207,10 +217,15 @@ abbrev killedAll : ℕ → Table → Table
 killedAll zero t = t
 killedAll (suc n) t = killedAll n (killedNext t)
 
+-- Returns the causes with them.
+abbrev notedAll : ℕ → Table → List ℕ → List ℕ
+notedAll zero t cs = cs
+notedAll (suc n) t cs = notedAll n (killedNext t) (causesKilled t 1 cs)
+
 -- Holds what the end of the command gives: failed with CRC errors, no spare unused, E 255.
-abbrev ended : Table → List ℕ → Out
-ended t u =
-    record { step = record { drive = record { table = t; state = during true phase.Idle }; answer = answer.Finished }; bytes = 0x09 ∷ 0x40 ∷ 0x00 ∷ 0xFF ∷ dataOf u }
+abbrev ended : Table → List ℕ → List ℕ → Out
+ended t cs u =
+    record { step = record { drive = record { table = t; causes = cs; state = during true phase.Idle }; answer = answer.Finished }; bytes = 0x09 ∷ 0x40 ∷ 0x00 ∷ 0xFF ∷ dataOf u }
 
 killed-count : (t : Table) → t .nspares < 32 → killedNext t .nspares ≡ t .nspares + 1
 unfolding killedNext
@@ -220,49 +235,51 @@ spare-ok : (n : ℕ) → n < 32 → (k : ℕ) → k ≤ 100 → trialOk n (trial
 unfolding trialOk
 spare-ok n h k g = rw (lt-ltb (4928 + n) 9792 (omega arith), le-leb k 100 g, le-leb k k (omega arith), lt-ltb n 32 h, eq-eqb (4928 + n) (4928 + n) refl)
 
-module _ (u : List ℕ) (long : length u ≡ 536) (t : Table) (changed : Bool) where
+module _ (u : List ℕ) (long : length u ≡ 536) (t : Table) (cs : List ℕ) (changed : Bool) where
   -- The next unused spare is tried, or there is none.
-  next-spare : t .nspares + 1 < 32 → rereadFailed t changed u (spareOf (t .nspares)) true 99 ≡ asks-write (killedNext t) true u (spareOf (killedNext t .nspares)) true
-  unfolding follows checked judged missed nextSpare partLeft statusLeft
+  next-spare : t .nspares + 1 < 32 → rereadFailed t cs changed u (spareOf (t .nspares)) true 99 ≡ asks-write (killedNext t) (causesKilled t 1 cs) true u (spareOf (killedNext t .nspares)) true
+  unfolding follows checked lastAfter judged missed nextSpare partLeft statusLeft
   next-spare h = rw (lt-ltb (t .nspares + 1) 32 h, killed-count t (omega arith))
 
-  no-spare : t .nspares + 1 ≡ 32 → rereadFailed t changed u (spareOf (t .nspares)) true 99 ≡ ended (killedNext t) u
-  unfolding follows checked judged missed nextSpare partLeft statusLeft statusOf
+  no-spare : t .nspares + 1 ≡ 32 → rereadFailed t cs changed u (spareOf (t .nspares)) true 99 ≡ ended (killedNext t) (causesKilled t 1 cs) u
+  unfolding follows checked lastAfter judged missed nextSpare partLeft statusLeft statusOf
   no-spare h = rw (le-ltb (t .nspares + 1) 32 (omega arith))
 
   -- The trial of a spare that fails leads there.
-  spare-fails : {cs : List Call} {y w : Out} → tableOk t ≡ true → t .nspares < 32 → rereadFailed t changed u (spareOf (t .nspares)) true 99 ≡ y
-      → ofAnswer (y .step .answer) .refused ≡ false → Leads y cs w → Leads (asks-write t changed u (spareOf (t .nspares)) true) (surface 0 [] ∷ (replicate 100 crc ++ cs)) w
-  spare-fails ok h = trial-fails t changed u ok long (spareOf (t .nspares)) true (spare-ok (t .nspares) h)
+  spare-fails : {rest : List Call} {y w : Out} → tableOk t ≡ true → causesOk (take (t .nspares) cs) ≡ true → t .nspares < 32 → rereadFailed t cs changed u (spareOf (t .nspares)) true 99 ≡ y
+      → ofAnswer (y .step .answer) .refused ≡ false → Leads y rest w → Leads (asks-write t cs changed u (spareOf (t .nspares)) true) (surface 0 [] ∷ (replicate 100 crc ++ rest)) w
+  spare-fails ok kc h = trial-fails t cs changed u ok kc long (spareOf (t .nspares)) true (spare-ok (t .nspares) h)
 
-spares-fail : (u : List ℕ) → length u ≡ 536 → (n : ℕ) (t : Table) (changed : Bool) → tableOk t ≡ true → Shaped t → t .nspares + suc n ≡ 32
-    → Leads (asks-write t changed u (spareOf (t .nspares)) true) (trials (suc n)) (ended (killedAll (suc n) t) u)
-spares-fail u long zero t changed ok s h = spare-fails u long t changed ok (omega arith) (no-spare u long t changed (omega arith)) refl none
-spares-fail u long (suc n) t changed ok s h =
-    spare-fails u long t changed ok (omega arith) (next-spare u long t changed (omega arith)) refl
-    (spares-fail u long n (killedNext t) true (killed-ok t s ok) (killed-shaped t s) (omega (arith, killed-count t (omega arith))))
+spares-fail : (u : List ℕ) → length u ≡ 536 → (n : ℕ) (t : Table) (cs : List ℕ) (changed : Bool) → tableOk t ≡ true → Shaped t → causesOk (take (t .nspares) cs) ≡ true → length cs ≡ 32 → t .nspares + suc n ≡ 32
+    → Leads (asks-write t cs changed u (spareOf (t .nspares)) true) (trials (suc n)) (ended (killedAll (suc n) t) (notedAll (suc n) t cs) u)
+spares-fail u long zero t cs changed ok s kc lc h = spare-fails u long t cs changed ok kc (omega arith) (no-spare u long t cs changed (omega arith)) refl none
+spares-fail u long (suc n) t cs changed ok s kc lc h =
+    let c = killed-count t (omega arith) in
+    let kc' = subst (λ (k : ℕ). causesOk (take k (causesKilled t 1 cs)) ≡ true) (sym c) (killed-causes-ok t 1 cs (omega arith) lc (omega arith) kc) in
+    spare-fails u long t cs changed ok kc (omega arith) (next-spare u long t cs changed (omega arith)) refl
+    (spares-fail u long n (killedNext t) (causesKilled t 1 cs) true (killed-ok t s ok) (killed-shaped t s) kc' (killed-causes-length t 1 cs ∙ lc) (omega (arith, c)))
 
 -- THE WHOLE READ
 
 -- Holds what its end gives: every spare is dead, and the data part has what the good read brought.
 abbrev final : Out
-final = ended (killedAll 32 emptyTable) (lent 7)
+final = ended (killedAll 32 emptyTable) (notedAll 32 emptyTable noCauses) (lent 7)
 
-from-the-present-sector : Leads (asks-write emptyTable false (lent 7) (record { 0 = 0 }) false) (trials 33) final
-unfolding follows checked judged missed nextSpare partLeft statusLeft trialOk
+from-the-present-sector : Leads (asks-write emptyTable noCauses false (lent 7) (record { 0 = 0 }) false) (trials 33) final
+unfolding follows checked lastAfter judged missed nextSpare partLeft statusLeft trialOk
 from-the-present-sector =
-    trial-fails emptyTable false (lent 7) empty-ok refl (record { 0 = 0 }) false (λ k h. rw (le-leb k 100 h, le-leb k k (omega arith))) refl refl
-    (spares-fail (lent 7) refl 31 emptyTable false empty-ok (refl, refl) refl)
+    trial-fails emptyTable noCauses false (lent 7) empty-ok none-noted refl (record { 0 = 0 }) false (λ k h. rw (le-leb k 100 h, le-leb k k (omega arith))) refl refl
+    (spares-fail (lent 7) refl 31 emptyTable noCauses false empty-ok (refl, refl) none-noted refl refl)
 
 from-the-good-read : Leads (asks-again (later 0 89 255)) (good ∷ trials 33) final
 unfolding follows afterRead goesOnReading keptPart reads settled partLeft over statusLeft
 from-the-good-read =
-    answers emptyTable false (lent 1) empty-ok refl (access.Read (later 0 89 255)) _ 0 (brought 7) (later-ok 0 89 255 (omega arith) (omega arith)) refl refl refl from-the-present-sector
+    answers emptyTable noCauses false (lent 1) empty-ok none-noted refl (access.Read (later 0 89 255)) _ 0 (brought 7) (later-ok 0 89 255 (omega arith) (omega arith)) refl refl refl from-the-present-sector
 
 leads : Leads begun longest final
 unfolding computed
 leads =
-    answers emptyTable false (lent 0) empty-ok refl (access.Read (retry true 255 0 (record { errors = 0; crc = false; timeout = false }))) _ 1 (brought 1) refl refl refl refl
+    answers emptyTable noCauses false (lent 0) empty-ok none-noted refl (access.Read (retry true 255 0 (record { errors = 0; crc = false; timeout = false }))) _ 1 (brought 1) refl refl refl refl
     (rereads-fail 255 0 refl (further-fail 89 0 refl from-the-good-read))
 
 pub reached : accesses (begun .step .drive) (begun .bytes) longest ≡ 3679

@@ -4,7 +4,7 @@ use mathlib.Core.Bool.{cond}
 use mathlib.Core.List.{[], _∷_, _++_}
 use lib.Dec.{eqb}
 use lib.ListN.{replicate}
-use Rattle.image.specs.Images.{imageOf}
+use Rattle.image.specs.FormA.{formA}
 use Rattle.drive.specs.declared.Drive.{Drive}
 use Rattle.drive.specs.History.{held, unreadable}
 use Rattle.drive.proofs.Computing.{computed}
@@ -50,7 +50,7 @@ below-the-threshold-it-stays old = happens old rereadsComeGood refl
 abbrev pub unreadableAtFirst : Run
 unreadableAtFirst =
     record {
-      sectors = λ s. cond (eqb (s .0) 4960) (held (imageOf [] [])) unreadable;
+      sectors = λ s. cond (eqb (s .0) 4960) (held (formA [] [])) unreadable;
       exchanges = found [] [] ++ opens ++ asksWrite 1 17 (bytes 1) ++ (go ⇒ write 17 ∷ done ⇒ finished 0x00 0x00 0x80 0 ∷ []);
       part = bytes 1;
       place = sector 17;

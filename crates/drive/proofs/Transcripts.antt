@@ -8,7 +8,8 @@ use lib.Dec.{eqb}
 use lib.ListN.{getD, replicate}
 use Rattle.logic.proofs.Bools.{clash, and-left, and-right, and-true}
 use Rattle.geometry.specs.declared.Block.{Block}
-use Rattle.image.specs.Images.{imageOf}
+use Rattle.image.specs.FormA.{formA}
+use Rattle.image.specs.FormB.{formB}
 use Rattle.buffer.specs.Runs.{same}
 use Rattle.buffer.proofs.Compare.{same-equal}
 use Rattle.drive.specs.declared.Drive.{Drive}
@@ -292,7 +293,7 @@ bytes v = replicate 532 v
 
 -- Returns sectors with a table of these lists, and sevens in all the others.
 abbrev pub disk : List ℕ → List ℕ → Sectors
-disk spares bads = λ s. held (cond (eqb (s .0) 4960) (imageOf spares bads) (bytes 7))
+disk spares bads = λ s. held (cond (eqb (s .0) 4960) (formA spares bads) (bytes 7))
 
 abbrev pub sector : ℕ → Where
 sector n = at (record { 0 = n })
@@ -316,9 +317,13 @@ timesOut = surface 2 []
 abbrev pub unsettled : Call
 unsettled = surface 3 []
 
--- Finds the table at the start's read.
+-- Finds the table at the start's read, in form A.
 abbrev pub found : List ℕ → List ℕ → List Exchange
-found spares bads = surface 0 (imageOf spares bads) ⇒ wait ∷ []
+found spares bads = surface 0 (formA spares bads) ⇒ wait ∷ []
+
+-- Finds it in form B, with this run number and these causes.
+abbrev pub foundB : ℕ → List ℕ → List ℕ → List ℕ → List Exchange
+foundB run spares causes bads = surface 0 (formB run spares causes bads) ⇒ wait ∷ []
 
 -- Raises in idle: with no store, and with one.
 abbrev pub opens : List Exchange

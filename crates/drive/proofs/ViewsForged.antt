@@ -1,7 +1,7 @@
 -- What is read off a call and off an answer: lists of entries, each against a wrong row of the two views.
 use mathlib.Core.Path.{refl}
 use mathlib.Core.List.{List, [], _∷_, _++_}
-use Rattle.image.specs.Images.{imageOf}
+use Rattle.image.specs.FormA.{formA}
 use Rattle.drive.specs.declared.Offer.the-variants as offer
 use Rattle.drive.specs.declared.Answer.{Answer}
 use Rattle.drive.specs.declared.Answer.the-variants as answer
@@ -44,7 +44,7 @@ a-raise-a-feed-and-an-answer-break-nothing-off = (
 
 -- Feeds an image while the start's read is awaited: no block has a sector yet.
 abbrev imageFed : List Entry
-imageFed = says (feed (imageOf [] [])) answer.Wait ∷ asksRead 17 ++ (says go (reads 17) ∷ [])
+imageFed = says (feed (formA [] [])) answer.Wait ∷ asksRead 17 ++ (says go (reads 17) ∷ [])
 
 pub what-is-fed-is-no-table : Forbids imageFed
 unfolding computed
@@ -106,7 +106,7 @@ no-answer-but-an-offer-offers = (
 
 -- Brings an image after this answer. If a read of 4960 was asked for, the table is learnt anew, and the seven a candidate again.
 abbrev relearns : Answer → List Entry
-relearns x = found [] ++ writesGood 1 ++ (says raise x ∷ says (surface 0 (imageOf [] [])) answer.Wait ∷ []) ++ readsGood 7
+relearns x = found [] ++ writesGood 1 ++ (says raise x ∷ says (surface 0 (formA [] [])) answer.Wait ∷ []) ++ readsGood 7
 
 pub no-answer-but-a-read-s-reads :
     Forbids (relearns answer.Wait)

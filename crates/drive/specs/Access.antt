@@ -9,7 +9,7 @@ use Rattle.geometry.specs.Geometry.{tableSector}
 use Rattle.lists.specs.Lists.{memberOf}
 use Rattle.table.specs.declared.Table.{Table}
 use Rattle.table.specs.Tables.{badList}
-use Rattle.image.specs.Images.{wellFormed}
+use Rattle.image.specs.Images.{wellFormed, runOf}
 use Rattle.drive.specs.declared.State.{State}
 use Rattle.drive.specs.declared.Marks.{Marks}
 use Rattle.drive.specs.declared.Retry.{Retry}
@@ -24,13 +24,14 @@ use Rattle.drive.specs.declared.Phase.the-variants as phase
 use Rattle.drive.specs.declared.Answer.the-variants as answer
 use Rattle.drive.specs.declared.Refusal.the-variants as refusal
 use Rattle.drive.specs.declared.Ending.the-variants as ending
+use Rattle.drive.specs.declared.Cause.the-variants as cause
 use Rattle.drive.specs.declared.Change.the-variants as change
 use Rattle.drive.specs.declared.Part.{Part}
 use Rattle.drive.specs.declared.Part.the-variants as part
 use Rattle.drive.specs.declared.Status.the-variants as status
 use Rattle.drive.specs.declared.Turn.{Turn}
 use Rattle.drive.specs.Records.{awaits, ofAccess}
-use Rattle.drive.specs.Results.{inPhase, withMarks, refuse, say, finish, untouched, clean, onPresent}
+use Rattle.drive.specs.Results.{inPhase, withMarks, withRun, refuse, say, finish, untouched, clean, onPresent}
 use Rattle.drive.specs.Handshake.{opened}
 use Rattle.drive.specs.Retries.{met, afterRead}
 use Rattle.drive.specs.Sparing.{begin, nextSpare, fault, tried, checked}
@@ -54,10 +55,10 @@ fitting read l a n x = cond (answerFits read a) (cond (bytesFit read a n) x (ref
 -- THE START: "It reads until a well-formed image comes with answer 0, at most 10 times; answer 3 ends it, without a latch.
 -- Then it waits, idle, with the table or with none." "table bytes never enter the buffer"
 
--- Ends the start with the table that was read.
-abbrev pub withTable : State → Turn
-withTable l =
-    record { state = withMarks l (record { known = true; changed = l .marks .changed; latch = l .marks .latch; fresh = l .marks .fresh }) phase.Idle; answer = answer.Wait; change = change.Load; leaves = untouched }
+-- Ends the start with the table that was read, and its run number.
+abbrev pub withTable : State → ℕ → Turn
+withTable l run =
+    record { state = withMarks (withRun l run) (record { known = true; changed = l .marks .changed; latch = l .marks .latch; fresh = l .marks .fresh }) phase.Idle; answer = answer.Wait; change = change.Load; leaves = untouched }
 
 -- Says whether a well-formed image came.
 abbrev pub isTaken : ℕ → List ℕ → Bool
@@ -66,7 +67,7 @@ isTaken a bs = eqb a 0 && wellFormed bs
 -- Returns what the answer to read k of the start leads to.
 unfoldable pub startAnswered : ℕ → State → ℕ → List ℕ → Turn
 startAnswered k l a bs =
-    cond (isTaken a bs) (withTable l)
+    cond (isTaken a bs) (withTable l (runOf bs))
     (cond (eqb a 3) (say (inPhase l phase.Idle) answer.Wait)
     (cond (ltb k 10) (say (inPhase l (phase.Awaiting (access.Start (k + 1)))) (answer.Read tableSector)) (say (inPhase l phase.Idle) answer.Wait)))
 
@@ -130,7 +131,7 @@ written l w =
 unfoldable pub writeAnswered : State → Table → Target → ℕ → Turn
 writeAnswered l t w a =
     cond (eqb a 0) (written l w)
-    (cond (eqb a 3) (finish l change.Keep ending.Latched clean part.Kept) (nextSpare (t .nspares) l change.Keep (w .block) (met a clean)))
+    (cond (eqb a 3) (finish l change.Keep ending.Latched clean part.Kept) (nextSpare (t .nspares) l change.Keep (w .block) (met a clean) cause.Timeout cause.Timeout))
 
 -- Returns what the answer to the first verify leads to: "A write/verify whose first verify fails gets that trial too"
 unfoldable pub verifyAnswered : State → Target → ℕ → Bool → Turn

@@ -1,4 +1,5 @@
--- THE SEVEN CALLS: each a function of the record, the lent buffer and the arguments, giving record, answer and buffer.
+-- THE CALLS: seven, each a function of the record, the lent buffer and the arguments, giving record, answer and buffer; and
+-- convert, which has no record.
 use mathlib.Core.Bool.{Bool, true, false, cond, _&&_}
 use mathlib.Core.List.{List, [], _∷_}
 use Prim.Native.Nat.{ℕ}
@@ -7,7 +8,9 @@ use lib.ListN.{length, replicate}
 use Rattle.geometry.specs.Geometry.{tableSector}
 use Rattle.table.specs.Tables.{emptyTable}
 use Rattle.buffer.specs.Runs.{same}
-use Rattle.image.specs.Images.{tableImage}
+use Rattle.image.specs.declared.Fault.{Fault}
+use Rattle.image.specs.declared.Fault.the-variants as fault
+use Rattle.image.specs.Images.{wellFormed, faultOf, converted}
 use Rattle.drive.specs.declared.Drive.{Drive}
 use Rattle.drive.specs.declared.Step.{Step}
 use Rattle.drive.specs.declared.Answer.{Answer}
@@ -19,13 +22,13 @@ use Rattle.drive.specs.Records.{recordOk}
 use Rattle.drive.specs.declared.Access.the-variants as access
 use Rattle.drive.specs.declared.Turn.{Turn}
 use Rattle.drive.specs.Words.{dataOf}
-use Rattle.drive.specs.Results.{Out, outOf, guarded}
+use Rattle.drive.specs.Results.{Out, outOf, storedImage, guarded}
 use Rattle.drive.specs.Handshake.{raised, lowered, fedTo, rested}
 use Rattle.drive.specs.Access.{answered, verifies}
 
 -- Returns what a call gives: codes 1 and 2 first, then what its own rule says. bs are the bytes lent with the call.
 abbrev pub called : Drive → List ℕ → List ℕ → Turn → Out
-called d u bs x = outOf (d .table) bs u (guarded (recordOk d) (length u) (d .state) x)
+called d u bs x = outOf (d .table) (d .causes) bs u (guarded (recordOk d) (length u) (d .state) x)
 
 -- Returns what each call gives.
 unfoldable pub raiseOf : Drive → List ℕ → Out
@@ -48,7 +51,8 @@ abbrev pub started : Drive
 started =
     record {
       table = emptyTable;
-      state = record { phase = phase.Awaiting (access.Start 1); marks = record { known = false; changed = false; latch = false; fresh = true }; command = replicate 6 0; count = 0; fed = 0 };
+      causes = replicate 32 0;
+      state = record { phase = phase.Awaiting (access.Start 1); marks = record { known = false; changed = false; latch = false; fresh = true }; command = replicate 6 0; count = 0; fed = 0; run = 0 };
     }
 
 -- Returns what start gives. "Start makes the record anew from any record (of the codes only 2 applies), zeroes the buffer and
@@ -69,9 +73,35 @@ unfoldable pub imageOutOf : Drive → List ℕ → Out
 imageOutOf d u =
     cond (recordOk d)
     (cond (eqb (length u) 532)
-    (cond (d .state .marks .known) (imageSays d answer.Wait (tableImage (d .table))) (imageSays d (answer.Refused refusal.Place) u))
+    (cond (d .state .marks .known) (imageSays d answer.Wait (storedImage d)) (imageSays d (answer.Refused refusal.Place) u))
     (imageSays d (answer.Refused refusal.Buffer) u))
     (imageSays d (answer.Refused refusal.Record) u)
+
+-- CONVERT, document 02, request 6: "One call, with no record, answering wait, turns either form into the other in a second lent
+-- buffer, both of 532 bytes, else 2."
+
+-- Holds its result: the answer, and what it leaves in the second buffer. The first is only read.
+pub record Conversion : Type 0 where
+  pub answer : Answer
+  pub bytes : List ℕ
+
+-- Returns the refusal of bytes that are no image: "6 neither a well-formed A nor the four first bytes of B, 7 sum wrong, 8 an
+-- offset, count, entry, cause or zero of B wrong"
+abbrev pub refusalFor : Fault → Refusal
+refusalFor fault.Form = refusal.Form
+refusalFor fault.Sum = refusal.Sum
+refusalFor fault.Field = refusal.Field
+
+-- Refuses a conversion. It leaves the second buffer too.
+abbrev pub unconverted : Refusal → List ℕ → Conversion
+unconverted r to = record { answer = answer.Refused r; bytes = to }
+
+-- Returns what convert gives.
+unfoldable pub convertOf : List ℕ → List ℕ → Conversion
+convertOf from to =
+    cond (eqb (length from) 532 && eqb (length to) 532)
+    (cond (wellFormed from) (record { answer = answer.Wait; bytes = converted from }) (unconverted (refusalFor (faultOf from)) to))
+    (unconverted refusal.Buffer to)
 
 -- Names the calls of demand 3's list.
 pub data Call : Type 0 where

@@ -33,14 +33,14 @@ use Rattle.drive.specs.declared.Turn.{Turn}
 use Rattle.drive.specs.declared.Kind.{Kind}
 use Rattle.drive.specs.declared.Order.{Order}
 use Rattle.drive.specs.Words.{isRead, isWrite, isVerify, orderOf, blockOf}
-use Rattle.drive.specs.Results.{inPhase, withMarks, refuse, say, finish, clean, onPresent}
+use Rattle.drive.specs.Results.{inPhase, withMarks, withRun, refuse, say, finish, clean, onPresent}
 use Rattle.drive.specs.Sparing.{begin}
 
 -- RAISE
 
 -- Returns the state with an offer made, n command bytes kept and no data byte fed for this command.
 abbrev pub opened : State → Offer → ℕ → State
-opened l o n = record { phase = phase.Offered o; marks = l .marks; command = l .command; count = n; fed = 0 }
+opened l o n = record { phase = phase.Offered o; marks = l .marks; command = l .command; count = n; fed = 0; run = l .run }
 
 -- Offers 01. "then offer 01"; it "drops the bytes"
 abbrev pub offersCommand : State → Turn
@@ -50,10 +50,14 @@ offersCommand l = say (opened l offer.Command 0) (answer.Offer offer.Command)
 abbrev pub storesFirst : Marks → Bool
 storesFirst m = m .known && m .changed && not (m .latch)
 
+-- Returns the state with its run number one up. Document 02, request 6: "one more per store asked for, staying at its top"
+abbrev pub numbered : State → State
+numbered l = withRun l (cond (eqb (l .run) 0xFFFFFFFF) (l .run) (l .run + 1))
+
 -- Returns what a raise does in idle. "with a known table changed since its last store or start, and no latch", "store goes
 -- first"; "then offer 01"
 unfoldable pub raisedIdle : State → Turn
-raisedIdle l = cond (storesFirst (l .marks)) (say (inPhase l (phase.Awaiting access.Store)) answer.Store) (offersCommand l)
+raisedIdle l = cond (storesFirst (l .marks)) (say (inPhase (numbered l) (phase.Awaiting access.Store)) answer.Store) (offersCommand l)
 
 -- Returns the offer for a command of n bytes. "opcode 00, 01, 02 (hex) offers 02, 03, 04; fewer than 6 bytes for a read or 4 for
 -- a write, or another opcode, offers 01"
@@ -187,7 +191,7 @@ lowered (phase.Awaiting x) l t b = refuse refusal.Place l
 -- Takes command bytes. "six are kept, later ones ignored"
 abbrev pub fedCommand : State → List ℕ → Turn
 fedCommand l bs =
-    say (record { phase = phase.Command; marks = l .marks; command = over (l .count) (take (6 - l .count) bs) (l .command); count = min 6 (l .count + length bs); fed = l .fed })
+    say (record { phase = phase.Command; marks = l .marks; command = over (l .count) (take (6 - l .count) bs) (l .command); count = min 6 (l .count + length bs); fed = l .fed; run = l .run })
     answer.Wait
 
 -- Takes n data bytes. "Data fills the data part from its start; fewer than 532 leave the rest of the part as it was" until
@@ -195,7 +199,7 @@ fedCommand l bs =
 abbrev pub fedData : State → ℕ → Turn
 fedData l n =
     record {
-      state = record { phase = phase.Data; marks = l .marks; command = l .command; count = l .count; fed = min 533 (l .fed + n) };
+      state = record { phase = phase.Data; marks = l .marks; command = l .command; count = l .count; fed = min 533 (l .fed + n); run = l .run };
       answer = answer.Wait;
       change = change.Keep;
       leaves = record { status = status.Kept; part = part.Filled (l .fed) };

@@ -2,8 +2,9 @@
 use mathlib.Core.Bool.{Bool, true, false, cond, not, _&&_, _||_}
 use Prim.Native.Nat.{ℕ, _+_}
 use lib.Dec.{ltb, leb, eqb}
+use lib.ListN.{take}
 use Rattle.geometry.specs.Geometry.{isBlock, isSector, spareOf}
-use Rattle.table.specs.Tables.{tableOk}
+use Rattle.table.specs.Tables.{tableOk, causesOk}
 use Rattle.drive.specs.declared.Drive.{Drive}
 use Rattle.drive.specs.declared.State.{State}
 use Rattle.drive.specs.declared.Retry.{Retry}
@@ -53,9 +54,10 @@ phaseOk n known (phase.Awaiting x) = accessOk n known x
 unfoldable pub stateOk : ℕ → State → Bool
 stateOk n l = leb (l .count) 6 && leb (l .fed) 533 && phaseOk n (l .marks .known) (l .phase)
 
--- Says whether code 1 does not apply: "record with lists not well formed" or any of the above.
+-- Says whether code 1 does not apply: "record with lists not well formed", document 02, request 6, "a cause above 3" among the
+-- entries in use, or any of the above.
 unfoldable pub recordOk : Drive → Bool
-recordOk d = tableOk (d .table) && stateOk (d .table .nspares) (d .state)
+recordOk d = tableOk (d .table) && causesOk (take (d .table .nspares) (d .causes)) && stateOk (d .table .nspares) (d .state)
 
 -- Says whether an access is awaited that passes a test.
 abbrev pub awaits : (Access → Bool) → Phase → Bool

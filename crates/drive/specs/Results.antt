@@ -7,8 +7,10 @@ use lib.ListN.{take, replicate}
 use Rattle.geometry.specs.declared.Block.{Block}
 use Rattle.geometry.specs.declared.Sector.{Sector}
 use Rattle.table.specs.declared.Table.{Table}
-use Rattle.table.specs.Tables.{listed, killedNext, withBad, withoutBad}
-use Rattle.image.specs.Images.{tableOf, tableImage}
+use Rattle.table.specs.Tables.{listed, killedNext, withBad, withoutBad, causesListed, causesKilled}
+use Rattle.image.specs.FormA.{imageA}
+use Rattle.image.specs.FormB.{imageB}
+use Rattle.image.specs.Images.{tableOf, causesOf}
 use Rattle.buffer.specs.Runs.{over}
 use Rattle.drive.specs.declared.Drive.{Drive}
 use Rattle.drive.specs.declared.State.{State}
@@ -24,6 +26,7 @@ use Rattle.drive.specs.declared.Ending.the-variants as ending
 use Rattle.drive.specs.declared.Seen.{Seen}
 use Rattle.drive.specs.declared.Trial.{Trial}
 use Rattle.drive.specs.declared.Step.{Step}
+use Rattle.drive.specs.declared.Cause.the-variants as cause
 use Rattle.drive.specs.declared.Change.{Change}
 use Rattle.drive.specs.declared.Change.the-variants as change
 use Rattle.drive.specs.declared.Four.{Four}
@@ -33,7 +36,7 @@ use Rattle.drive.specs.declared.Part.{Part}
 use Rattle.drive.specs.declared.Part.the-variants as part
 use Rattle.drive.specs.declared.Leaves.{Leaves}
 use Rattle.drive.specs.declared.Turn.{Turn}
-use Rattle.drive.specs.Words.{dataOf, withData, statusOf}
+use Rattle.drive.specs.Words.{causeNumber, dataOf, withData, statusOf}
 
 -- Holds a call's whole result: what it hands back, and what it leaves in the buffer.
 pub record Out : Type 0 where
@@ -46,8 +49,22 @@ changed change.Keep t bs = t
 changed change.Load t bs = tableOf bs
 changed (change.Enter b) t bs = withBad t b
 changed (change.Remove b) t bs = withoutBad t b
-changed (change.Move b) t bs = withoutBad (listed t b) b
-changed change.Kill t bs = killedNext t
+changed (change.Move b live killed) t bs = withoutBad (listed t b) b
+changed (change.Kill cause) t bs = killedNext t
+
+-- Returns what it makes of the causes. Document 02, request 6: "for a live entry the last failure before its spare was tried, for
+-- a dead one the last on that spare"; an entry that dies because its block moves on is dead
+abbrev pub noted : Change → Table → List ℕ → List ℕ → List ℕ
+noted change.Keep t causes bs = causes
+noted change.Load t causes bs = causesOf bs
+noted (change.Enter b) t causes bs = causes
+noted (change.Remove b) t causes bs = causes
+noted (change.Move b live killed) t causes bs = causesListed t b (causeNumber live) (causeNumber killed) causes
+noted (change.Kill cause) t causes bs = causesKilled t (causeNumber cause) causes
+
+-- Returns the image that a store writes: "every store and the image call write B".
+abbrev pub storedImage : Drive → List ℕ
+storedImage d = imageB (d .state .run) (d .table) (d .causes)
 
 -- THE BUFFER: what a turn leaves in it, given the table and the bytes lent with the call. Of these calls nothing else writes it;
 -- start zeroes all of it.
@@ -58,11 +75,12 @@ four x = x .0 ∷ x .1 ∷ x .2 ∷ x .3 ∷ []
 
 -- Returns the buffer with what becomes of its data part. Filled: "Data fills the data part from its start", "bytes after the
 -- 532nd are dropped"; so does what a read brings. Zeroed, document 02, request 1: "the rest of the data part is now zeroed".
+-- Image, request 6: "FFFFFF shows form A".
 unfoldable pub partLeft : Part → Table → List ℕ → List ℕ → List ℕ
 partLeft part.Kept t bs u = u
 partLeft (part.Filled f) t bs u = over (4 + f) (take (532 - f) bs) u
 partLeft (part.Zeroed f) t bs u = take (4 + f) u ++ replicate (532 - f) 0x00
-partLeft part.Image t bs u = withData u (tableImage t)
+partLeft part.Image t bs u = withData u (imageA t)
 partLeft (part.Figures x) t bs u = withData u (four x ++ replicate 528 0x00)
 
 -- Returns the buffer with what becomes of its status.
@@ -79,17 +97,24 @@ abbrev pub untouched : Leaves
 untouched = record { status = status.Kept; part = part.Kept }
 
 -- Returns the whole result of a turn.
-abbrev pub outOf : Table → List ℕ → List ℕ → Turn → Out
-outOf t bs u x =
-    record { step = record { drive = record { table = changed (x .change) t bs; state = x .state }; answer = x .answer }; bytes = leave (x .leaves) t bs u }
+abbrev pub outOf : Table → List ℕ → List ℕ → List ℕ → Turn → Out
+outOf t causes bs u x =
+    record {
+      step = record { drive = record { table = changed (x .change) t bs; causes = noted (x .change) t causes bs; state = x .state }; answer = x .answer };
+      bytes = leave (x .leaves) t bs u;
+    }
 
 -- Returns the state in another phase.
 abbrev pub inPhase : State → Phase → State
-inPhase l p = record { phase = p; marks = l .marks; command = l .command; count = l .count; fed = l .fed }
+inPhase l p = record { phase = p; marks = l .marks; command = l .command; count = l .count; fed = l .fed; run = l .run }
 
 -- Returns the state with other marks in another phase.
 abbrev pub withMarks : State → Marks → Phase → State
-withMarks l m p = record { phase = p; marks = m; command = l .command; count = l .count; fed = l .fed }
+withMarks l m p = record { phase = p; marks = m; command = l .command; count = l .count; fed = l .fed; run = l .run }
+
+-- Returns the state with another run number.
+abbrev pub withRun : State → ℕ → State
+withRun l n = record { phase = l .phase; marks = l .marks; command = l .command; count = l .count; fed = l .fed; run = n }
 
 -- Answers, and leaves table and buffer alone.
 abbrev pub say : State → Answer → Turn
@@ -105,8 +130,8 @@ alters change.Keep = false
 alters change.Load = false
 alters (change.Enter b) = true
 alters (change.Remove b) = true
-alters (change.Move b) = true
-alters change.Kill = true
+alters (change.Move b live killed) = true
+alters (change.Kill cause) = true
 
 -- Says whether an ending sets the latch: "latch until the next start". Under the latch it is set already.
 abbrev pub latches : Ending → Bool
@@ -139,7 +164,8 @@ clean = record { errors = 0; crc = false; timeout = false }
 
 -- Returns the trial of a block's present sector, before its first reread.
 abbrev pub onPresent : Block → Sector → Seen → Trial
-onPresent b s seen = record { block = b; sector = s; spare = false; rereads = 0; failures = 0; seen = seen }
+onPresent b s seen =
+    record { block = b; sector = s; spare = false; rereads = 0; failures = 0; seen = seen; last = cause.Unknown; before = cause.Unknown; present = cause.Unknown }
 
 -- Refuses with code 1 or 2, in this order, or turns as the rule says. The buffer has n bytes.
 abbrev pub guarded : Bool → ℕ → State → Turn → Turn

@@ -12,6 +12,8 @@ use Rattle.drive.specs.declared.Kind.the-variants as kind
 use Rattle.drive.specs.declared.Order.{Order}
 use Rattle.drive.specs.declared.Refusal.{Refusal}
 use Rattle.drive.specs.declared.Refusal.the-variants as refusal
+use Rattle.drive.specs.declared.Cause.{Cause}
+use Rattle.drive.specs.declared.Cause.the-variants as cause
 use Rattle.drive.specs.declared.Ending.{Ending}
 use Rattle.drive.specs.declared.Ending.the-variants as ending
 use Rattle.drive.specs.declared.Seen.{Seen}
@@ -33,6 +35,16 @@ codeOf refusal.Buffer = 2
 codeOf refusal.Place = 3
 codeOf refusal.Answer = 4
 codeOf refusal.Bytes = 5
+codeOf refusal.Form = 6
+codeOf refusal.Sum = 7
+codeOf refusal.Field = 8
+
+-- Returns the number of a cause. Document 02, request 6: "0 unknown, 1 CRC, 2 timeout, 3 no settle"
+abbrev pub causeNumber : Cause → ℕ
+causeNumber cause.Unknown = 0
+causeNumber cause.Crc = 1
+causeNumber cause.Timeout = 2
+causeNumber cause.NoSettle = 3
 
 -- Returns the data part. "a lent buffer of 536 bytes: status 0..3, data 4..535"
 unfoldable pub dataOf : List ℕ → List ℕ

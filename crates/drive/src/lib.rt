@@ -32,8 +32,18 @@ pub struct Target {
     pub verify: bool,
 }
 
+// Names why a spare entry is there: unknown, a CRC error, a timeout, no settle.
+pub enum Cause {
+    Unknown,
+    Crc,
+    Timeout,
+    NoSettle,
+}
+
 // Holds the trial of a sector: the block's present one, or the next unused spare. rereads counts those
-// that were answered, failures how many of them failed.
+// that were answered, failures how many of them failed. Three failures of the command are remembered:
+// last is that of this trial's rereads, before the one before this spare was tried, present the last on
+// the block's present sector.
 pub struct Trial {
     pub block: Block,
     pub sector: Sector,
@@ -41,6 +51,9 @@ pub struct Trial {
     pub rereads: u8,
     pub failures: u8,
     pub seen: Seen,
+    pub last: Cause,
+    pub before: Cause,
+    pub present: Cause,
 }
 
 // Names the commands by their opcode: 00 read, 01 write, 02 write/verify, and every other one.
@@ -102,28 +115,34 @@ pub struct Marks {
 }
 
 // Holds all of the record but the table. command: its first count bytes were fed; fed: how many data
-// bytes were, counted up to 533.
+// bytes were, counted up to 533; run: the run number, how many stores the table was ever asked for.
 pub struct State {
     pub phase: Phase,
     pub marks: Marks,
     pub command: [u8; 6],
     pub count: usize,
     pub fed: usize,
+    pub run: u32,
 }
 
-// Holds the record. The table is first, so that a call can hand it on in one copy.
+// Holds the record. The table is first, so that a call can hand it on in one copy. The cause of a spare
+// entry is at the entry's place.
 pub struct Drive {
     pub table: Table,
+    pub causes: [u16; 32],
     pub state: State,
 }
 
-// Names why a call is refused, in the order of document 01's codes.
+// Names why a call is refused, in the order of the codes.
 pub enum Refusal {
     Record,
     Buffer,
     Place,
     Answer,
     Bytes,
+    Form,
+    Sum,
+    Field,
 }
 
 // Names what a call answers.
@@ -159,14 +178,15 @@ pub enum Ending {
 
 // Names what a call does to the table: nothing, the image that came is its new content, a block enters
 // or leaves the bad list, a block moves to the next unused spare (its old entry dies, and it leaves the
-// bad list), the next unused spare dies.
+// bad list), the next unused spare dies. With a move come the causes of the new entry and of the old one,
+// with a dead spare its cause.
 pub enum Change {
     Keep,
     Load,
     Enter(Block),
     Remove(Block),
-    Move(Block),
-    Kill,
+    Move(Block, Cause, Cause),
+    Kill(Cause),
 }
 
 // Holds four bytes: a status, or the figures of the health block.

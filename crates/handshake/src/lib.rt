@@ -2,7 +2,7 @@
 ghost use mathlib.Core.Path.{_≡_};
 ghost use Prim.Native.Nat.{_≤_, min};
 ghost use Rattle.drive.specs.Words.{orderOf};
-ghost use Rattle.drive.specs.Handshake.{storesFirst, raisedIdle, offerFor, keptBytes, offersAct, raised, acted, goesOn, brokenOff, lowered, fedCommand, fedData, fedTo, atRest, rested};
+ghost use Rattle.drive.specs.Handshake.{storesFirst, numbered, raisedIdle, offerFor, keptBytes, offersAct, raised, acted, goesOn, brokenOff, lowered, fedCommand, fedData, fedTo, atRest, rested};
 ghost use Rattle.drive.specs.declared.Phase.the-variants as phase;
 ghost use Rattle.records.specs.Turns.{lent};
 use drive::Access;
@@ -27,6 +27,17 @@ fn stores_first(m: Marks) -> bool
     m.known & m.changed & !m.latch
 }
 
+// Returns the state with its run number one up, up to FFFFFFFF hex.
+fn numbered(l: State) -> State
+    ensures { λ r. ⌜ r ≡ numbered l ⌝ }
+{
+    let n = l.run;
+    if n == 4294967295 {
+        return l;
+    }
+    records::with_run(l, n + 1)
+}
+
 // Asks for the store where it goes first, else offers 01.
 fn raise_idle(l: State) -> Turn
     ensures { λ x. ⌜ x ≡ raisedIdle l ⌝ }
@@ -34,7 +45,7 @@ fn raise_idle(l: State) -> Turn
     let m = l.marks;
     if stores_first(m) {
         return records::say(
-            records::in_phase(l, Phase::Awaiting(Access::Store)),
+            records::in_phase(numbered(l), Phase::Awaiting(Access::Store)),
             Answer::Store,
         );
     }
@@ -198,6 +209,7 @@ fn feed_command(l: State, bytes: &[u8]) -> Turn
         command: c,
         count: n + kept.len(),
         fed: l.fed,
+        run: l.run,
     };
     records::say(next, Answer::Wait)
 }
@@ -224,6 +236,7 @@ fn feed_data(l: State, n: usize) -> Turn
             command: c,
             count: l.count,
             fed: f + smaller(533 - f, n),
+            run: l.run,
         },
         answer: Answer::Wait,
         change: Change::Keep,

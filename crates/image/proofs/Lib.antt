@@ -1,4 +1,13 @@
-pub mod Entries
+pub mod Layouts
 pub mod Writing
+pub mod WritingB
 pub mod Reading
+pub mod ReadingB
+pub mod Formed
 pub mod RoundTrip
+pub mod RoundTripA
+pub mod Quads
+pub mod WrittenB
+pub mod RoundTripB
+pub mod Convert
+pub mod Examples

@@ -1,232 +1,120 @@
--- Reading what was written gives the same table; writing what was read gives the same bytes.
-use mathlib.Core.Path.{_≡_, refl, ap, sym, _∙_}
-use mathlib.Core.Bool.{Bool, true, false, cond, _&&_}
-use mathlib.Core.List.{List, [], _∷_, _++_, append-assoc}
-use Prim.Native.Nat.{ℕ, _+_, _-_, _*_, _≤_}
+-- What a well-formed image of either form holds. Its laws are those of the layout, which are stated once for both.
+use mathlib.Core.Path.{_≡_, refl, ap}
+use mathlib.Core.Bool.{Bool, true, false, cond}
+use mathlib.Core.List.{List}
+use Prim.Native.Nat.{ℕ, zero, suc, _≤_}
 use native.Mathlib.Omega.{arith}
-use borrow.Author.Tests.{eq-eqb, eqb-true, le-leb}
-use lib.Dec.{eqb}
-use lib.ListN.{length, take, drop, replicate, length-drop, length-append, length-replicate, take-append-drop}
-use lib.Seq.{drop-at, drop-drop, take-add, take-at, drop-cons, length-take-le}
+use borrow.Author.Tests.{leb-true}
+use lib.Dec.{leb}
+use lib.ListN.{length, take, drop, replicate, length-drop, length-append, length-replicate}
+use lib.Seq.{take-at, length-take-le}
 use Rattle.logic.proofs.Bools.{and-left, and-right}
 use Rattle.buffer.specs.Runs.{allAre}
-use Rattle.buffer.proofs.Compare.{same-equal, same-refl, all-replicate, replicate-all}
-use Rattle.lists.specs.Lists.{entriesOk}
+use Rattle.buffer.proofs.Compare.{all-replicate}
 use Rattle.table.specs.declared.Table.{Table}
-use Rattle.table.specs.Tables.{spareList, badList, SameTable, Shaped, tableOk}
+use Rattle.table.specs.Tables.{spareList, badList, Shaped, tableOk, causesOk}
 use Rattle.table.proofs.Keeps.{passes, passed}
-use Rattle.image.specs.Images.{header, triples, mark, listPart, framedPart, imageOf, tableImage, spareCount, badCount, spareEntries, badEntries, framed, wellFormed, tableOf, listsOf, nothing, isTable, readOf, inArray}
-use Rattle.image.proofs.Entries.{Bytes, bytes-drop, triples-length, entries-length, entries-triples, triples-entries}
-use Rattle.image.proofs.Writing.{framed-length, image-length}
-use Rattle.image.proofs.Reading.{Frame, frame}
+use Rattle.image.specs.declared.Layout.{Layout}
+use Rattle.image.specs.Layouts.{spareEntries, badEntries, countsFit, entriesFit, inArray, tableIn}
+use Rattle.image.specs.FormA.{layoutA}
+use Rattle.image.specs.FormB.{hasMagic, layoutB, causesFrom, causeEntries, causesIn}
+use Rattle.image.specs.Images.{wellFormed, faultOf, layoutOf, tableOf, runOf, causesOf, isTable, nothing, holding, readOf}
+use Rattle.image.proofs.Layouts.{entries-length}
+use Rattle.image.proofs.Reading.{causes-of}
+use Rattle.image.proofs.ReadingB.{causes-length}
+use Rattle.image.proofs.Formed.{fits, fit-counts, fit-entries, formed-b, formed-long, read-fits}
 
 -- THE READER ANSWERS A TABLE EXACTLY WHEN THE IMAGE IS WELL FORMED
 pub found-exactly : (i : List ℕ) → isTable (readOf i .found) ≡ wellFormed i
 unfolding readOf
 found-exactly i = go (wellFormed i)
   where
-    go : (t : Bool) → isTable (cond t (listsOf (tableOf i)) nothing .found) ≡ t
+    go : (t : Bool) → isTable (cond t (holding (tableOf i) (runOf i) (causesOf i)) (nothing (faultOf i)) .found) ≡ t
     go true = refl
     go false = refl
-
--- a well-formed image, part by part
-pub record Formed (i : List ℕ) : Type 0 where
-  pub long : length i ≡ 532
-  pub frame : Frame i (spareCount i) (badCount i)
-  pub spares : entriesOk true (spareEntries i) ≡ true
-  pub bads : entriesOk false (badEntries i) ≡ true
-
-pub formed : (i : List ℕ) → wellFormed i ≡ true → Formed i
-unfolding wellFormed
-formed i h =
-    let a = eqb (length i) 532 in
-    let f = framed i (spareCount i) (badCount i) in
-    let s = entriesOk true (spareEntries i) in
-    let b = entriesOk false (badEntries i) in
-    let h3 = and-left (a && f && s) b h in
-    let h2 = and-left (a && f) s h3 in
-    record { long = eqb-true (length i) 532 (and-left a f h2); frame = frame i (spareCount i) (badCount i) (and-right a f h2); spares = and-right (a && f) s h3; bads = and-right (a && f && s) b h }
-
--- A WELL-FORMED IMAGE HOLDS A WELL-FORMED TABLE, and its lists are the image's entries
-pub read-spares : (i : List ℕ) → spareList (tableOf i) ≡ spareEntries i
-unfolding tableOf
-read-spares i = take-at (spareEntries i) (drop (length (spareEntries i)) (replicate 32 0)) (spareCount i) (entries-length (spareCount i) (drop 26 i))
-
-pub read-bads : (i : List ℕ) → badList (tableOf i) ≡ badEntries i
-unfolding tableOf
-read-bads i = take-at (badEntries i) (drop (length (badEntries i)) (replicate 100 0)) (badCount i) (entries-length (badCount i) (drop (29 + 3 * spareCount i) i))
-
-pub read-ok : (i : List ℕ) → wellFormed i ≡ true → tableOk (tableOf i) ≡ true
-unfolding tableOf
-read-ok i h =
-    let f = formed i h in
-    passed (tableOf i) (record { few-spares = f .frame .spares; few-bads = f .frame .bads; spares = rw (read-spares i) (f .spares); bads = rw (read-bads i) (f .bads) })
-
-in-array : (size : ℕ) (l : List ℕ) → length l ≤ size → length (inArray size l) ≡ size
-in-array size l h = omega (arith, length-append l (drop (length l) (replicate size 0)), length-drop {A = ℕ} (length l) (replicate size 0), length-replicate {A = ℕ} size 0)
-
-pub read-shaped : (i : List ℕ) → wellFormed i ≡ true → Shaped (tableOf i)
-unfolding tableOf
-read-shaped i h =
-    let f = formed i h in (
-      in-array 32 (spareEntries i) (omega (arith, f .frame .spares, entries-length (spareCount i) (drop 26 i))),
-      in-array 100 (badEntries i) (omega (arith, f .frame .bads, entries-length (badCount i) (drop (29 + 3 * spareCount i) i))),
-    )
-
--- The parts of an image that was written, from its places on.
-module _ (sp bd : List ℕ) where
-  abbrev zeros : List ℕ
-  zeros = replicate (532 - length (framedPart sp bd)) 0
-
-  from-spares : drop 26 (imageOf sp bd) ≡ triples sp ++ (mark ++ (triples bd ++ (mark ++ zeros)))
-  unfolding imageOf framedPart listPart
-  from-spares = simp append-assoc
-
-  from-mark : drop (26 + 3 * length sp) (imageOf sp bd) ≡ mark ++ (triples bd ++ (mark ++ zeros))
-  from-mark =
-      sym (drop-drop (3 * length sp) 26 (imageOf sp bd))
-      ∙ ap (drop (3 * length sp)) from-spares
-      ∙ drop-at (triples sp) (mark ++ (triples bd ++ (mark ++ zeros))) (3 * length sp) (triples-length sp)
-
-  from-bads : drop (29 + 3 * length sp) (imageOf sp bd) ≡ triples bd ++ (mark ++ zeros)
-  from-bads =
-      let e : 26 + 3 * length sp + 3 ≡ 29 + 3 * length sp = omega arith in
-      ap (λ (k : ℕ). drop k (imageOf sp bd)) (sym e) ∙ sym (drop-drop 3 (26 + 3 * length sp) (imageOf sp bd)) ∙ ap (drop 3) from-mark
-
-  from-second : drop (29 + 3 * length sp + 3 * length bd) (imageOf sp bd) ≡ mark ++ zeros
-  from-second =
-      sym (drop-drop (3 * length bd) (29 + 3 * length sp) (imageOf sp bd))
-      ∙ ap (drop (3 * length bd)) from-bads
-      ∙ drop-at (triples bd) (mark ++ zeros) (3 * length bd) (triples-length bd)
-
-  from-zeros : drop (32 + 3 * length sp + 3 * length bd) (imageOf sp bd) ≡ zeros
-  from-zeros =
-      let e : 29 + 3 * length sp + 3 * length bd + 3 ≡ 32 + 3 * length sp + 3 * length bd = omega arith in
-      ap (λ (k : ℕ). drop k (imageOf sp bd)) (sym e) ∙ sym (drop-drop 3 (29 + 3 * length sp + 3 * length bd) (imageOf sp bd)) ∙ ap (drop 3) from-second
-
-  head-written : take 24 (imageOf sp bd) ≡ header
-  unfolding imageOf framedPart
-  head-written = refl
-
-  spares-counted : spareCount (imageOf sp bd) ≡ length sp
-  unfolding imageOf framedPart
-  spares-counted = refl
-
-  bads-counted : badCount (imageOf sp bd) ≡ length bd
-  unfolding imageOf framedPart
-  bads-counted = refl
-
-  framed-written : length sp ≤ 32 → length bd ≤ 100 → framed (imageOf sp bd) (length sp) (length bd) ≡ true
-  unfolding framed allAre
-  framed-written n m =
-      rw (le-leb (length sp) 32 n, le-leb (length bd) 100 m, head-written, same-refl header, from-mark, from-second, from-zeros)
-      (replicate-all 0 (532 - length (framedPart sp bd)))
-
-  spares-written : entriesOk true sp ≡ true → spareEntries (imageOf sp bd) ≡ sp
-  spares-written h = rw (spares-counted, from-spares) (entries-triples true sp (mark ++ (triples bd ++ (mark ++ zeros))) h)
-
-  bads-written : entriesOk false bd ≡ true → badEntries (imageOf sp bd) ≡ bd
-  bads-written h = rw (spares-counted, bads-counted, from-bads) (entries-triples false bd (mark ++ zeros) h)
-
-  pub image-formed : length sp ≤ 32 → length bd ≤ 100 → entriesOk true sp ≡ true → entriesOk false bd ≡ true → wellFormed (imageOf sp bd) ≡ true
-  unfolding wellFormed
-  image-formed n m hs hb =
-      let f : framed (imageOf sp bd) (spareCount (imageOf sp bd)) (badCount (imageOf sp bd)) ≡ true = rw (spares-counted, bads-counted) (framed-written n m) in
-      let s : entriesOk true (spareEntries (imageOf sp bd)) ≡ true = rw (spares-written hs) hs in
-      let b : entriesOk false (badEntries (imageOf sp bd)) ≡ true = rw (bads-written hb) hb in
-      rw (eq-eqb (length (imageOf sp bd)) 532 (image-length sp bd n m), f, s) b
-
-spares-few : (t : Table) → Shaped t → tableOk t ≡ true → length (spareList t) ≤ 32
-spares-few t s h = omega (arith, length-take-le (t .nspares) (t .spares) (omega (arith, s .0, passes t h .few-spares)), passes t h .few-spares)
-
-bads-few : (t : Table) → Shaped t → tableOk t ≡ true → length (badList t) ≤ 100
-bads-few t s h = omega (arith, length-take-le (t .nbads) (t .bads) (omega (arith, s .1, passes t h .few-bads)), passes t h .few-bads)
-
--- WHAT WAS WRITTEN IS WELL FORMED,
-pub written-formed : (t : Table) → Shaped t → tableOk t ≡ true → wellFormed (tableImage t) ≡ true
-written-formed t s h = let p = passes t h in image-formed (spareList t) (badList t) (spares-few t s h) (bads-few t s h) (p .spares) (p .bads)
-
--- AND READING IT GIVES THE SAME TABLE
-pub read-written : (t : Table) → Shaped t → tableOk t ≡ true → SameTable (tableOf (tableImage t)) t
-read-written t s h =
-    let p = passes t h in
-    (read-spares (tableImage t) ∙ spares-written (spareList t) (badList t) (p .spares), read-bads (tableImage t) ∙ bads-written (spareList t) (badList t) (p .bads))
-
--- the two bytes of the counts
-counts : (i : List ℕ) → 26 ≤ length i → take 2 (drop 24 i) ≡ spareCount i ∷ badCount i ∷ []
-counts i h = rw (drop-cons i 24 0 (omega arith), drop-cons i 25 0 (omega arith))
-
--- bytes that are all v are v so many times
-run : (v k : ℕ) (l : List ℕ) → length l ≡ k → allAre v l ≡ true → l ≡ replicate k v
-run v k l e h = rw (← e) (all-replicate v l h)
-
-run-at : (i : List ℕ) (k : ℕ) → k + 3 ≤ length i → allAre 0xFF (take 3 (drop k i)) ≡ true → take 3 (drop k i) ≡ mark
-run-at i k h a = run 0xFF 3 (take 3 (drop k i)) (length-take-le 3 (drop k i) (simp length-drop (omega arith))) a
-
--- all but the zeros of a well-formed image
-module _ (i : List ℕ) (bytes : Bytes i) (f : Formed i) where
-  spares-part : take (3 * spareCount i) (drop 26 i) ≡ triples (spareEntries i)
-  spares-part =
-      let c = f .frame .spares in
-      let l = f .long in
-      sym (triples-entries true (spareCount i) (drop 26 i) (bytes-drop 26 i bytes) (simp length-drop (omega arith)) (f .spares))
-
-  bads-part : take (3 * badCount i) (drop (29 + 3 * spareCount i) i) ≡ triples (badEntries i)
-  bads-part =
-      let c = f .frame .spares in
-      let d = f .frame .bads in
-      let l = f .long in
-      sym (triples-entries false (badCount i) (drop (29 + 3 * spareCount i) i) (bytes-drop (29 + 3 * spareCount i) i bytes) (simp length-drop (omega arith)) (f .bads))
-
-  counted : List ℕ
-  counted = length (spareEntries i) ∷ length (badEntries i) ∷ []
-
-  first-26 : take 26 i ≡ header ++ counted
-  unfolding counted
-  first-26 =
-      rw (entries-length (spareCount i) (drop 26 i), entries-length (badCount i) (drop (29 + 3 * spareCount i) i))
-      (take-add 24 2 i ∙ rw (same-equal (take 24 i) header (f .frame .head), counts i (omega (arith, f .long))))
-
-  to-bads : take (29 + 3 * spareCount i) i ≡ header ++ counted ++ listPart (spareEntries i)
-  unfolding listPart
-  to-bads =
-      let c = f .frame .spares in
-      let e : 29 + 3 * spareCount i ≡ 26 + (3 * spareCount i + 3) = omega arith in
-      let l = f .long in
-      rw (e, take-add 26 (3 * spareCount i + 3) i, first-26, take-add (3 * spareCount i) 3 (drop 26 i), spares-part, drop-drop (3 * spareCount i) 26 i, run-at i (26 + 3 * spareCount i) (omega arith) (f .frame .first))
-
-  to-zeros : take (32 + 3 * spareCount i + 3 * badCount i) i ≡ framedPart (spareEntries i) (badEntries i)
-  unfolding framedPart listPart counted
-  to-zeros =
-      let c = f .frame .spares in
-      let d = f .frame .bads in
-      let l = f .long in
-      let a = 29 + 3 * spareCount i in
-      let e : 32 + 3 * spareCount i + 3 * badCount i ≡ a + (3 * badCount i + 3) = omega arith in
-      rw (e, take-add a (3 * badCount i + 3) i, to-bads, take-add (3 * badCount i) 3 (drop a i), bads-part, drop-drop (3 * badCount i) a i, run-at i (a + 3 * badCount i) (omega arith) (f .frame .second))
-
-  the-zeros : drop (32 + 3 * spareCount i + 3 * badCount i) i ≡ replicate (532 - length (framedPart (spareEntries i) (badEntries i))) 0
-  the-zeros =
-      let c = f .frame .spares in
-      let d = f .frame .bads in
-      let l = f .long in
-      let p = framed-length (spareEntries i) (badEntries i) in
-      let q = entries-length (spareCount i) (drop 26 i) in
-      let r = entries-length (badCount i) (drop (29 + 3 * spareCount i) i) in
-      run 0 (532 - length (framedPart (spareEntries i) (badEntries i))) (drop (32 + 3 * spareCount i + 3 * badCount i) i) (simp length-drop (omega arith)) (f .frame .zeros)
-
-  rebuilt : imageOf (spareEntries i) (badEntries i) ≡ i
-  unfolding imageOf
-  rebuilt = rw (← the-zeros, ← to-zeros) (take-append-drop (32 + 3 * spareCount i + 3 * badCount i) i)
-
--- WRITING WHAT WAS READ GIVES THE SAME 532 BYTES
-pub written-read : (i : List ℕ) → Bytes i → wellFormed i ≡ true → tableImage (tableOf i) ≡ i
-written-read i bytes h = rw (read-spares i, read-bads i) (rebuilt i bytes (formed i h))
 
 -- A SLICE OF ANOTHER LENGTH IS NO IMAGE
 pub other-length : (i : List ℕ) → (length i ≡ 532 → ⊥) → wellFormed i ≡ false
 other-length i n = go (wellFormed i) refl
   where
     go : (t : Bool) → wellFormed i ≡ t → t ≡ false
-    go true e = absurd (n (formed i e .long))
+    go true e = absurd (n (formed-long i e))
     go false e = refl
+
+-- BY THE LAYOUT, WHATEVER THE FORM: the lists of the table are the entries of the image,
+pub layout-spares : (a : Layout) (i : List ℕ) → spareList (tableIn a i) ≡ spareEntries a i
+layout-spares a i =
+    take-at (spareEntries a i) (drop (length (spareEntries a i)) (replicate 32 0)) (a .nspares) (entries-length (a .width) (a .nspares) (drop (a .spares) i))
+
+pub layout-bads : (a : Layout) (i : List ℕ) → badList (tableIn a i) ≡ badEntries a i
+layout-bads a i =
+    take-at (badEntries a i) (drop (length (badEntries a i)) (replicate 100 0)) (a .nbads) (entries-length 3 (a .nbads) (drop (a .bads) i))
+
+-- the table is well formed,
+pub layout-ok : (a : Layout) (i : List ℕ) → countsFit a ≡ true → entriesFit a i ≡ true → tableOk (tableIn a i) ≡ true
+layout-ok a i c e =
+    let f = fits a i c e in
+    passed (tableIn a i) (record { few-spares = f .few-spares; few-bads = f .few-bads; spares = rw (layout-spares a i) (f .spares); bads = rw (layout-bads a i) (f .bads) })
+
+-- and its arrays are as long as they should be.
+pub in-array : (size : ℕ) (l : List ℕ) → length l ≤ size → length (inArray size l) ≡ size
+in-array size l h = omega (arith, length-append l (drop (length l) (replicate size 0)), length-drop {A = ℕ} (length l) (replicate size 0), length-replicate {A = ℕ} size 0)
+
+pub layout-shaped : (a : Layout) (i : List ℕ) → countsFit a ≡ true → Shaped (tableIn a i)
+layout-shaped a i c =
+    let n = leb-true (a .nspares) 32 (and-left (leb (a .nspares) 32) (leb (a .nbads) 100) c) in
+    let m = leb-true (a .nbads) 100 (and-right (leb (a .nspares) 32) (leb (a .nbads) 100) c) in (
+      in-array 32 (spareEntries a i) (omega (arith, n, entries-length (a .width) (a .nspares) (drop (a .spares) i))),
+      in-array 100 (badEntries a i) (omega (arith, m, entries-length 3 (a .nbads) (drop (a .bads) i))),
+    )
+
+-- WHAT A WELL-FORMED IMAGE HOLDS
+pub read-spares : (i : List ℕ) → spareList (tableOf i) ≡ spareEntries (layoutOf i) i
+unfolding tableOf
+read-spares i = layout-spares (layoutOf i) i
+
+pub read-bads : (i : List ℕ) → badList (tableOf i) ≡ badEntries (layoutOf i) i
+unfolding tableOf
+read-bads i = layout-bads (layoutOf i) i
+
+pub read-ok : (i : List ℕ) → wellFormed i ≡ true → tableOk (tableOf i) ≡ true
+unfolding tableOf
+read-ok i h = let f = read-fits i h in layout-ok (layoutOf i) i (fit-counts (layoutOf i) i f) (fit-entries (layoutOf i) i f)
+
+pub read-shaped : (i : List ℕ) → wellFormed i ≡ true → Shaped (tableOf i)
+unfolding tableOf
+read-shaped i h = layout-shaped (layoutOf i) i (fit-counts (layoutOf i) i (read-fits i h))
+
+-- and its causes
+pub zeros-ok : (n k : ℕ) → causesOk (take n (replicate k 0)) ≡ true
+unfolding causesOk
+zeros-ok zero k = refl
+zeros-ok (suc n) zero = refl
+zeros-ok (suc n) (suc k) = zeros-ok n k
+
+pub causes-ok : (i : List ℕ) → wellFormed i ≡ true → causesOk (take (tableOf i .nspares) (causesOf i)) ≡ true
+unfolding tableOf causesOf
+causes-ok i h = go (hasMagic i) refl
+  where
+    go : (t : Bool) → hasMagic i ≡ t → causesOk (take (cond t (layoutB i) (layoutA i) .nspares) (cond t (causesIn i) (replicate 32 0))) ≡ true
+    go true b = rw (causes-of i) (formed-b i h b .causes)
+    go false b = zeros-ok (layoutA i .nspares) 32
+
+pub causes-shaped : (i : List ℕ) → wellFormed i ≡ true → length (causesOf i) ≡ 32
+unfolding causesOf
+causes-shaped i h = go (hasMagic i) refl
+  where
+    go : (t : Bool) → hasMagic i ≡ t → length (cond t (causesIn i) (replicate 32 0)) ≡ 32
+    go true b = in-array 32 (causeEntries i) (omega (arith, causes-length (layoutB i .nspares) (drop 16 i), formed-b i h b .lists .few-spares))
+    go false b = refl
+
+-- the lists of a well-formed table are not too long
+pub spares-few : (t : Table) → Shaped t → tableOk t ≡ true → length (spareList t) ≤ 32
+spares-few t s h = omega (arith, length-take-le (t .nspares) (t .spares) (omega (arith, s .0, passes t h .few-spares)), passes t h .few-spares)
+
+pub bads-few : (t : Table) → Shaped t → tableOk t ≡ true → length (badList t) ≤ 100
+bads-few t s h = omega (arith, length-take-le (t .nbads) (t .bads) (omega (arith, s .1, passes t h .few-bads)), passes t h .few-bads)
+
+-- Bytes that are all v are v so many times.
+pub run-of : (v k : ℕ) (l : List ℕ) → length l ≡ k → allAre v l ≡ true → l ≡ replicate k v
+run-of v k l e h = rw (← e) (all-replicate v l h)

@@ -6,8 +6,9 @@ use native.Mathlib.Omega.{arith}
 use lib.ListN.{length, drop, replicate, length-append, length-replicate, drop-of-length-le}
 use Rattle.buffer.specs.Runs.{over}
 use Rattle.buffer.proofs.Over.{grow, over-over}
-use Rattle.image.specs.Images.{head, triples, mark, listPart, framedPart, imageOf}
-use Rattle.image.proofs.Entries.{triples-length}
+use Rattle.image.specs.Layouts.{triples}
+use Rattle.image.specs.FormA.{head, mark, listPart, framedPart, formA}
+use Rattle.image.proofs.Layouts.{triples-length}
 
 pub list-length : (l : List ℕ) → length (listPart l) ≡ 3 * length l + 3
 unfolding listPart
@@ -19,8 +20,8 @@ framed-length sp bd =
     let top = head (length sp) (length bd) in
     omega (arith, length-append (top ++ listPart sp) (listPart bd), length-append top (listPart sp), list-length sp, list-length bd)
 
-pub image-length : (sp bd : List ℕ) → length sp ≤ 32 → length bd ≤ 100 → length (imageOf sp bd) ≡ 532
-unfolding imageOf
+pub image-length : (sp bd : List ℕ) → length sp ≤ 32 → length bd ≤ 100 → length (formA sp bd) ≡ 532
+unfolding formA
 image-length sp bd n m =
     omega (arith, length-append (framedPart sp bd) (replicate (532 - length (framedPart sp bd)) 0), length-replicate {A = ℕ} (532 - length (framedPart sp bd)) 0, framed-length sp bd)
 
@@ -33,8 +34,8 @@ list-written at l o h = over-over at (triples l) mark o (at + 3 * length l) (ome
 pub built : (sp bd o : List ℕ) → length o ≡ 532 → length sp ≤ 32 → length bd ≤ 100
     → over (32 + 3 * length sp + 3 * length bd) (replicate (500 - 3 * length sp - 3 * length bd) 0)
     (over (29 + 3 * length sp) (listPart bd) (over 26 (listPart sp) (over 0 (head (length sp) (length bd)) o)))
-    ≡ imageOf sp bd
-unfolding imageOf framedPart
+    ≡ formA sp bd
+unfolding formA framedPart
 built sp bd o h n m =
     let top = head (length sp) (length bd) in
     let a = 29 + 3 * length sp in

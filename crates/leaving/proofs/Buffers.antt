@@ -1,5 +1,5 @@
 -- Runs that reach the end of the buffer, and the image put after the status.
-use mathlib.Core.Path.{_≡_, _∙_}
+use mathlib.Core.Path.{_≡_, _∙_, sym}
 use mathlib.Core.List.{List, _++_, append-nil}
 use Prim.Native.Nat.{ℕ, _+_, _-_, _≤_, _<_}
 use native.Mathlib.Omega.{arith}
@@ -9,7 +9,10 @@ use lib.ListN.{length, take, drop, replicate, length-replicate, length-take, len
 use lib.Seq.{take-all}
 use Rattle.buffer.specs.Runs.{over}
 use Rattle.buffer.proofs.Over.{over-none, over-over}
-use Rattle.image.specs.Images.{tableImage, written}
+use lib.Seq.{length-take-le}
+use Rattle.image.specs.FormA.{imageA}
+use Rattle.image.specs.FormB.{imageB}
+use Rattle.image.specs.Images.{writtenA, writtenB}
 use Rattle.drive.specs.Words.{withData}
 use Rattle.records.specs.Turns.{lent}
 
@@ -45,9 +48,20 @@ part-put u ys =
     let h : length (drop 4 u) ≤ length u - 4 = omega (arith, length-drop 4 u) in
     rw (drop-of-length-le (drop 4 u) h, append-nil ys)
 
--- The writer gives the image of lists cut to their counts.
-pub image-whole : (sp bd o : List ℕ) (n m : ℕ) → n ≤ 32 → m ≤ 100 → length o ≡ 532 → written (take n sp) (take m bd) o ≡ tableImage (lent sp n bd m)
-unfolding written
+-- The writers give the image of lists cut to their counts.
+pub stored-whole : (run : ℕ) (sp cs bd o : List ℕ) (n m : ℕ) → n ≤ 32 → m ≤ 100 → length o ≡ 532 → length sp ≡ 32 → length cs ≡ 32
+    → writtenB run (take n sp) (take n cs) (take m bd) o ≡ imageB run (lent sp n bd m) cs
+unfolding writtenB
+stored-whole run sp cs bd o n m p q h a b =
+    rw (
+      eq-eqb (length o) 532 h,
+      le-leb (length (take n sp)) 32 (simp length-take (omega arith)),
+      le-leb (length (take m bd)) 100 (simp length-take (omega arith)),
+      eq-eqb (length (take n cs)) (length (take n sp)) (length-take-le n cs (omega arith) ∙ sym (length-take-le n sp (omega arith))),
+    )
+
+pub image-whole : (sp bd o : List ℕ) (n m : ℕ) → n ≤ 32 → m ≤ 100 → length o ≡ 532 → writtenA (take n sp) (take m bd) o ≡ imageA (lent sp n bd m)
+unfolding writtenA
 image-whole sp bd o n m p q h =
     rw (
       eq-eqb (length o) 532 h,

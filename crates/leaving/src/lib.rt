@@ -4,7 +4,8 @@ ghost use mathlib.Core.List.{_++_};
 ghost use Prim.Native.Nat.{_+_, _-_, _≤_};
 ghost use lib.ListN.{length, take, replicate};
 ghost use Rattle.buffer.specs.Runs.{over};
-ghost use Rattle.image.specs.Images.{tableImage};
+ghost use Rattle.image.specs.FormA.{imageA};
+ghost use Rattle.image.specs.FormB.{imageB};
 ghost use Rattle.drive.specs.Words.{withData};
 ghost use Rattle.drive.specs.Results.{four, partLeft, statusLeft, leave};
 ghost use Rattle.records.specs.Turns.{lent};
@@ -35,18 +36,40 @@ fn zero(buf: &mut [u8], f: usize)
     buffer::fill(buf, 4 + f, 532 - f, 0);
 }
 
-// Builds the table's image in 532 lent bytes.
+// Builds form A of the table in 532 lent bytes.
 pub fn write_table<'a>(spares: &'a [u16], n: usize, bads: &'a [u16], m: usize, out: &mut [u8])
     requires { ⌜ (length (now out) ≡ 532) × (n ≤ 32) × (m ≤ 100) ⌝ }
-    ensures { λ x. ⌜ now (out .exit) ≡ tableImage (lent (now (spares .entry)) n (now (bads .entry)) m) ⌝ }
+    ensures { λ x. ⌜ now (out .exit) ≡ imageA (lent (now (spares .entry)) n (now (bads .entry)) m) ⌝ }
 {
-    image::write_image(lists::cut(spares, n), lists::cut(bads, m), out);
+    image::form_a::write(lists::cut(spares, n), lists::cut(bads, m), out);
 }
 
-// Builds the table's image in the data part.
+// Builds the image that a store writes, form B, in 532 lent bytes.
+pub fn write_stored<'a>(
+    run: u32,
+    spares: &'a [u16],
+    n: usize,
+    bads: &'a [u16],
+    m: usize,
+    causes: &'a [u16],
+    out: &mut [u8],
+)
+    requires { ⌜ (length (now out) ≡ 532) × (n ≤ 32) × (m ≤ 100) × (length (now spares) ≡ 32) × (length (now causes) ≡ 32) ⌝ }
+    ensures { λ x. ⌜ now (out .exit) ≡ imageB run (lent (now (spares .entry)) n (now (bads .entry)) m) (now (causes .entry)) ⌝ }
+{
+    image::form_b::write(
+        run,
+        lists::cut(spares, n),
+        lists::cut(causes, n),
+        lists::cut(bads, m),
+        out,
+    );
+}
+
+// Builds form A of the table in the data part.
 fn put_image<'a>(buf: &mut [u8], spares: &'a [u16], n: usize, bads: &'a [u16], m: usize)
     requires { ⌜ (length (now buf) ≡ 536) × (n ≤ 32) × (m ≤ 100) ⌝ }
-    ensures { λ x. ⌜ now (buf .exit) ≡ withData (now (buf .entry)) (tableImage (lent (now (spares .entry)) n (now (bads .entry)) m)) ⌝ }
+    ensures { λ x. ⌜ now (buf .exit) ≡ withData (now (buf .entry)) (imageA (lent (now (spares .entry)) n (now (bads .entry)) m)) ⌝ }
 {
     write_table(spares, n, bads, m, &mut buf[4..]);
 }

@@ -22,14 +22,17 @@ over-tail k s u h =
     let n : length u ≤ k + length s = omega arith in
     ap (λ (r : List ℕ). take k u ++ s ++ r) (drop-of-length-le u n) ∙ append-nil (take k u ++ s)
 
--- Three runs, each from the end of the last on.
-pub over-three : (k : ℕ) (c s b u : List ℕ) → (m n : ℕ) → k + length c ≡ m → m + length s ≡ n → n + length b ≡ length u
-    → over n b (over m s (over k c u)) ≡ take k u ++ (c ++ (s ++ b))
-over-three k c s b u m n x y z =
-    ap (over n b) (over-over k c s u m x (omega arith))
-    ∙ over-over k (c ++ s) b u n (omega (arith, length-append c s)) (omega arith)
-    ∙ over-tail k ((c ++ s) ++ b) u (omega (arith, length-append c s, length-append (c ++ s) b))
-    ∙ ap (λ (l : List ℕ). take k u ++ l) (append-assoc c s b)
+-- Four runs, each from the end of the last on.
+pub over-four : (k : ℕ) (c s b e u : List ℕ) (m n o : ℕ) → k + length c ≡ m → m + length s ≡ n → n + length b ≡ o → o + length e ≡ length u
+    → over o e (over n b (over m s (over k c u))) ≡ take k u ++ ((c ++ (s ++ b)) ++ e)
+over-four k c s b e u m n o x y z q =
+    let x2 = length-append c s in
+    let x3 = length-append (c ++ s) b in
+    ap (λ (v : List ℕ). over o e (over n b v)) (over-over k c s u m x (omega arith))
+    ∙ ap (over o e) (over-over k (c ++ s) b u n (omega arith) (omega arith))
+    ∙ over-over k ((c ++ s) ++ b) e u o (omega arith) (omega arith)
+    ∙ over-tail k (((c ++ s) ++ b) ++ e) u (omega (arith, length-append ((c ++ s) ++ b) e))
+    ∙ ap (λ (l : List ℕ). take k u ++ (l ++ e)) (append-assoc c s b)
 
 -- A part of the words has its length.
 pub part-length : (w : List ℕ) (k n : ℕ) → k + n ≤ length w → length (take n (drop k w)) ≡ n

@@ -1,22 +1,24 @@
 -- Packing loses nothing of a record that passes code 1, and what a record's words do not mean is refused.
 use mathlib.Core.Path.{_≡_, refl, sym, ap, _∙_}
 use mathlib.Core.Bool.{Bool, true, false, cond, not, _&&_, _||_}
-use mathlib.Core.List.{List, [], _∷_, _++_}
-use Prim.Native.Nat.{ℕ, _+_, _≤_, _<_}
+use mathlib.Core.List.{List, [], _∷_, _++_, append-assoc}
+use Prim.Native.Nat.{ℕ, _+_, _/_, _%_, _≤_, _<_}
 use native.Mathlib.Omega.{arith}
 use borrow.Author.Tests.{leb-true, ltb-true, le-leb}
 use lib.Dec.{eqb, leb, ltb}
-use lib.ListN.{length, take, drop, getD, length-drop, take-append-drop, drop-of-length-le}
+use lib.ListN.{length, take, drop, getD, length-append, length-drop, take-append-drop, drop-of-length-le}
 use lib.Seq.{take-at, drop-at, drop-drop, take-all}
 use Rattle.logic.proofs.Bools.{and-left, and-right, and-false}
 use Rattle.logic.proofs.Walks.{step}
 use Rattle.geometry.specs.Geometry.{isBlock, isSector, spareOf}
 use Rattle.table.specs.declared.Table.{Table}
-use Rattle.table.specs.Tables.{Shaped, tableOk}
+use Rattle.table.specs.Tables.{Shaped, tableOk, causesOk}
 use Rattle.table.proofs.Keeps.{passes}
 use Rattle.drive.specs.declared.Drive.{Drive}
 use Rattle.drive.specs.declared.State.{State}
 use Rattle.drive.specs.declared.Marks.{Marks}
+use Rattle.drive.specs.declared.Cause.{Cause}
+use Rattle.drive.specs.declared.Cause.the-variants as cause
 use Rattle.drive.specs.declared.Offer.{Offer}
 use Rattle.drive.specs.declared.Offer.the-variants as offer
 use Rattle.drive.specs.declared.Access.{Access}
@@ -27,10 +29,10 @@ use Rattle.drive.specs.declared.Retry.{Retry}
 use Rattle.drive.specs.declared.Target.{Target}
 use Rattle.drive.specs.declared.Trial.{Trial}
 use Rattle.drive.specs.Records.{retryOk, targetOk, trialOk, accessOk, phaseOk, stateOk, recordOk}
-use Rattle.drive.specs.Words.{response}
+use Rattle.drive.specs.Words.{response, causeNumber}
 use Rattle.drive.specs.Values.{Bytewise, Typed}
 use Rattle.packed.specs.declared.Stage.{Stage}
-use Rattle.packed.specs.Packing.{bit, flag, pair, low, high, word, bare, readStage, targetStage, trialStage, stageOf, damaged, phaseOf, packState, packTable, packOf, stageAt, commandAt, stateAt, tableAt, unpackOf}
+use Rattle.packed.specs.Packing.{bit, flag, pair, low, high, word, long, memory, causeOf, bare, readStage, targetStage, trialStage, stageOf, damaged, trialOf, phaseOf, packState, packTable, packOf, stageAt, commandAt, stateAt, causesAt, tableAt, unpackOf}
 
 -- A WORD
 
@@ -46,6 +48,23 @@ high-pair a b h = omega arith
 
 pub word-is : (n : ℕ) → n ≤ 65535 → word n ≡ n
 word-is n h = rw (le-leb n 65535 h)
+
+long-back : (n : ℕ) → long (n % 65536) (n / 65536) ≡ n
+long-back n = omega arith
+
+-- A CAUSE
+
+pub cause-small : (x : Cause) → causeNumber x ≤ 3
+cause-small cause.Unknown = omega arith
+cause-small cause.Crc = omega arith
+cause-small cause.Timeout = omega arith
+cause-small cause.NoSettle = omega arith
+
+cause-back : (x : Cause) {n : ℕ} → n ≡ causeNumber x → causeOf n ≡ x
+cause-back cause.Unknown e = rw e
+cause-back cause.Crc e = rw e
+cause-back cause.Timeout e = rw e
+cause-back cause.NoSettle e = rw e
 
 -- A STAGE
 
@@ -110,6 +129,23 @@ fits n known (phase.Awaiting (access.Verify w)) h = target-fits 8 w (omega arith
 fits n known (phase.Awaiting (access.TrialWrite r)) h = trial-fits 9 n r (omega arith) (and-right known (trialOk n r) h)
 fits n known (phase.Awaiting (access.TrialRead r)) h = trial-fits 10 n r (omega arith) (and-right known (trialOk n r) h)
 
+trial-back : (k : ℕ) (r : Trial) → trialOf (trialStage k r) ≡ r
+trial-back k r =
+    let x = cause-small (r .last) in
+    let y = cause-small (r .before) in
+    let z = cause-small (r .present) in
+    λ i. record {
+      block = r .block;
+      sector = r .sector;
+      spare = r .spare;
+      rereads = r .rereads;
+      failures = r .failures;
+      seen = r .seen;
+      last = cause-back (r .last) {n = memory r % 4} (omega arith) i;
+      before = cause-back (r .before) {n = memory r / 4 % 4} (omega arith) i;
+      present = cause-back (r .present) {n = memory r / 16 % 4} (omega arith) i;
+    }
+
 phase-back : (p : Phase) → phaseOf (stageOf p) ≡ p
 phase-back phase.Idle = refl
 phase-back (phase.Offered offer.Command) = refl
@@ -124,8 +160,8 @@ phase-back (phase.Awaiting access.Store) = refl
 phase-back (phase.Awaiting (access.Read r)) = refl
 phase-back (phase.Awaiting (access.Write w)) = refl
 phase-back (phase.Awaiting (access.Verify w)) = refl
-phase-back (phase.Awaiting (access.TrialWrite r)) = refl
-phase-back (phase.Awaiting (access.TrialRead r)) = refl
+phase-back (phase.Awaiting (access.TrialWrite r)) = ap (λ (r : Trial). phase.Awaiting (access.TrialWrite r)) (trial-back 9 r)
+phase-back (phase.Awaiting (access.TrialRead r)) = ap (λ (r : Trial). phase.Awaiting (access.TrialRead r)) (trial-back 10 r)
 
 -- A STATE
 
@@ -137,9 +173,9 @@ six c h =
     ∙ ap (λ (l : List ℕ). getD c 2 0 ∷ l) (step c 3 (omega arith) ∙ ap (λ (l : List ℕ). getD c 3 0 ∷ l) (step c 4 (omega arith)
     ∙ ap (λ (l : List ℕ). getD c 4 0 ∷ l) (step c 5 (omega arith) ∙ ap (λ (l : List ℕ). getD c 5 0 ∷ l) z))))))
 
-module _ (l : State) (t : Table) (n : ℕ) (ok : stateOk n l ≡ true) (full : length (l .command) ≡ 6) (bytes : Bytewise (l .command)) where
+module _ (l : State) (r : List ℕ) (n : ℕ) (ok : stateOk n l ≡ true) (full : length (l .command) ≡ 6) (bytes : Bytewise (l .command)) where
   abbrev w : List ℕ
-  w = packState l ++ packTable t
+  w = packState l ++ r
 
   command-back : commandAt w ≡ l .command
   unfolding packState
@@ -158,6 +194,7 @@ module _ (l : State) (t : Table) (n : ℕ) (ok : stateOk n l ≡ true) (full : l
         detail = high-pair (s .kind) (s .detail) (f .kind) i;
         sector = word-is (s .sector) (f .sector) i;
         block = s .block;
+        memory = s .memory;
         left = low-pair (s .left) (s .errors) (f .left) i;
         errors = high-pair (s .left) (s .errors) (f .left) i;
         spent = low-pair (s .spent) (s .threshold) (f .spent) i;
@@ -183,20 +220,32 @@ module _ (l : State) (t : Table) (n : ℕ) (ok : stateOk n l ≡ true) (full : l
         command = command-back i;
         count = word-is (l .count) (omega (arith, leb-true (l .count) 6 (and-left (leb (l .count) 6) (leb (l .fed) 533) x))) i;
         fed = word-is (l .fed) (omega (arith, leb-true (l .fed) 533 (and-right (leb (l .count) 6) (leb (l .fed) 533) x))) i;
+        run = long-back (l .run) i;
       }
 
--- A TABLE
+-- A TABLE AND ITS CAUSES
 
-table-back : (l : State) (t : Table) → tableOk t ≡ true → Shaped t → tableAt (packState l ++ packTable t) ≡ t
-unfolding tableAt packState packTable
-table-back l t ok shaped =
-    let p = passes t ok in
-    λ i. record {
-      spares = take-at (t .spares) (t .bads) 32 (shaped .0) i;
-      bads = (ap (take 100) (drop-at (t .spares) (t .bads) 32 (shaped .0)) ∙ take-all 100 (t .bads) (omega (arith, shaped .1))) i;
-      nspares = word-is (t .nspares) (omega (arith, p .few-spares)) i;
-      nbads = word-is (t .nbads) (omega (arith, p .few-bads)) i;
-    }
+module _ (l : State) (t : Table) (cs : List ℕ) (shaped : Shaped t) where
+  abbrev z : List ℕ
+  z = packState l ++ (packTable t ++ cs)
+
+  table-back : tableOk t ≡ true → tableAt z ≡ t
+  unfolding tableAt packState packTable
+  table-back ok =
+      let p = passes t ok in
+      let e = append-assoc (t .spares) (t .bads) cs in
+      λ i. record {
+        spares = (ap (take 32) e ∙ take-at (t .spares) (t .bads ++ cs) 32 (shaped .0)) i;
+        bads = (ap (λ (s : List ℕ). take 100 (drop 32 s)) e ∙ ap (take 100) (drop-at (t .spares) (t .bads ++ cs) 32 (shaped .0)) ∙ take-at (t .bads) cs 100 (shaped .1)) i;
+        nspares = word-is (t .nspares) (omega (arith, p .few-spares)) i;
+        nbads = word-is (t .nbads) (omega (arith, p .few-bads)) i;
+      }
+
+  causes-back : length cs ≡ 32 → causesAt z ≡ cs
+  unfolding packState packTable
+  causes-back h =
+      let k : length (t .spares ++ t .bads) ≡ 132 = omega (arith, length-append (t .spares) (t .bads), shaped .0, shaped .1) in
+      ap (take 32) (drop-at (t .spares ++ t .bads) cs 132 k) ∙ take-all 32 cs (omega arith)
 
 -- A RECORD
 
@@ -204,24 +253,31 @@ pub unpacked : (d : Drive) → Typed d → recordOk d ≡ true → unpackOf (pac
 unfolding packOf recordOk
 unpacked d y ok =
     let t = tableOk (d .table) in
+    let c = causesOk (take (d .table .nspares) (d .causes)) in
     let s = stateOk (d .table .nspares) (d .state) in
     λ i. record {
-      table = table-back (d .state) (d .table) (and-left t s ok) (y .table) i;
-      state = state-back (d .state) (d .table) (d .table .nspares) (and-right t s ok) (y .full) (y .bytes) i;
+      table = table-back (d .state) (d .table) (d .causes) (y .table) (and-left t c (and-left (t && c) s ok)) i;
+      causes = causes-back (d .state) (d .table) (d .causes) (y .table) (y .causes) i;
+      state = state-back (d .state) (packTable (d .table) ++ d .causes) (d .table .nspares) (and-right (t && c) s ok) (y .full) (y .bytes) i;
     }
 
--- The words of a table stay where it is packed again.
-pub table-words : (w : List ℕ) → length w ≡ 153 → getD w 19 0 ≤ 65535 → getD w 20 0 ≤ 65535 → packTable (tableAt w) ≡ drop 19 w
+-- The words of a table and its causes stay where they are packed again.
+pub table-words : (w : List ℕ) → length w ≡ 188 → getD w 22 0 ≤ 65535 → getD w 23 0 ≤ 65535 → packTable (tableAt w) ++ causesAt w ≡ drop 22 w
 unfolding tableAt packTable
 table-words w h a b =
-    let x : drop 32 (drop 21 w) ≡ drop 53 w = drop-drop 32 21 w in
-    let y : take 100 (drop 53 w) ≡ drop 53 w = take-all 100 (drop 53 w) (omega (arith, length-drop 53 w)) in
-    (λ i. word-is (getD w 19 0) a i ∷ word-is (getD w 20 0) b i ∷ (take 32 (drop 21 w) ++ (y ∙ sym x) i))
-    ∙ ap (λ (l : List ℕ). getD w 19 0 ∷ getD w 20 0 ∷ l) (take-append-drop 32 (drop 21 w))
-    ∙ ap (λ (l : List ℕ). getD w 19 0 ∷ l) (sym (step w 20 (omega arith)))
-    ∙ sym (step w 19 (omega arith))
+    let s = take 32 (drop 24 w) in
+    let x : drop 32 (drop 24 w) ≡ drop 56 w = drop-drop 32 24 w in
+    let y : drop 100 (drop 56 w) ≡ drop 156 w = drop-drop 100 56 w in
+    let z : take 32 (drop 156 w) ≡ drop 156 w = take-all 32 (drop 156 w) (omega (arith, length-drop 156 w)) in
+    let q : take 100 (drop 56 w) ++ take 32 (drop 156 w) ≡ drop 32 (drop 24 w) = (λ i. take 100 (drop 56 w) ++ (z ∙ sym y) i) ∙ take-append-drop 100 (drop 56 w) ∙ sym x in
+    (λ i. word-is (getD w 22 0) a i ∷ word-is (getD w 23 0) b i ∷ (append-assoc s (take 100 (drop 56 w)) (take 32 (drop 156 w)) ∙ ap (λ (l : List ℕ). s ++ l) q ∙ take-append-drop 32 (drop 24 w)) i)
+    ∙ ap (λ (l : List ℕ). getD w 22 0 ∷ l) (sym (step w 23 (omega arith)))
+    ∙ sym (step w 22 (omega arith))
 
 -- Code 1 refuses a record in the phase that stands for none.
 pub damaged-refused : (d : Drive) → d .state .phase ≡ damaged → recordOk d ≡ false
 unfolding recordOk stateOk
-damaged-refused d e = rw e (and-false (tableOk (d .table)) (leb (d .state .count) 6 && leb (d .state .fed) 533 && false) (and-false (leb (d .state .count) 6 && leb (d .state .fed) 533) false refl))
+damaged-refused d e =
+    let few = leb (d .state .count) 6 && leb (d .state .fed) 533 in
+    let lists = tableOk (d .table) && causesOk (take (d .table .nspares) (d .causes)) in
+    rw e (and-false lists (few && false) (and-false few false refl))

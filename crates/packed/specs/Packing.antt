@@ -1,4 +1,4 @@
--- The record as words, for C: 153 numbers of 16 bits, each with a meaning of its own. Two bytes share a word.
+-- The record as words, for C: 188 numbers of 16 bits, each with a meaning of its own. Two bytes share a word.
 use mathlib.Core.Bool.{Bool, true, false, cond, not}
 use mathlib.Core.List.{List, [], _∷_, _++_}
 use Prim.Native.Nat.{ℕ, _+_, _*_, _/_, _%_}
@@ -8,6 +8,8 @@ use Rattle.table.specs.declared.Table.{Table}
 use Rattle.drive.specs.declared.Drive.{Drive}
 use Rattle.drive.specs.declared.State.{State}
 use Rattle.drive.specs.declared.Marks.{Marks}
+use Rattle.drive.specs.declared.Cause.{Cause}
+use Rattle.drive.specs.declared.Cause.the-variants as cause
 use Rattle.drive.specs.declared.Offer.the-variants as offer
 use Rattle.drive.specs.declared.Access.{Access}
 use Rattle.drive.specs.declared.Access.the-variants as access
@@ -17,7 +19,7 @@ use Rattle.drive.specs.declared.Seen.{Seen}
 use Rattle.drive.specs.declared.Retry.{Retry}
 use Rattle.drive.specs.declared.Target.{Target}
 use Rattle.drive.specs.declared.Trial.{Trial}
-use Rattle.drive.specs.Words.{response}
+use Rattle.drive.specs.Words.{response, causeNumber}
 use Rattle.packed.specs.declared.Stage.{Stage}
 
 -- WORDS
@@ -43,24 +45,35 @@ high n = n / 256
 abbrev pub word : ℕ → ℕ
 word n = cond (leb n 65535) n 65535
 
+-- Returns two words as a number of 32 bits.
+abbrev pub long : ℕ → ℕ → ℕ
+long a b = a + 65536 * b
+
+-- Returns the three failures that a trial remembers as a word, and the cause of a number from 0 to 3.
+abbrev pub memory : Trial → ℕ
+memory r = causeNumber (r .last) + 4 * causeNumber (r .before) + 16 * causeNumber (r .present)
+
+abbrev pub causeOf : ℕ → Cause
+causeOf n = cond (eqb n 0) cause.Unknown (cond (eqb n 1) cause.Crc (cond (eqb n 2) cause.Timeout cause.NoSettle))
+
 -- A PHASE AS A STAGE: its kind is 0 to 10, and what a phase does not have is 0. A trial's rereads are its detail, its failures are
--- in spent; a write that is read back is marked by first.
+-- in spent, the three that it remembers in memory; a write that is read back is marked by first.
 
 abbrev pub bare : ℕ → ℕ → Stage
 bare k n =
-    record { kind = k; detail = n; sector = 0; block = 0; left = 0; errors = 0; spent = 0; threshold = 0; first = false; good = false; spare = false; crc = false; timeout = false }
+    record { kind = k; detail = n; sector = 0; block = 0; memory = 0; left = 0; errors = 0; spent = 0; threshold = 0; first = false; good = false; spare = false; crc = false; timeout = false }
 
 abbrev pub readStage : Retry → Stage
 readStage r =
-    record { kind = 6; detail = 0; sector = r .sector .0; block = r .block .0; left = r .left; errors = r .seen .errors; spent = r .spent; threshold = r .threshold; first = r .first; good = r .good; spare = false; crc = r .seen .crc; timeout = r .seen .timeout }
+    record { kind = 6; detail = 0; sector = r .sector .0; block = r .block .0; memory = 0; left = r .left; errors = r .seen .errors; spent = r .spent; threshold = r .threshold; first = r .first; good = r .good; spare = false; crc = r .seen .crc; timeout = r .seen .timeout }
 
 abbrev pub targetStage : ℕ → Target → Stage
 targetStage k w =
-    record { kind = k; detail = 0; sector = w .sector .0; block = w .block .0; left = 0; errors = 0; spent = 0; threshold = 0; first = w .verify; good = false; spare = false; crc = false; timeout = false }
+    record { kind = k; detail = 0; sector = w .sector .0; block = w .block .0; memory = 0; left = 0; errors = 0; spent = 0; threshold = 0; first = w .verify; good = false; spare = false; crc = false; timeout = false }
 
 abbrev pub trialStage : ℕ → Trial → Stage
 trialStage k r =
-    record { kind = k; detail = r .rereads; sector = r .sector .0; block = r .block .0; left = 0; errors = r .seen .errors; spent = r .failures; threshold = 0; first = false; good = false; spare = r .spare; crc = r .seen .crc; timeout = r .seen .timeout }
+    record { kind = k; detail = r .rereads; sector = r .sector .0; block = r .block .0; memory = memory r; left = 0; errors = r .seen .errors; spent = r .failures; threshold = 0; first = false; good = false; spare = r .spare; crc = r .seen .crc; timeout = r .seen .timeout }
 
 abbrev pub accessStage : Access → Stage
 accessStage (access.Start k) = bare 4 k
@@ -102,7 +115,7 @@ targetOf s = record { block = record { 0 = s .block }; sector = record { 0 = s .
 
 abbrev pub trialOf : Stage → Trial
 trialOf s =
-    record { block = record { 0 = s .block }; sector = record { 0 = s .sector }; spare = s .spare; rereads = s .detail; failures = s .spent; seen = seenOf s }
+    record { block = record { 0 = s .block }; sector = record { 0 = s .sector }; spare = s .spare; rereads = s .detail; failures = s .spent; seen = seenOf s; last = causeOf (s .memory % 4); before = causeOf (s .memory / 4 % 4); present = causeOf (s .memory / 16 % 4) }
 
 abbrev pub phaseOf : Stage → Phase
 phaseOf s =
@@ -120,14 +133,14 @@ phaseOf s =
 
 -- PACKING
 
--- Returns the 19 words of a state.
+-- Returns the 22 words of a state.
 abbrev pub stateWords : Marks → Stage → State → List ℕ
 stateWords m s l =
     bit (m .known) ∷ bit (m .changed) ∷ bit (m .latch) ∷ bit (m .fresh)
     ∷ pair (s .kind) (s .detail) ∷ word (s .sector) ∷ s .block ∷ pair (s .left) (s .errors) ∷ pair (s .spent) (s .threshold)
     ∷ bit (s .first) ∷ bit (s .good) ∷ bit (s .spare) ∷ bit (s .crc) ∷ bit (s .timeout) ∷ word (l .count) ∷ word (l .fed)
     ∷ pair (getD (l .command) 0 0) (getD (l .command) 1 0) ∷ pair (getD (l .command) 2 0) (getD (l .command) 3 0)
-    ∷ pair (getD (l .command) 4 0) (getD (l .command) 5 0) ∷ []
+    ∷ pair (getD (l .command) 4 0) (getD (l .command) 5 0) ∷ s .memory ∷ l .run % 65536 ∷ l .run / 65536 ∷ []
 
 unfoldable pub packState : State → List ℕ
 packState l = stateWords (l .marks) (stageOf (l .phase)) l
@@ -137,7 +150,7 @@ unfoldable pub packTable : Table → List ℕ
 packTable t = word (t .nspares) ∷ word (t .nbads) ∷ (t .spares ++ t .bads)
 
 unfoldable pub packOf : Drive → List ℕ
-packOf d = packState (d .state) ++ packTable (d .table)
+packOf d = packState (d .state) ++ (packTable (d .table) ++ d .causes)
 
 -- UNPACKING
 
@@ -151,6 +164,7 @@ stageAt w =
       detail = high (getD w 4 0);
       sector = getD w 5 0;
       block = getD w 6 0;
+      memory = getD w 19 0;
       left = low (getD w 7 0);
       errors = high (getD w 7 0);
       spent = low (getD w 8 0);
@@ -166,16 +180,19 @@ abbrev pub commandAt : List ℕ → List ℕ
 commandAt w = low (getD w 16 0) ∷ high (getD w 16 0) ∷ low (getD w 17 0) ∷ high (getD w 17 0) ∷ low (getD w 18 0) ∷ high (getD w 18 0) ∷ []
 
 unfoldable pub stateAt : List ℕ → State
-stateAt w = record { phase = phaseOf (stageAt w); marks = marksAt w; command = commandAt w; count = getD w 14 0; fed = getD w 15 0 }
+stateAt w = record { phase = phaseOf (stageAt w); marks = marksAt w; command = commandAt w; count = getD w 14 0; fed = getD w 15 0; run = long (getD w 20 0) (getD w 21 0) }
 
 abbrev pub sparesAt : List ℕ → List ℕ
-sparesAt w = take 32 (drop 21 w)
+sparesAt w = take 32 (drop 24 w)
 
 abbrev pub badsAt : List ℕ → List ℕ
-badsAt w = take 100 (drop 53 w)
+badsAt w = take 100 (drop 56 w)
+
+abbrev pub causesAt : List ℕ → List ℕ
+causesAt w = take 32 (drop 156 w)
 
 unfoldable pub tableAt : List ℕ → Table
-tableAt w = record { spares = sparesAt w; bads = badsAt w; nspares = getD w 19 0; nbads = getD w 20 0 }
+tableAt w = record { spares = sparesAt w; bads = badsAt w; nspares = getD w 22 0; nbads = getD w 23 0 }
 
 abbrev pub unpackOf : List ℕ → Drive
-unpackOf w = record { table = tableAt w; state = stateAt w }
+unpackOf w = record { table = tableAt w; causes = causesAt w; state = stateAt w }

@@ -1,16 +1,18 @@
-// The record as a C program holds it: 153 words of 16 bits. The state is packed into the first 19; the
-// table's counts and entries are the others. Any words are unpacked: a flag that is not 0 is true, and
-// a phase or an offer that there is not becomes a phase that code 1 refuses.
+// The record as a C program holds it: 188 words of 16 bits. The state is packed into the first 22; the
+// table's counts and entries come next, and the causes of its spare entries last. Any words are unpacked:
+// a flag that is not 0 is true, and a phase or an offer that there is not becomes a phase that code 1
+// refuses.
 ghost use mathlib.Core.Path.{_≡_};
 ghost use mathlib.Core.List.{_++_};
 ghost use Prim.Native.Nat.{_+_, _≤_};
 ghost use lib.ListN.{length, take, drop, getD};
 ghost use Rattle.buffer.specs.Runs.{over};
-ghost use Rattle.drive.specs.Words.{response};
-ghost use Rattle.packed.specs.Packing.{bit, flag, pair, low, high, word, bare, readStage, targetStage, trialStage, accessStage, stageOf};
+ghost use Rattle.drive.specs.Words.{response, causeNumber};
+ghost use Rattle.packed.specs.Packing.{bit, flag, pair, low, high, word, long, memory, causeOf, bare, readStage, targetStage, trialStage, accessStage, stageOf};
 ghost use Rattle.packed.specs.Packing.{damaged, offered, seenOf, retryOf, targetOf, trialOf, phaseOf, packState, packTable};
-ghost use Rattle.packed.specs.Packing.{marksAt, stageAt, commandAt, stateAt, sparesAt, badsAt, tableAt};
+ghost use Rattle.packed.specs.Packing.{marksAt, stageAt, commandAt, stateAt, sparesAt, badsAt, causesAt, tableAt};
 use drive::Access;
+use drive::Cause;
 use drive::Marks;
 use drive::Offer;
 use drive::Phase;
@@ -24,16 +26,18 @@ use geometry::Sector;
 use table::Table;
 
 // Holds a record's words.
-pub type Words = [u16; 153];
+pub type Words = [u16; 188];
 
 // Holds any phase. kind is 0 idle, 1 offered, 2 command, 3 data, 4 start, 5 store, 6 read, 7 write, 8 verify,
 // 9 trial write, 10 trial read; detail is the offer's response byte, the start's reads, or a trial's
-// rereads; spent is also a trial's failures, first also whether a write is read back.
+// rereads; spent is also a trial's failures, first also whether a write is read back; memory holds the
+// three failures that a trial remembers.
 pub struct Stage {
     pub kind: u8,
     pub detail: u8,
     pub sector: u32,
     pub block: u16,
+    pub memory: u16,
     pub left: u8,
     pub errors: u8,
     pub spent: u8,
@@ -104,6 +108,13 @@ fn wide(w: u16) -> u32
     w as u32
 }
 
+// Returns two words as a longer one.
+fn long(a: u16, b: u16) -> u32
+    ensures { λ r. ⌜ r ≡ long a b ⌝ }
+{
+    a as u32 + 65536 * b as u32
+}
+
 // Returns the response byte of an offer.
 pub fn response(o: Offer) -> u8
     ensures { λ r. ⌜ r ≡ response o ⌝ }
@@ -117,6 +128,40 @@ pub fn response(o: Offer) -> u8
     }
 }
 
+// Returns the number of a cause.
+fn cause_number(x: Cause) -> u16
+    ensures { λ r. ⌜ r ≡ causeNumber x ⌝ }
+{
+    match x {
+        Cause::Unknown => 0,
+        Cause::Crc => 1,
+        Cause::Timeout => 2,
+        Cause::NoSettle => 3,
+    }
+}
+
+// Returns the cause of a number from 0 to 3.
+fn cause_of(n: u16) -> Cause
+    ensures { λ r. ⌜ r ≡ causeOf n ⌝ }
+{
+    match n {
+        0 => Cause::Unknown,
+        1 => Cause::Crc,
+        2 => Cause::Timeout,
+        _ => Cause::NoSettle,
+    }
+}
+
+// Returns the three failures that a trial remembers as a word.
+fn memory(r: Trial) -> u16
+    ensures { λ x. ⌜ x ≡ memory r ⌝ }
+{
+    let last = r.last;
+    let before = r.before;
+    let present = r.present;
+    cause_number(last) + 4 * cause_number(before) + 16 * cause_number(present)
+}
+
 // Returns the stage of a phase with at most a detail.
 fn bare(kind: u8, detail: u8) -> Stage
     ensures { λ r. ⌜ r ≡ bare kind detail ⌝ }
@@ -126,6 +171,7 @@ fn bare(kind: u8, detail: u8) -> Stage
         detail: detail,
         sector: 0,
         block: 0,
+        memory: 0,
         left: 0,
         errors: 0,
         spent: 0,
@@ -147,6 +193,7 @@ fn read_stage(r: Retry) -> Stage
         detail: 0,
         sector: r.sector.0,
         block: r.block.0,
+        memory: 0,
         left: r.left,
         errors: r.seen.errors,
         spent: r.spent,
@@ -168,6 +215,7 @@ fn target_stage(kind: u8, w: Target) -> Stage
         detail: 0,
         sector: w.sector.0,
         block: w.block.0,
+        memory: 0,
         left: 0,
         errors: 0,
         spent: 0,
@@ -189,6 +237,7 @@ fn trial_stage(kind: u8, r: Trial) -> Stage
         detail: r.rereads,
         sector: r.sector.0,
         block: r.block.0,
+        memory: memory(r),
         left: 0,
         errors: r.seen.errors,
         spent: r.failures,
@@ -299,6 +348,9 @@ fn trial_of(s: Stage) -> Trial
         rereads: s.detail,
         failures: s.spent,
         seen: seen_of(s),
+        last: cause_of(s.memory % 4),
+        before: cause_of(s.memory / 4 % 4),
+        present: cause_of(s.memory / 16 % 4),
     }
 }
 
@@ -324,7 +376,7 @@ fn phase_of(s: Stage) -> Phase
 }
 
 // Returns the words of a state.
-pub fn pack_state(l: State) -> [u16; 19]
+pub fn pack_state(l: State) -> [u16; 22]
     ensures { λ r. ⌜ r ≡ packState l ⌝ }
 {
     let p = l.phase;
@@ -351,12 +403,15 @@ pub fn pack_state(l: State) -> [u16; 19]
         pair(c[0], c[1]),
         pair(c[2], c[3]),
         pair(c[4], c[5]),
+        s.memory,
+        (l.run % 65536) as u16,
+        (l.run / 65536) as u16,
     ]
 }
 
 // Returns the marks of a record's words.
 fn marks_at(w: &[u16]) -> Marks
-    requires { ⌜ length (now w) ≡ 153 ⌝ }
+    requires { ⌜ length (now w) ≡ 188 ⌝ }
     ensures { λ r. ⌜ r ≡ marksAt (now (w .entry)) ⌝ }
 {
     Marks {
@@ -369,7 +424,7 @@ fn marks_at(w: &[u16]) -> Marks
 
 // Returns the stage of a record's words.
 fn stage_at(w: &[u16]) -> Stage
-    requires { ⌜ length (now w) ≡ 153 ⌝ }
+    requires { ⌜ length (now w) ≡ 188 ⌝ }
     ensures { λ r. ⌜ r ≡ stageAt (now (w .entry)) ⌝ }
 {
     Stage {
@@ -377,6 +432,7 @@ fn stage_at(w: &[u16]) -> Stage
         detail: high(w[4]),
         sector: wide(w[5]),
         block: w[6],
+        memory: w[19],
         left: low(w[7]),
         errors: high(w[7]),
         spent: low(w[8]),
@@ -391,7 +447,7 @@ fn stage_at(w: &[u16]) -> Stage
 
 // Returns the command bytes of a record's words.
 fn command_at(w: &[u16]) -> [u8; 6]
-    requires { ⌜ length (now w) ≡ 153 ⌝ }
+    requires { ⌜ length (now w) ≡ 188 ⌝ }
     ensures { λ r. ⌜ r ≡ commandAt (now (w .entry)) ⌝ }
 {
     [
@@ -406,7 +462,7 @@ fn command_at(w: &[u16]) -> [u8; 6]
 
 // Returns the state of a record's words.
 pub fn state_at(w: &[u16]) -> State
-    requires { ⌜ length (now w) ≡ 153 ⌝ }
+    requires { ⌜ length (now w) ≡ 188 ⌝ }
     ensures { λ r. ⌜ r ≡ stateAt (now (w .entry)) ⌝ }
 {
     let s = stage_at(w);
@@ -419,23 +475,32 @@ pub fn state_at(w: &[u16]) -> State
         command: command,
         count: number(w[14]),
         fed: number(w[15]),
+        run: long(w[20], w[21]),
     }
 }
 
 // Returns the places of the spare list.
 pub fn spares(w: &[u16]) -> &[u16]
-    requires { ⌜ length (now w) ≡ 153 ⌝ }
+    requires { ⌜ length (now w) ≡ 188 ⌝ }
     ensures { λ r. ⌜ now r ≡ sparesAt (now (w .entry)) ⌝ }
 {
-    &w[21..53]
+    &w[24..56]
 }
 
 // Returns the places of the bad list.
 pub fn bads(w: &[u16]) -> &[u16]
-    requires { ⌜ length (now w) ≡ 153 ⌝ }
+    requires { ⌜ length (now w) ≡ 188 ⌝ }
     ensures { λ r. ⌜ now r ≡ badsAt (now (w .entry)) ⌝ }
 {
-    &w[53..153]
+    &w[56..156]
+}
+
+// Returns the causes of the spare entries, at the entries' places.
+pub fn causes(w: &[u16]) -> &[u16]
+    requires { ⌜ length (now w) ≡ 188 ⌝ }
+    ensures { λ r. ⌜ now r ≡ causesAt (now (w .entry)) ⌝ }
+{
+    &w[156..188]
 }
 
 // Writes the run from index `at` on.
@@ -452,7 +517,7 @@ fn put(out: &mut [u16], at: usize, run: &[u16])
 
 // Returns the table of a record's words.
 pub fn table_at(w: &[u16]) -> Table
-    requires { ⌜ length (now w) ≡ 153 ⌝ }
+    requires { ⌜ length (now w) ≡ 188 ⌝ }
     ensures { λ r. ⌜ r ≡ tableAt (now (w .entry)) ⌝ }
 {
     let mut s = [0u16; 32];
@@ -462,27 +527,38 @@ pub fn table_at(w: &[u16]) -> Table
     Table {
         spares: s,
         bads: b,
-        nspares: number(w[19]),
-        nbads: number(w[20]),
+        nspares: number(w[22]),
+        nbads: number(w[23]),
     }
+}
+
+// Returns the causes of a record's words, as an array.
+pub fn causes_at(w: &[u16]) -> [u16; 32]
+    requires { ⌜ length (now w) ≡ 188 ⌝ }
+    ensures { λ r. ⌜ r ≡ causesAt (now (w .entry)) ⌝ }
+{
+    let mut c = [0u16; 32];
+    put(&mut c, 0, causes(w));
+    c
 }
 
 // Writes a state into a record's words.
 pub fn put_state(w: &mut [u16], l: State)
-    requires { ⌜ length (now w) ≡ 153 ⌝ }
-    ensures { λ r. ⌜ now (w .exit) ≡ packState l ++ drop 19 (now (w .entry)) ⌝ }
+    requires { ⌜ length (now w) ≡ 188 ⌝ }
+    ensures { λ r. ⌜ now (w .exit) ≡ packState l ++ drop 22 (now (w .entry)) ⌝ }
 {
     let s = pack_state(l);
     put(w, 0, &s);
 }
 
-// Writes a table into a record's words.
-pub fn put_table(w: &mut [u16], t: Table)
-    requires { ⌜ length (now w) ≡ 153 ⌝ }
-    ensures { λ r. ⌜ now (w .exit) ≡ take 19 (now (w .entry)) ++ packTable t ⌝ }
+// Writes a table and the causes of its spare entries into a record's words.
+pub fn put_table(w: &mut [u16], t: Table, causes: [u16; 32])
+    requires { ⌜ length (now w) ≡ 188 ⌝ }
+    ensures { λ r. ⌜ now (w .exit) ≡ take 22 (now (w .entry)) ++ (packTable t ++ causes) ⌝ }
 {
     let counts = [word(t.nspares), word(t.nbads)];
-    put(w, 19, &counts);
-    put(w, 21, &t.spares);
-    put(w, 53, &t.bads);
+    put(w, 22, &counts);
+    put(w, 24, &t.spares);
+    put(w, 56, &t.bads);
+    put(w, 156, &causes);
 }

@@ -13,9 +13,11 @@ use Rattle.geometry.specs.declared.Block.{Block}
 use Rattle.lists.specs.Lists.{memberOf}
 use Rattle.table.specs.declared.Table.{Table}
 use Rattle.table.specs.Tables.{spareList, badList}
-use Rattle.image.specs.Images.{tableImage}
+use Rattle.image.specs.Images.{runOf}
 use Rattle.drive.specs.declared.Access.the-variants as access
 use Rattle.drive.specs.declared.Answer.the-variants as answer
+use Rattle.drive.specs.declared.Cause.{Cause}
+use Rattle.drive.specs.declared.Cause.the-variants as cause
 use Rattle.drive.specs.declared.Change.{Change}
 use Rattle.drive.specs.declared.Change.the-variants as change
 use Rattle.drive.specs.declared.Drive.{Drive}
@@ -38,8 +40,8 @@ use Rattle.drive.specs.declared.Trial.{Trial}
 use Rattle.drive.specs.declared.Turn.{Turn}
 use Rattle.drive.specs.Words.{isRead, isWrite, isVerify}
 use Rattle.drive.specs.Records.{recordOk}
-use Rattle.drive.specs.Results.{Out, inPhase, say, refuse, finish, clean, onPresent, guarded}
-use Rattle.drive.specs.Handshake.{offersCommand, storesFirst, raisedIdle, offerFor, ends, firstRead, firstWrite, firstTrial, isListed, writes, tooLong, asksBuffer, asksTable, asksHealth, noNumber, health, acted, goesOn, brokenOff, lowered}
+use Rattle.drive.specs.Results.{storedImage, Out, inPhase, say, refuse, finish, clean, onPresent, guarded}
+use Rattle.drive.specs.Handshake.{offersCommand, storesFirst, numbered, raisedIdle, offerFor, ends, firstRead, firstWrite, firstTrial, isListed, writes, tooLong, asksBuffer, asksTable, asksHealth, noNumber, health, acted, goesOn, brokenOff, lowered}
 use Rattle.drive.specs.Retries.{met, passed, failed, goesOnReading, afterRead}
 use Rattle.drive.specs.Sparing.{begin, onSpare, hasUnused, nextSpare, missed, stopped, verified, tried, fault, counted, hasReread, isSound, judged, checked}
 use Rattle.drive.specs.Access.{answerFits, bytesFit, fitting, withTable, isTaken, startAnswered, hasRoom, lost, isBelow, settled, writeAnswered, verifyAnswered}
@@ -67,7 +69,7 @@ fitting-cases P read l a n x z = branch P (answerFits read a) (λ e. branch P (b
 -- THE HANDSHAKE
 
 pub record RaisedIdle (P : Turn → Type 0) (l : State) : Type 0 where
-  pub stores : storesFirst (l .marks) ≡ true → P (say (inPhase l (phase.Awaiting access.Store)) answer.Store)
+  pub stores : storesFirst (l .marks) ≡ true → P (say (inPhase (numbered l) (phase.Awaiting access.Store)) answer.Store)
   pub offers : storesFirst (l .marks) ≡ false → P (offersCommand l)
 
 pub raised-idle-cases : (P : Turn → Type 0) (l : State) → RaisedIdle P l → P (raisedIdle l)
@@ -138,25 +140,26 @@ lowered-cases P o l t b z = branch P (eqb b 0x55) (z .goes) (z .breaks)
 
 -- SPARING
 
-pub record NextSpare (P : Turn → Type 0) (n : ℕ) (l : State) (c : Change) (b : Block) (s : Seen) : Type 0 where
-  pub spare : hasUnused n ≡ true → P (begin l c (onSpare n b s) part.Kept)
+pub record NextSpare (P : Turn → Type 0) (n : ℕ) (l : State) (c : Change) (b : Block) (s : Seen) (x y : Cause) : Type 0 where
+  pub spare : hasUnused n ≡ true → P (begin l c (onSpare n b s x y) part.Kept)
   pub no-spare : hasUnused n ≡ false → P (finish l c ending.NoSpare s part.Kept)
 
-pub next-spare-cases : (P : Turn → Type 0) (n : ℕ) (l : State) (c : Change) (b : Block) (s : Seen) → NextSpare P n l c b s → P (nextSpare n l c b s)
+pub next-spare-cases : (P : Turn → Type 0) (n : ℕ) (l : State) (c : Change) (b : Block) (s : Seen) (x y : Cause) → NextSpare P n l c b s x y → P (nextSpare n l c b s x y)
 unfolding nextSpare
-next-spare-cases P n l c b s z = branch P (hasUnused n) (z .spare) (z .no-spare)
+next-spare-cases P n l c b s x y z = branch P (hasUnused n) (z .spare) (z .no-spare)
 
-pub record Missed (P : Turn → Type 0) (l : State) (t : Table) (r : Trial) (s : Seen) : Type 0 where
-  pub dead : r .spare ≡ true → NextSpare P (t .nspares + 1) l change.Kill (r .block) s
-  pub left : r .spare ≡ false → NextSpare P (t .nspares) l change.Keep (r .block) s
+pub record Missed (P : Turn → Type 0) (l : State) (t : Table) (r : Trial) (s : Seen) (x : Cause) : Type 0 where
+  pub dead : r .spare ≡ true → NextSpare P (t .nspares + 1) l (change.Kill x) (r .block) s x (r .present)
+  pub left : r .spare ≡ false → NextSpare P (t .nspares) l change.Keep (r .block) s x x
 
-pub missed-cases : (P : Turn → Type 0) (l : State) (t : Table) (r : Trial) (s : Seen) → Missed P l t r s → P (missed l t r s)
+pub missed-cases : (P : Turn → Type 0) (l : State) (t : Table) (r : Trial) (s : Seen) (x : Cause) → Missed P l t r s x → P (missed l t r s x)
 unfolding missed
-missed-cases P l t r s z =
-    branch P (r .spare) (λ e. next-spare-cases P _ l change.Kill (r .block) s (z .dead e)) (λ e. next-spare-cases P _ l change.Keep (r .block) s (z .left e))
+missed-cases P l t r s x z =
+    branch P (r .spare) (λ e. next-spare-cases P _ l (change.Kill x) (r .block) s x (r .present) (z .dead e))
+    (λ e. next-spare-cases P _ l change.Keep (r .block) s x x (z .left e))
 
 pub record Stopped (P : Turn → Type 0) (l : State) (r : Trial) : Type 0 where
-  pub dead : r .spare ≡ true → P (finish l change.Kill ending.Latched (r .seen) part.Kept)
+  pub dead : r .spare ≡ true → P (finish l (change.Kill cause.NoSettle) ending.Latched (r .seen) part.Kept)
   pub present : r .spare ≡ false → P (finish l change.Keep ending.Latched (r .seen) part.Kept)
 
 pub stopped-cases : (P : Turn → Type 0) (l : State) (r : Trial) → Stopped P l r → P (stopped l r)
@@ -164,7 +167,7 @@ unfolding stopped
 stopped-cases P l r z = branch (λ (c : Change). P (finish l c ending.Latched (r .seen) part.Kept)) (r .spare) (z .dead) (z .present)
 
 pub record Verified (P : Turn → Type 0) (l : State) (t : Table) (r : Trial) : Type 0 where
-  pub moved : r .spare ≡ true → P (finish l (change.Move (r .block)) ending.Moved (r .seen) part.Kept)
+  pub moved : r .spare ≡ true → P (finish l (change.Move (r .block) (r .before) (r .present)) ending.Moved (r .seen) part.Kept)
   pub listed : r .spare ≡ false → memberOf (r .block .0) (badList t) ≡ true → P (finish l (change.Remove (r .block)) ending.Good (r .seen) part.Kept)
   pub stays : r .spare ≡ false → memberOf (r .block .0) (badList t) ≡ false → P (finish l change.Keep ending.Good (r .seen) part.Kept)
 
@@ -177,24 +180,24 @@ verified-cases P l t r z =
 pub record Tried (P : Turn → Type 0) (l : State) (t : Table) (r : Trial) (a : ℕ) : Type 0 where
   pub done : eqb a 0 ≡ true → P (say (inPhase l (phase.Awaiting (access.TrialRead r))) (answer.Read (r .sector)))
   pub stops : eqb a 3 ≡ true → Stopped P l r
-  pub fails : eqb a 0 ≡ false → eqb a 3 ≡ false → Missed P l t r (met a (r .seen))
+  pub fails : eqb a 0 ≡ false → eqb a 3 ≡ false → Missed P l t r (met a (r .seen)) cause.Timeout
 
 pub tried-cases : (P : Turn → Type 0) (l : State) (t : Table) (r : Trial) (a : ℕ) → Tried P l t r a → P (tried l t r a)
 unfolding tried
 tried-cases P l t r a z =
     branch P (eqb a 0) (z .done)
-    (λ e. branch P (eqb a 3) (λ f. stopped-cases P l r (z .stops f)) (λ f. missed-cases P l t r (met a (r .seen)) (z .fails e f)))
+    (λ e. branch P (eqb a 3) (λ f. stopped-cases P l r (z .stops f)) (λ f. missed-cases P l t r (met a (r .seen)) cause.Timeout (z .fails e f)))
 
 pub record Judged (P : Turn → Type 0) (l : State) (t : Table) (r : Trial) : Type 0 where
   pub again : hasReread r ≡ true → P (say (inPhase l (phase.Awaiting (access.TrialRead r))) (answer.Read (r .sector)))
   pub passes : hasReread r ≡ false → isSound r ≡ true → Verified P l t r
-  pub fails : hasReread r ≡ false → isSound r ≡ false → Missed P l t r (r .seen)
+  pub fails : hasReread r ≡ false → isSound r ≡ false → Missed P l t r (r .seen) (r .last)
 
 pub judged-cases : (P : Turn → Type 0) (l : State) (t : Table) (r : Trial) → Judged P l t r → P (judged l t r)
 unfolding judged
 judged-cases P l t r z =
     branch P (hasReread r) (z .again)
-    (λ e. branch P (isSound r) (λ f. verified-cases P l t r (z .passes e f)) (λ f. missed-cases P l t r (r .seen) (z .fails e f)))
+    (λ e. branch P (isSound r) (λ f. verified-cases P l t r (z .passes e f)) (λ f. missed-cases P l t r (r .seen) (r .last) (z .fails e f)))
 
 pub record Checked (P : Turn → Type 0) (l : State) (t : Table) (r : Trial) (a : ℕ) (equal : Bool) : Type 0 where
   pub stops : eqb a 3 ≡ true → Stopped P l r
@@ -207,7 +210,7 @@ checked-cases P l t r a equal z = branch P (eqb a 3) (λ e. stopped-cases P l r 
 -- THE START
 
 pub record StartAnswered (P : Turn → Type 0) (k : ℕ) (l : State) (a : ℕ) (bs : List ℕ) : Type 0 where
-  pub table : isTaken a bs ≡ true → P (withTable l)
+  pub table : isTaken a bs ≡ true → P (withTable l (runOf bs))
   pub stops : isTaken a bs ≡ false → eqb a 3 ≡ true → P (say (inPhase l phase.Idle) answer.Wait)
   pub again : isTaken a bs ≡ false → ltb k 10 ≡ true → P (say (inPhase l (phase.Awaiting (access.Start (k + 1)))) (answer.Read tableSector))
   pub gives-up : isTaken a bs ≡ false → ltb k 10 ≡ false → P (say (inPhase l phase.Idle) answer.Wait)
@@ -266,13 +269,13 @@ pub record WriteAnswered (P : Turn → Type 0) (l : State) (t : Table) (w : Targ
   pub verifies : eqb a 0 ≡ true → w .verify ≡ true → P (say (inPhase l (phase.Awaiting (access.Verify w))) (answer.Read (w .sector)))
   pub done : eqb a 0 ≡ true → w .verify ≡ false → P (finish l change.Keep ending.Good clean part.Kept)
   pub stops : eqb a 0 ≡ false → eqb a 3 ≡ true → P (finish l change.Keep ending.Latched clean part.Kept)
-  pub moves : eqb a 0 ≡ false → eqb a 3 ≡ false → NextSpare P (t .nspares) l change.Keep (w .block) (met a clean)
+  pub moves : eqb a 0 ≡ false → eqb a 3 ≡ false → NextSpare P (t .nspares) l change.Keep (w .block) (met a clean) cause.Timeout cause.Timeout
 
 pub write-cases : (P : Turn → Type 0) (l : State) (t : Table) (w : Target) (a : ℕ) → WriteAnswered P l t w a → P (writeAnswered l t w a)
 unfolding writeAnswered
 write-cases P l t w a z =
     branch P (eqb a 0) (λ e. branch P (w .verify) (z .verifies e) (z .done e))
-    (λ e. branch P (eqb a 3) (z .stops e) (λ f. next-spare-cases P _ l change.Keep (w .block) (met a clean) (z .moves e f)))
+    (λ e. branch P (eqb a 3) (z .stops e) (λ f. next-spare-cases P _ l change.Keep (w .block) (met a clean) cause.Timeout cause.Timeout (z .moves e f)))
 
 pub record VerifyAnswered (P : Turn → Type 0) (l : State) (w : Target) (a : ℕ) (equal : Bool) : Type 0 where
   pub stops : eqb a 3 ≡ true → P (finish l change.Keep ending.Latched clean part.Kept)
@@ -289,7 +292,7 @@ pub record Imaged (P : Out → Type 0) (d : Drive) (u : List ℕ) : Type 0 where
   pub damaged : recordOk d ≡ false → P (imageSays d (answer.Refused refusal.Record) u)
   pub length : recordOk d ≡ true → eqb (length u) 532 ≡ false → P (imageSays d (answer.Refused refusal.Buffer) u)
   pub no-table : recordOk d ≡ true → d .state .marks .known ≡ false → P (imageSays d (answer.Refused refusal.Place) u)
-  pub given : recordOk d ≡ true → d .state .marks .known ≡ true → P (imageSays d answer.Wait (tableImage (d .table)))
+  pub given : recordOk d ≡ true → d .state .marks .known ≡ true → P (imageSays d answer.Wait (storedImage d))
 
 pub image-cases : (P : Out → Type 0) (d : Drive) (u : List ℕ) → Imaged P d u → P (imageOutOf d u)
 unfolding imageOutOf

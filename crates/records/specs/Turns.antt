@@ -16,5 +16,5 @@ isLoad change.Keep = false
 isLoad change.Load = true
 isLoad (change.Enter b) = false
 isLoad (change.Remove b) = false
-isLoad (change.Move b) = false
-isLoad change.Kill = false
+isLoad (change.Move b live killed) = false
+isLoad (change.Kill cause) = false

@@ -7,7 +7,7 @@ ghost use lib.Dec.{eqb};
 ghost use lib.ListN.{take};
 ghost use Rattle.geometry.specs.Geometry.{spareOf};
 ghost use Rattle.drive.specs.Words.{kindOf, numberOf, orderOf, isRead, isWrite, isVerify, rowOf, statusOf};
-ghost use Rattle.drive.specs.Results.{inPhase, withMarks, say, refuse, alters, latches, altered, finished, finish, clean, onPresent};
+ghost use Rattle.drive.specs.Results.{inPhase, withMarks, withRun, say, refuse, alters, latches, altered, finished, finish, clean, onPresent};
 ghost use Rattle.drive.specs.Records.{retryOk, targetOk, trialOk, accessOk, phaseOk, stateOk};
 ghost use Rattle.drive.specs.Retries.{met};
 ghost use Rattle.drive.specs.Sparing.{hasUnused};
@@ -15,6 +15,7 @@ ghost use Rattle.drive.specs.Handshake.{opened};
 ghost use Rattle.drive.specs.declared.Answer.the-variants as answer;
 use drive::Access;
 use drive::Answer;
+use drive::Cause;
 use drive::Change;
 use drive::Ending;
 use drive::Four;
@@ -227,6 +228,9 @@ pub fn on_present(b: Block, s: Sector, seen: Seen) -> Trial
         rereads: 0,
         failures: 0,
         seen: seen,
+        last: Cause::Unknown,
+        before: Cause::Unknown,
+        present: Cause::Unknown,
     }
 }
 
@@ -249,6 +253,24 @@ pub fn with_marks(l: State, m: Marks, p: Phase) -> State
         command: c,
         count: l.count,
         fed: l.fed,
+        run: l.run,
+    }
+}
+
+// Returns the state with another run number.
+pub fn with_run(l: State, n: u32) -> State
+    ensures { λ r. ⌜ r ≡ withRun l n ⌝ }
+{
+    let p = l.phase;
+    let m = l.marks;
+    let c = l.command;
+    State {
+        phase: p,
+        marks: m,
+        command: c,
+        count: l.count,
+        fed: l.fed,
+        run: n,
     }
 }
 
@@ -286,6 +308,7 @@ pub fn offer(l: State, o: Offer, n: usize) -> Turn
         command: c,
         count: n,
         fed: 0,
+        run: l.run,
     };
     say(next, Answer::Offer(o))
 }
@@ -349,8 +372,8 @@ fn alters(c: Change) -> bool
         Change::Load => false,
         Change::Enter(_) => true,
         Change::Remove(_) => true,
-        Change::Move(_) => true,
-        Change::Kill => true,
+        Change::Move(_, _, _) => true,
+        Change::Kill(_) => true,
     }
 }
 

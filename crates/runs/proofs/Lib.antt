@@ -3,3 +3,4 @@ pub mod Trials
 pub mod Week
 pub mod Reports
 pub mod MovesForged
+pub mod Causes

@@ -4,7 +4,7 @@ use mathlib.Core.Bool.{true}
 use mathlib.Core.List.{[], _∷_, _++_}
 use lib.ListN.{replicate}
 use Rattle.lists.specs.Lists.{dead}
-use Rattle.image.specs.Images.{imageOf}
+use Rattle.image.specs.FormA.{formA}
 use Rattle.drive.specs.declared.Drive.{Drive}
 use Rattle.drive.specs.History.{unreadable}
 use Rattle.drive.proofs.Computing.{computed}
@@ -21,7 +21,7 @@ movedToSpare1 =
           ++ opens ++ asksWrite 2 17 (bytes 1)
           ++ (go ⇒ write 4928 ∷ timesOut ⇒ write 4929 ∷ []) ++ trial 4929 1 timesOut (finished 0x04 0x04 0x80 0)
           ++ stores ++ asksTable 0x00;
-      part = imageOf (dead ∷ 17 ∷ []) [];
+      part = formA (dead ∷ 17 ∷ []) [];
       place = sector 4929;
       candidates = bytes 1 ∷ [];
     }
@@ -80,7 +80,7 @@ badBlockMoves =
           found [] (5 ∷ 17 ∷ 6 ∷ [])
           ++ opens ++ asksWrite 1 17 (bytes 1)
           ++ (go ⇒ write 17 ∷ timesOut ⇒ write 4928 ∷ []) ++ trial 4928 1 timesOut (finished 0x04 0x04 0x80 0) ++ stores ++ asksTable 0x00;
-      part = imageOf (17 ∷ []) (5 ∷ 6 ∷ []);
+      part = formA (17 ∷ []) (5 ∷ 6 ∷ []);
       place = sector 4928;
       candidates = bytes 1 ∷ [];
     }
@@ -117,7 +117,7 @@ unreadableOnce =
           found [] [] ++ opens ++ asksWrite 2 17 (bytes 1)
           ++ (go ⇒ write 17 ∷ done ⇏ read 17 ∷ garbles 9 ⇒ write 17 ∷ []) ++ trial 17 1 timesOut (finished 0x0C 0x00 0x80 0)
           ++ opens ++ asksTable 0x00;
-      part = imageOf [] [];
+      part = formA [] [];
       place = sector 17;
       candidates = bytes 1 ∷ [];
     }
@@ -135,7 +135,7 @@ spareDies =
           found [] [] ++ opens ++ asksWrite 2 17 (bytes 1)
           ++ (go ⇒ write 17 ∷ timesOut ⇒ write 4928 ∷ done ⇒ read 4928 ∷ []) ++ rereads 4928 (replicate 100 (garbles 9)) (write 4929)
           ++ trial 4929 1 timesOut (finished 0x0C 0x04 0x80 0) ++ stores ++ asksTable 0x00;
-      part = imageOf (dead ∷ 17 ∷ []) [];
+      part = formA (dead ∷ 17 ∷ []) [];
       place = sector 4929;
       candidates = bytes 1 ∷ [];
     }

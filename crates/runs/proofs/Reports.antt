@@ -2,7 +2,7 @@
 use mathlib.Core.Path.{_≡_, refl}
 use mathlib.Core.List.{List, [], _∷_}
 use Prim.Native.Nat.{ℕ}
-use Rattle.image.specs.Images.{imageOf}
+use Rattle.image.specs.FormA.{formA}
 use Rattle.drive.specs.declared.Drive.{Drive}
 use Rattle.drive.specs.declared.Answer.the-variants as answer
 use Rattle.drive.specs.declared.Refusal.the-variants as refusal
@@ -64,6 +64,6 @@ an-unreadable-sector-is-not-found old = refl
 
 -- Brings a table's image in a refused call: nothing is found.
 pub a-refused-call-reports-nothing :
-    reportOf (record { 0 = 17 }) (disk [] []) blank (record { call = surface 0 (imageOf [] []); answer = answer.Refused refusal.Buffer; buffer = [] }) ≡ nothing
+    reportOf (record { 0 = 17 }) (disk [] []) blank (record { call = surface 0 (formA [] []); answer = answer.Refused refusal.Buffer; buffer = [] }) ≡ nothing
 unfolding computed reportOf
 a-refused-call-reports-nothing = refl

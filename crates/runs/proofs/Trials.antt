@@ -6,7 +6,7 @@ use Prim.Native.Nat.{ℕ, _≤_, _<_}
 use lib.ListN.{length, take, replicate}
 use Rattle.logic.proofs.Bools.{clash}
 use Rattle.lists.specs.Lists.{dead}
-use Rattle.image.specs.Images.{imageOf}
+use Rattle.image.specs.FormA.{formA}
 use Rattle.drive.specs.declared.Drive.{Drive}
 use Rattle.drive.specs.declared.Trial.{Trial}
 use Rattle.drive.specs.declared.Access.{Access}
@@ -41,7 +41,7 @@ readPasses =
           found [] [] ++ opens ++ asksRead 17 1 1 ++ (go ⇒ read 17 ∷ garbles 9 ⇒ read 17 ∷ garbles 9 ⇒ read 17 ∷ gives 7 ⇒ write 17 ∷ [])
           ++ trial 17 7 timesOut (finished 0x0C 0x00 0x80 1)
           ++ opens ++ asksTable 0x00;
-      part = imageOf [] [];
+      part = formA [] [];
       place = sector 17;
       candidates = bytes 7 ∷ [];
     }
@@ -58,7 +58,7 @@ readMoves =
           found [] [] ++ opens ++ asksRead 17 0 0
           ++ (go ⇒ read 17 ∷ timesOut ⇒ read 17 ∷ gives 7 ⇒ write 17 ∷ done ⇒ read 17 ∷ []) ++ rereads 17 (thirtyOneEarly 7) (write 4928)
           ++ trial 4928 7 (garbles 9) (finished 0x0C 0x04 0x80 0) ++ stores ++ asksTable 0x00;
-      part = imageOf (17 ∷ []) [];
+      part = formA (17 ∷ []) [];
       place = sector 4928;
       candidates = bytes 7 ∷ [];
     }
@@ -79,7 +79,7 @@ leavesTheBadList =
           found [] [] ++ elevenTimeouts
           ++ stores ++ asksWrite 1 17 (bytes 1) ++ (go ⇒ write 17 ∷ done ⇒ read 17 ∷ []) ++ rereads 17 (replicate 100 (gives 1)) (finished 0x00 0x00 0x00 0)
           ++ stores ++ asksTable 0x00;
-      part = imageOf [] [];
+      part = formA [] [];
       place = sector 17;
       candidates = bytes 1 ∷ [];
     }
@@ -95,7 +95,7 @@ badPasses =
       exchanges =
           found [] (5 ∷ 17 ∷ 6 ∷ []) ++ opens ++ asksWrite 2 17 (bytes 1)
           ++ (go ⇒ write 17 ∷ []) ++ trial 17 1 (garbles 9) (finished 0x08 0x00 0x80 0) ++ stores ++ asksTable 0x00;
-      part = imageOf [] (5 ∷ 6 ∷ []);
+      part = formA [] (5 ∷ 6 ∷ []);
       place = sector 17;
       candidates = bytes 1 ∷ [];
     }
@@ -112,7 +112,7 @@ badMoves =
           found [] (17 ∷ []) ++ opens ++ asksWrite 2 17 (bytes 1)
           ++ (go ⇒ write 17 ∷ done ⇒ read 17 ∷ []) ++ rereads 17 (replicate 100 (garbles 9)) (write 4928) ++ trial 4928 1 (garbles 9) (finished 0x08 0x04 0x80 0)
           ++ stores ++ asksTable 0x00;
-      part = imageOf (17 ∷ []) [];
+      part = formA (17 ∷ []) [];
       place = sector 4928;
       candidates = bytes 1 ∷ [];
     }
@@ -129,7 +129,7 @@ badAtItsSpare =
       exchanges =
           found (17 ∷ []) (17 ∷ []) ++ opens ++ asksWrite 1 17 (bytes 1) ++ (go ⇒ write 4928 ∷ done ⇒ read 4928 ∷ unsettled ⇒ finished 0x11 0x00 0x80 0 ∷ [])
           ++ opens ++ asksTable 0x00;
-      part = imageOf (17 ∷ []) (17 ∷ []);
+      part = formA (17 ∷ []) (17 ∷ []);
       place = sector 4928;
       candidates = bytes 1 ∷ bytes 7 ∷ [];
     }
@@ -149,7 +149,7 @@ plainMoves =
           ++ stores ++ asksWrite 1 17 (bytes 2)
           ++ (go ⇒ write 4928 ∷ timesOut ⇒ write 4929 ∷ timesOut ⇒ write 4930 ∷ []) ++ trial 4930 2 (garbles 9) (finished 0x0C 0x04 0x00 0)
           ++ stores ++ asksTable 0x00;
-      part = imageOf (dead ∷ dead ∷ 17 ∷ []) [];
+      part = formA (dead ∷ dead ∷ 17 ∷ []) [];
       place = sector 4930;
       candidates = bytes 2 ∷ [];
     }
@@ -167,7 +167,7 @@ plainFails =
           found (replicate 31 dead) [] ++ opens ++ asksWrite 1 17 (bytes 1)
           ++ (go ⇒ write 17 ∷ timesOut ⇒ write 4959 ∷ done ⇒ read 4959 ∷ []) ++ rereads 4959 (thirtyOneEarly 1) (finished 0x0D 0x40 0x80 0)
           ++ stores ++ asksWrite 1 17 (bytes 2) ++ (go ⇒ write 17 ∷ timesOut ⇒ finished 0x05 0x40 0x00 0 ∷ []) ++ opens ++ asksTable 0x00;
-      part = imageOf (replicate 32 dead) [];
+      part = formA (replicate 32 dead) [];
       place = sector 17;
       candidates = bytes 2 ∷ bytes 1 ∷ bytes 7 ∷ [];
     }

@@ -5,11 +5,12 @@ use mathlib.Core.List.{List, [], _∷_, _++_}
 use lib.Dec.{eqb}
 use lib.ListN.{replicate}
 use Rattle.geometry.specs.Geometry.{tableSector}
-use Rattle.image.specs.Images.{imageOf}
+use Prim.Native.Nat.{ℕ}
+use Rattle.image.specs.FormB.{formB}
 use Rattle.drive.specs.declared.Drive.{Drive}
 use Rattle.drive.specs.History.{held, Sectors}
 use Rattle.drive.proofs.Computing.{computed}
-use Rattle.drive.proofs.Transcripts.{holds, Exchange, _⇒_, ended, Run, from, calls, Happens, happens, bytes, disk, sector, go, gives, done, garbles, timesOut, found, opens, stores, asksRead, asksWrite, rereads, trial, read, write, finished}
+use Rattle.drive.proofs.Transcripts.{holds, Exchange, _⇒_, ended, Run, from, calls, Happens, happens, bytes, disk, sector, go, gives, done, garbles, timesOut, found, foundB, opens, stores, asksRead, asksWrite, rereads, trial, read, write, finished}
 
 -- THE WEEK OF ONE BLOCK. The host asks for two rereads and sets the threshold at 2.
 
@@ -55,14 +56,19 @@ pub on-saturday-the-new-bytes-are-read : (old : Drive) → Happens old week
 unfolding computed
 on-saturday-the-new-bytes-are-read old = happens old week refl
 
+-- Returns the table that Thursday's store writes: form B with run number 1, since it is the first store, and for the moved block a
+-- CRC error, the last failure before its spare was tried.
+abbrev thursdaysTable : List ℕ
+thursdaysTable = formB 1 (17 ∷ []) (1 ∷ []) []
+
 -- Returns what the week leaves on the disk: the table, the new bytes at the spare, and Monday's at the old sector.
 abbrev weekend : Sectors
-weekend = λ s. held (cond (eqb (s .0) 4960) (imageOf (17 ∷ []) []) (cond (eqb (s .0) 4928) (bytes 2) (cond (eqb (s .0) 17) (bytes 1) (bytes 7))))
+weekend = λ s. held (cond (eqb (s .0) 4960) thursdaysTable (cond (eqb (s .0) 4928) (bytes 2) (cond (eqb (s .0) 17) (bytes 1) (bytes 7))))
 
 -- Says whether the disk holds the same at the sectors that the week wrote.
 abbrev leaves : Sectors → Bool
 leaves σ =
-    holds (σ tableSector) (imageOf (17 ∷ []) []) && (holds (σ (record { 0 = 4928 })) (bytes 2) && holds (σ (record { 0 = 17 })) (bytes 1))
+    holds (σ tableSector) thursdaysTable && (holds (σ (record { 0 = 4928 })) (bytes 2) && holds (σ (record { 0 = 17 })) (bytes 1))
 
 pub the-week-leaves-its-bytes-on-the-disk : (old : Drive) → leaves (ended (from old week) (calls week) .sectors) ≡ true
 unfolding computed
@@ -73,7 +79,7 @@ abbrev weekAfter : Run
 weekAfter =
     record {
       sectors = weekend;
-      exchanges = found (17 ∷ []) [] ++ opens ++ asksRead 17 2 2 ++ (go ⇒ read 4928 ∷ gives 2 ⇒ finished 0x00 0x00 0x80 0 ∷ []);
+      exchanges = foundB 1 (17 ∷ []) (1 ∷ []) [] ++ opens ++ asksRead 17 2 2 ++ (go ⇒ read 4928 ∷ gives 2 ⇒ finished 0x00 0x00 0x80 0 ∷ []);
       part = bytes 2;
       place = sector 4928;
       candidates = bytes 2 ∷ [];

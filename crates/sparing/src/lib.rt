@@ -9,10 +9,11 @@ ghost use Rattle.drive.specs.declared.Phase.the-variants as phase;
 ghost use Rattle.drive.specs.declared.Answer.the-variants as answer;
 ghost use Rattle.drive.specs.Records.{trialOk};
 ghost use Rattle.drive.specs.Results.{say, inPhase};
-ghost use Rattle.drive.specs.Sparing.{begin, nextSpare, missed, stopped, verified, tried, fault, counted, judged, checked};
+ghost use Rattle.drive.specs.Sparing.{begin, onSector, nextSpare, missed, stopped, verified, tried, fault, lastAfter, counted, judged, checked};
 ghost use Rattle.records.specs.Turns.{lent};
 use drive::Access;
 use drive::Answer;
+use drive::Cause;
 use drive::Change;
 use drive::Ending;
 use drive::Leaves;
@@ -49,8 +50,8 @@ pub fn begin(l: State, c: Change, r: Trial, p: Part) -> Turn
 }
 
 // Returns the trial of a spare's sector, before its first reread.
-fn on_spare(at: Sector, b: Block, s: Seen) -> Trial
-    ensures { λ x. ⌜ x ≡ record { block = b; sector = at; spare = true; rereads = 0; failures = 0; seen = s } ⌝ }
+fn on_spare(at: Sector, b: Block, s: Seen, before: Cause, present: Cause) -> Trial
+    ensures { λ x. ⌜ x ≡ onSector at b s before present ⌝ }
 {
     Trial {
         block: b,
@@ -59,29 +60,42 @@ fn on_spare(at: Sector, b: Block, s: Seen) -> Trial
         rereads: 0,
         failures: 0,
         seen: s,
+        last: Cause::Unknown,
+        before: before,
+        present: present,
     }
 }
 
-// Goes to the next unused spare, with n listed by now, or finishes where there is none.
-pub fn next_spare(n: usize, l: State, c: Change, b: Block, s: Seen) -> Turn
-    ensures { λ x. ⌜ x ≡ nextSpare n l c b s ⌝ }
+// Goes to the next unused spare, with n listed by now, or finishes where there is none. before is the
+// command's last failure, present its last on the block's present sector.
+pub fn next_spare(
+    n: usize,
+    l: State,
+    c: Change,
+    b: Block,
+    s: Seen,
+    before: Cause,
+    present: Cause,
+) -> Turn
+    ensures { λ x. ⌜ x ≡ nextSpare n l c b s before present ⌝ }
 {
     match table::next_spare(n) {
-        NextSpare::At(at) => begin(l, c, on_spare(at, b, s), Part::Kept),
+        NextSpare::At(at) => begin(l, c, on_spare(at, b, s, before, present), Part::Kept),
         NextSpare::None => records::finish(l, c, Ending::NoSpare, s, Part::Kept),
     }
 }
 
-// Leaves a sector that failed, with n spares listed: a spare dies.
-fn miss(l: State, n: usize, r: Trial, s: Seen) -> Turn
+// Leaves a sector that failed, with n spares listed: a spare dies. last is the last failure on it.
+fn miss(l: State, n: usize, r: Trial, s: Seen, last: Cause) -> Turn
     requires { ⌜ n ≤ 32 ⌝ }
-    ensures { λ x. ⌜ x ≡ missed l (lent [] n [] 0) r s ⌝ }
+    ensures { λ x. ⌜ x ≡ missed l (lent [] n [] 0) r s last ⌝ }
 {
     let b = r.block;
+    let present = r.present;
     if r.spare {
-        return next_spare(n + 1, l, Change::Kill, b, s);
+        return next_spare(n + 1, l, Change::Kill(last), b, s, last, present);
     }
-    next_spare(n, l, Change::Keep, b, s)
+    next_spare(n, l, Change::Keep, b, s, last, last)
 }
 
 // Stops a trial that was answered 3: a spare under trial dies.
@@ -90,7 +104,13 @@ fn stop(l: State, r: Trial) -> Turn
 {
     let s = r.seen;
     if r.spare {
-        return records::finish(l, Change::Kill, Ending::Latched, s, Part::Kept);
+        return records::finish(
+            l,
+            Change::Kill(Cause::NoSettle),
+            Ending::Latched,
+            s,
+            Part::Kept,
+        );
     }
     records::finish(l, Change::Keep, Ending::Latched, s, Part::Kept)
 }
@@ -101,8 +121,11 @@ fn verify(l: State, bads: &[u16], m: usize, r: Trial) -> Turn
 {
     let s = r.seen;
     let b = r.block;
+    let before = r.before;
+    let present = r.present;
     if r.spare {
-        return records::finish(l, Change::Move(b), Ending::Moved, s, Part::Kept);
+        let c = Change::Move(b, before, present);
+        return records::finish(l, c, Ending::Moved, s, Part::Kept);
     }
     if table::listed_bad(lists::cut(bads, m), b) {
         return records::finish(l, Change::Remove(b), Ending::Good, s, Part::Kept);
@@ -132,7 +155,7 @@ pub fn tried(l: State, n: usize, r: Trial, a: u8) -> Turn
     if a == 3 {
         return stop(l, r);
     }
-    miss(l, n, r, records::met(a, r.seen))
+    miss(l, n, r, records::met(a, r.seen), Cause::Timeout)
 }
 
 // Returns the error that answer a to a verify or a reread counts as, 0 for none. equal: it is 0, with the
@@ -146,6 +169,19 @@ pub fn fault(a: u8, equal: bool) -> u8
     if a == 0 { 1 } else { a }
 }
 
+// Returns the last failure, after an answer that counts as such an error.
+fn last_after(error: u8, last: Cause) -> Cause
+    ensures { λ x. ⌜ x ≡ lastAfter error last ⌝ }
+{
+    if error == 0 {
+        return last;
+    }
+    if error == 2 {
+        return Cause::Timeout;
+    }
+    Cause::Crc
+}
+
 // Returns the trial with one reread more.
 fn counted(r: Trial, a: u8, equal: bool) -> Trial
     requires { ⌜ (r .rereads ≤ 100) × (r .failures ≤ r .rereads) ⌝ }
@@ -153,7 +189,12 @@ fn counted(r: Trial, a: u8, equal: bool) -> Trial
 {
     let block = r.block;
     let sector = r.sector;
-    let seen = records::met(fault(a, equal), r.seen);
+    let error = fault(a, equal);
+    let seen = records::met(error, r.seen);
+    let former = r.last;
+    let last = last_after(error, former);
+    let before = r.before;
+    let present = r.present;
     let failed = records::bit(!equal, 1);
     Trial {
         block: block,
@@ -162,6 +203,9 @@ fn counted(r: Trial, a: u8, equal: bool) -> Trial
         rereads: r.rereads + 1,
         failures: r.failures + failed,
         seen: seen,
+        last: last,
+        before: before,
+        present: present,
     }
 }
 
@@ -171,13 +215,14 @@ fn judge(l: State, n: usize, bads: &[u16], m: usize, r: Trial) -> Turn
     ensures { λ x. ⌜ x ≡ judged l (lent [] n (now (bads .entry)) m) r ⌝ }
 {
     let s = r.seen;
+    let last = r.last;
     if r.rereads < 100 {
         return reread(l, r);
     }
     if r.failures <= 30 {
         return verify(l, bads, m, r);
     }
-    miss(l, n, r, s)
+    miss(l, n, r, s, last)
 }
 
 // Returns what answer a to a reread leads to. equal: it is 0, with the bytes of the data part.

@@ -4,3 +4,4 @@ pub mod Keeps
 pub mod Placing
 pub mod Meaning
 pub mod Next
+pub mod Causes

@@ -86,3 +86,20 @@ withoutBad t b =
     cond (memberOf (b .0) (badList t))
     (record { spares = t .spares; bads = removed (indexOf (b .0) (badList t)) (t .bads); nspares = t .nspares; nbads = t .nbads - 1 })
     t
+
+-- CAUSES, document 02, request 6: each spare entry has one, at its place of an array of their own. "0 unknown, 1 CRC, 2 timeout, 3 no
+-- settle"
+
+-- Says whether the causes of the entries in use pass code 1: none is above 3.
+unfoldable pub causesOk : List ℕ → Bool
+causesOk [] = true
+causesOk (c ∷ cs) = leb c 3 && causesOk cs
+
+-- Returns the causes after a block was listed on the next unused spare: the new entry's, and that of the entry it kills.
+unfoldable pub causesListed : Table → Block → ℕ → ℕ → List ℕ → List ℕ
+causesListed t b live killed causes =
+    cond (ltb (t .nspares) 32) (set (set causes (indexOf (b .0) (spareList t)) killed) (t .nspares) live) causes
+
+-- Returns the causes after the next unused spare died.
+unfoldable pub causesKilled : Table → ℕ → List ℕ → List ℕ
+causesKilled t cause causes = cond (ltb (t .nspares) 32) (set causes (t .nspares) cause) causes

@@ -1,9 +1,10 @@
 // The spare table: which block is on which spare, and which blocks are bad.
 ghost use mathlib.Core.Path.{_≡_};
 ghost use Prim.Native.Nat.{_-_, _≤_, _<_};
-ghost use lib.ListN.{length};
+ghost use lib.ListN.{length, take};
 ghost use Rattle.lists.specs.Lists.{memberOf};
 ghost use Rattle.table.specs.Tables.{listsOk, sectorOf, nextSpare, emptyTable, listed, killedNext, withBad, withoutBad, removed};
+ghost use Rattle.table.specs.Tables.{causesOk, causesListed, causesKilled};
 use geometry::Block;
 use geometry::Sector;
 use lists::DEAD;
@@ -71,6 +72,20 @@ pub fn listed_bad(bads: &[u16], b: Block) -> bool
     ensures { λ r. ⌜ r ≡ memberOf (b .0) (now (bads .entry)) ⌝ }
 {
     lists::member(bads, b.0)
+}
+
+// Says whether none of the first n causes is above 3.
+pub fn causes_ok(causes: &[u16], n: usize) -> bool
+    ensures { λ r. ⌜ r ≡ causesOk (take n (now (causes .entry))) ⌝ }
+{
+    let s = lists::cut(causes, n);
+    let mut ok = true;
+    let mut i = 0;
+    while i < s.len() {
+        ok = ok & (s[i] <= 3);
+        i += 1;
+    }
+    ok
 }
 
 // Returns the array without its place k: what was after it moves up, and a zero ends it.
@@ -162,5 +177,34 @@ impl Table {
         t.bads = left;
         t.nbads = m - 1;
         t
+    }
+
+    // Returns the causes after a block was listed on the next unused spare: that of its new entry, and
+    // that of the entry which is killed. Where no spare is unused, nothing changes.
+    pub fn list_causes(self, b: Block, live: u16, killed: u16, causes: [u16; 32]) -> [u16; 32]
+        ensures { λ r. ⌜ r ≡ causesListed self b live killed causes ⌝ }
+    {
+        let mut out = causes;
+        let n = self.nspares;
+        if 32 <= n {
+            return out;
+        }
+        let k = lists::find(lists::cut(&self.spares, n), b.0);
+        out[k] = killed;
+        out[n] = live;
+        out
+    }
+
+    // Returns the causes after the next unused spare died. Where none is unused, nothing changes.
+    pub fn kill_cause(self, cause: u16, causes: [u16; 32]) -> [u16; 32]
+        ensures { λ r. ⌜ r ≡ causesKilled self cause causes ⌝ }
+    {
+        let mut out = causes;
+        let n = self.nspares;
+        if 32 <= n {
+            return out;
+        }
+        out[n] = cause;
+        out
     }
 }

@@ -38,6 +38,29 @@ fn put_entry(out: &mut [u8], at: usize, x: u16) -> usize {
     test_text::put_decimal(out, a, x as u64)
 }
 
+// Writes a spare entry with its cause.
+fn put_noted(out: &mut [u8], at: usize, x: u16, cause: u16) -> usize {
+    let a = put_entry(out, at, x);
+    let b = test_text::push(out, a, b':');
+    test_text::put_decimal(out, b, cause as u64)
+}
+
+// Returns the cause at a place. Each spare entry has one.
+fn cause_at(causes: &[u16], i: usize) -> u16 {
+    if i < causes.len() { causes[i] } else { 0 }
+}
+
+// Writes the spare list of form B.
+fn put_spares(out: &mut [u8], at: usize, spares: &[u16], causes: &[u16]) -> usize {
+    let mut a = at;
+    let mut i = 0;
+    while i < spares.len() {
+        a = put_noted(out, a, spares[i], cause_at(causes, i));
+        i += 1;
+    }
+    a
+}
+
 fn put_list(out: &mut [u8], at: usize, list: &[u16]) -> usize {
     let mut a = at;
     let mut i = 0;
@@ -53,10 +76,24 @@ fn put_named(out: &mut [u8], at: usize, name: &[u8], list: &[u16]) -> usize {
     put_list(out, a, list)
 }
 
-// Writes the bytes that the writer makes.
+// Writes the bytes that the writer of form A makes.
 fn put_made(out: &mut [u8], at: usize, spares: &[u16], bads: &[u16]) -> usize {
     let mut made = [0u8; 532];
-    image::write_image(spares, bads, &mut made);
+    image::form_a::write(spares, bads, &mut made);
+    test_text::put_bytes(out, at, &made)
+}
+
+// Writes the bytes that the writer of form B makes.
+fn put_made_b(
+    out: &mut [u8],
+    at: usize,
+    run: u32,
+    spares: &[u16],
+    causes: &[u16],
+    bads: &[u16],
+) -> usize {
+    let mut made = [0u8; 532];
+    image::form_b::write(run, spares, causes, bads, &mut made);
     test_text::put_bytes(out, at, &made)
 }
 
@@ -68,16 +105,66 @@ fn put_lists(out: &mut [u8], at: usize, spares: &[u16], bads: &[u16]) -> usize {
     test_text::push(out, d, b'\n')
 }
 
+// Writes the beginning of the line of an image of form B.
+fn put_run(out: &mut [u8], at: usize, run: u32) -> usize {
+    let a = test_text::put_word(out, at, b"form b run ");
+    let b = test_text::put_decimal(out, a, run as u64);
+    test_text::put_word(out, b, b" spares")
+}
+
+// Writes the line of an image of form B.
+fn put_form_b(
+    out: &mut [u8],
+    at: usize,
+    run: u32,
+    spares: &[u16],
+    causes: &[u16],
+    bads: &[u16],
+) -> usize {
+    let a = put_run(out, at, run);
+    let b = put_spares(out, a, spares, causes);
+    let c = put_named(out, b, b" bads", bads);
+    let d = test_text::put_word(out, c, b" written");
+    let e = put_made_b(out, d, run, spares, causes, bads);
+    test_text::push(out, e, b'\n')
+}
+
+// Writes the line of bytes that are no image: form B with a wrong sum or another fault says which.
+fn put_none(out: &mut [u8], at: usize, x: image::Fault) -> usize {
+    match x {
+        image::Fault::Form => test_text::put_word(out, at, b"none\n"),
+        image::Fault::Sum => test_text::put_word(out, at, b"none 7\n"),
+        image::Fault::Field => test_text::put_word(out, at, b"none 8\n"),
+    }
+}
+
+// Says whether an image is of form B.
+fn is_form_b(s: &[u8]) -> bool {
+    if s.len() < 4 {
+        return false;
+    }
+    image::is_form_b(s)
+}
+
 // Writes the line for an image.
 fn put_image(out: &mut [u8], at: usize, s: &[u8]) -> usize {
     let read = image::read_image(s);
     let found = read.found;
-    let Found::Lists(n, m) = found else {
-        return test_text::put_word(out, at, b"none\n");
-    };
     let spares = read.spares;
+    let causes = read.causes;
     let bads = read.bads;
-    put_lists(out, at, lists::cut(&spares, n), lists::cut(&bads, m))
+    match found {
+        Found::Malformed(x) => put_none(out, at, x),
+        Found::Lists(n, m, run) => {
+            let listed = lists::cut(&spares, n);
+            let bad = lists::cut(&bads, m);
+            if is_form_b(s) {
+                put_form_b(out, at, run, listed, lists::cut(&causes, n), bad)
+            } else {
+                put_lists(out, at, listed, bad)
+            }
+        }
+    }
 }
 
 // Writes the first `at` bytes of the output.

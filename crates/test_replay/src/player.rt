@@ -2,6 +2,7 @@
 ghost use Prim.Native.Nat.{_≤_};
 ghost use lib.ListN.{length};
 use calls::Controller;
+use drive::Answer;
 use drive::Drive;
 use drive::Marks;
 use drive::Phase;
@@ -40,10 +41,20 @@ pub fn never_started() -> Drive {
         command: [0u8; 6],
         count: 0,
         fed: 0,
+        run: 0,
     };
     Drive {
         table: Table::empty(),
+        causes: [0; 32],
         state: state,
+    }
+}
+
+// Hands the drive back with the answer to a call that has no record.
+fn beside(d: Drive, a: Answer) -> Step {
+    Step {
+        drive: d,
+        answer: a,
     }
 }
 
@@ -59,6 +70,7 @@ fn call(d: Drive, c: Call, numbers: &Numbers, bytes: &[u8], buf: &mut [u8]) -> S
         Call::Surface => unit.surface(buf, byte, bytes),
         Call::Reset => unit.reset(buf),
         Call::Image => unit.image(buf),
+        Call::Convert => beside(d, calls::convert(bytes, buf)),
     }
 }
 
@@ -97,6 +109,27 @@ fn run_image(d: Drive, numbers: &Numbers, lent: Lent, out: &mut Page, at: usize)
     let next = step.drive;
     let answer = step.answer;
     let end = test_script::put_image(out, at, answer, &image);
+    Made {
+        drive: next,
+        at: end,
+    }
+}
+
+// Makes a convert call, whose second buffer is as many bytes of EE hex as are lent, or 532.
+fn run_convert(
+    d: Drive,
+    numbers: &Numbers,
+    bytes: &[u8],
+    lent: Lent,
+    out: &mut Page,
+    at: usize,
+) -> Made {
+    let mut second = [0xEEu8; 600];
+    let n = length_of(lent, 532);
+    let step = call_cut(d, Call::Convert, numbers, bytes, &mut second, n);
+    let next = step.drive;
+    let answer = step.answer;
+    let end = test_script::put_image(out, at, answer, test_text::cut(&second, n));
     Made {
         drive: next,
         at: end,
@@ -143,5 +176,8 @@ pub fn run_line(
         return run_image(d, numbers, lent, out, at);
     }
     let brought = test_text::cut(bytes, line.used);
+    if let Call::Convert = c {
+        return run_convert(d, numbers, brought, lent, out, at);
+    }
     run_other(d, c, numbers, brought, lent, buf, out, at)
 }

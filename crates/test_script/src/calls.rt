@@ -19,6 +19,7 @@ fn call_of(name: u64) -> Place {
         0x01_7375_7266_6163_65 => Place::Needs(Call::Surface, ANSWER, Rest::Bytes),
         0x01_7265_7365_74 => Place::Takes(Call::Reset, Rest::Nothing),
         0x01_696d_6167_65 => Place::Takes(Call::Image, Rest::Nothing),
+        0x01_636f_6e76_6572_74 => Place::Takes(Call::Convert, Rest::Bytes),
         _ => Place::Wrong(Fault::Word),
     }
 }

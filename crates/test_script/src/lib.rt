@@ -25,6 +25,7 @@ pub enum Call {
     Surface,
     Reset,
     Image,
+    Convert,
 }
 
 // The number that a call needs first: a byte in hex, without a count, or a decimal number up to this, or else the fault.

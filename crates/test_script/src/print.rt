@@ -31,6 +31,9 @@ fn code(refusal: Refusal) -> u64
         Refusal::Place => 3,
         Refusal::Answer => 4,
         Refusal::Bytes => 5,
+        Refusal::Form => 6,
+        Refusal::Sum => 7,
+        Refusal::Field => 8,
     }
 }
 
@@ -119,8 +122,9 @@ pub fn put_call(out: &mut [u8], at: usize, answer: Answer, buf: &[u8; 536]) -> u
     put_data(out, d, buf)
 }
 
-// Writes the line of an image call: its answer, and the bytes lent to it.
-pub fn put_image(out: &mut [u8], at: usize, answer: Answer, lent: &[u8; 532]) -> usize
+// Writes the line of a call that makes an image: its answer, and the bytes lent for it.
+pub fn put_image(out: &mut [u8], at: usize, answer: Answer, lent: &[u8]) -> usize
+    requires { ⌜ length (now lent) ≤ 4096 ⌝ }
     ensures { λ r. ⌜ record { at = r; buffer = now (out .exit) } ≡ put (imageText answer (now (lent .entry))) at (now (out .entry)) ⌝ }
 {
     let a = put_answer(out, at, answer);

@@ -2,16 +2,20 @@
 //! against. It tests in each call what documents 01 and 02 ask each call to test, and
 //! is run beside the library by `fuzz`.
 
+mod image;
 mod packing;
+mod table;
+
+pub use image::convert;
 
 use crate::{Answer, Code, Offer, Sector, BUFFER, GO_ON, SECTOR_BYTES, STATUS, TABLE};
+use table::{Cause, Table, DEAD};
 
 const SPARES: usize = 32;
 const BADS: usize = 100;
 const BLOCKS: u16 = 9728;
 const SECTORS: u32 = 9792;
 const FIRST_SPARE: u32 = 4928;
-const DEAD: u16 = 0xFFFE;
 const RAM: u32 = 0xFF_FFFE;
 const TABLE_IMAGE: u32 = 0xFF_FFFF;
 const HEALTH: u32 = 0xFF_FFFD;
@@ -48,6 +52,15 @@ struct Write {
     sector: u32,
 }
 
+/// The failures that a trial remembers: its own last one, the command's last one
+/// before this spare was tried, and the last one on the block's present sector.
+#[derive(Clone, Copy, Debug, Default)]
+struct Failures {
+    last: Cause,
+    before: Cause,
+    present: Cause,
+}
+
 /// The trial of a sector.
 #[derive(Clone, Copy, Debug)]
 struct Trial {
@@ -55,6 +68,7 @@ struct Trial {
     sector: u32,
     spare: bool,
     seen: Seen,
+    failures: Failures,
 }
 
 /// The rereads of a trial that were answered, and the failures among them.
@@ -85,10 +99,7 @@ enum Phase {
 /// The record.
 #[derive(Clone, Debug)]
 pub struct Drive {
-    spares: [u16; SPARES],
-    bads: [u16; BADS],
-    nspares: usize,
-    nbads: usize,
+    table: Table,
     known: bool,
     changed: bool,
     latch: bool,
@@ -118,6 +129,7 @@ impl Trial {
             sector,
             spare: false,
             seen,
+            failures: Failures::default(),
         }
     }
 
@@ -131,28 +143,6 @@ impl Default for Drive {
     fn default() -> Drive {
         Drive::new()
     }
-}
-
-/// No block twice. Dead marks may repeat where they may stand.
-fn list_ok(list: &[u16], marks: bool) -> bool {
-    if list.is_empty() {
-        return true;
-    }
-    let mut seen = [0u64; BLOCKS as usize / 64];
-    for &entry in list {
-        if entry >= BLOCKS {
-            if marks && entry == DEAD {
-                continue;
-            }
-            return false;
-        }
-        let (word, bit) = (usize::from(entry / 64), 1 << (entry % 64));
-        if seen[word] & bit != 0 {
-            return false;
-        }
-        seen[word] |= bit;
-    }
-    true
 }
 
 fn read_lengths(answer: u8, bytes: &[u8]) -> Result<(), Code> {
@@ -176,10 +166,7 @@ impl Drive {
     /// A record that was never started.
     pub fn new() -> Drive {
         Drive {
-            spares: [0; SPARES],
-            bads: [0; BADS],
-            nspares: 0,
-            nbads: 0,
+            table: Table::EMPTY,
             known: false,
             changed: false,
             latch: false,
@@ -237,13 +224,7 @@ impl Drive {
     }
 
     fn valid(&self) -> bool {
-        self.nspares <= SPARES
-            && self.nbads <= BADS
-            && self.count <= 6
-            && self.fed <= SECTOR_BYTES + 1
-            && self.valid_phase()
-            && list_ok(&self.spares[..self.nspares], true)
-            && list_ok(&self.bads[..self.nbads], false)
+        self.table.valid() && self.count <= 6 && self.fed <= SECTOR_BYTES + 1 && self.valid_phase()
     }
 
     fn valid_phase(&self) -> bool {
@@ -273,7 +254,7 @@ impl Drive {
         self.known
             && trial.block < BLOCKS
             && trial.sector < SECTORS
-            && (!trial.spare || self.next_spare() == Some(trial.sector))
+            && (!trial.spare || self.table.next_spare() == Some(trial.sector))
     }
 
     fn accept(&self, lent: &[u8], length: usize) -> Result<(), Code> {
@@ -286,26 +267,6 @@ impl Drive {
         Ok(())
     }
 
-    fn next_spare(&self) -> Option<u32> {
-        (self.nspares < SPARES).then(|| FIRST_SPARE + self.nspares as u32)
-    }
-
-    fn spare_of(&self, block: u16) -> Option<usize> {
-        self.spares[..self.nspares].iter().position(|&e| e == block)
-    }
-
-    fn bad_at(&self, block: u16) -> Option<usize> {
-        self.bads[..self.nbads].iter().position(|&e| e == block)
-    }
-
-    fn sector(&self, block: u16) -> u32 {
-        match self.spare_of(block) {
-            Some(k) => FIRST_SPARE + k as u32,
-            None if u32::from(block) < FIRST_SPARE => u32::from(block),
-            None => u32::from(block) + 64,
-        }
-    }
-
     fn offer(&mut self, offer: Offer) -> Answer {
         self.phase = Phase::Offered(offer);
         Answer::Offer(offer)
@@ -315,6 +276,7 @@ impl Drive {
         self.accept(buffer, BUFFER)?;
         match self.phase {
             Phase::Idle if self.known && self.changed && !self.latch => {
+                self.table.run = self.table.run.saturating_add(1);
                 self.phase = Phase::Store;
                 Ok(Answer::Store)
             }
@@ -381,7 +343,7 @@ impl Drive {
         }
         // The others are blocks, whose numbers fit.
         match number {
-            TABLE_IMAGE => self.write_image(&mut buffer[STATUS..]),
+            TABLE_IMAGE => image::write_form_a(&self.table, &mut buffer[STATUS..]),
             HEALTH => self.write_health(&mut buffer[STATUS..]),
             _ if reads => return self.begin_read(number as u16),
             _ if self.latch => return self.finish(buffer, [0x11, 0, 0, 0]),
@@ -392,7 +354,7 @@ impl Drive {
 
     fn begin_read(&mut self, block: u16) -> Answer {
         let [.., rereads, threshold] = self.command;
-        let sector = self.sector(block);
+        let sector = self.table.sector(block);
         self.phase = Phase::Read(Read {
             block,
             sector,
@@ -407,8 +369,8 @@ impl Drive {
     }
 
     fn begin_write(&mut self, block: u16) -> Answer {
-        let sector = self.sector(block);
-        if self.bad_at(block).is_some() {
+        let sector = self.table.sector(block);
+        if self.table.bad_at(block).is_some() {
             return self.try_sector(Trial::present(block, sector, Seen::default()));
         }
         let write = Write { block, sector };
@@ -455,7 +417,7 @@ impl Drive {
         if !self.known {
             return Err(Code::Place);
         }
-        self.write_image(lent);
+        image::write_form_b(&self.table, lent);
         Ok(Answer::Wait)
     }
 
@@ -504,12 +466,23 @@ impl Drive {
     }
 
     fn start_read(&mut self, reads: u8, answer: u8, bytes: &[u8]) -> Answer {
-        if answer == 3 || answer == 0 && self.read_image(bytes) || reads >= 10 {
+        if answer == 3 || answer == 0 && self.load(bytes) || reads >= 10 {
             self.phase = Phase::Idle;
             return Answer::Wait;
         }
         self.phase = Phase::Start(reads + 1);
         Answer::Read(TABLE)
+    }
+
+    /// Takes the table of an image if it is well formed.
+    fn load(&mut self, bytes: &[u8]) -> bool {
+        let read = image::read(bytes);
+        let formed = read.is_ok();
+        if let Ok(table) = read {
+            self.table = table;
+            self.known = true;
+        }
+        formed
     }
 
     fn command_read(
@@ -556,10 +529,9 @@ impl Drive {
 
     fn never_read(&mut self, buffer: &mut [u8], read: Read) -> Answer {
         let mut two = 0;
-        if self.bad_at(read.block).is_none() {
-            if self.nbads < BADS {
-                self.bads[self.nbads] = read.block;
-                self.nbads += 1;
+        if self.table.bad_at(read.block).is_none() {
+            if self.table.nbads < BADS {
+                self.table.push_bad(read.block);
                 self.changed = true;
             } else {
                 two = 0x10;
@@ -589,7 +561,7 @@ impl Drive {
             0 => self.write_done(buffer, trial),
             2 => {
                 trial.seen.timeout = true;
-                self.next_trial(buffer, trial)
+                self.next_trial(buffer, trial, Cause::Timeout)
             }
             _ => self.no_settle(buffer, trial.seen),
         }
@@ -632,6 +604,12 @@ impl Drive {
             return self.no_settle(buffer, trial.seen);
         }
         let failed = trial.seen.failed(buffer, answer, bytes);
+        if failed {
+            trial.failures.last = match answer {
+                2 => Cause::Timeout,
+                _ => Cause::Crc,
+            };
+        }
         let rereads = Rereads {
             made: before.made + 1,
             failures: before.failures + u8::from(failed),
@@ -641,43 +619,49 @@ impl Drive {
         } else if rereads.failures <= MOST_FAILURES {
             self.passed(buffer, trial)
         } else {
-            self.next_trial(buffer, trial)
+            self.next_trial(buffer, trial, trial.failures.last)
         }
     }
 
-    /// This sector is no good: a spare dies, and the next unused one is tried.
-    fn next_trial(&mut self, buffer: &mut [u8], trial: Trial) -> Answer {
+    /// This sector is no good by this last failure: a spare dies, and the next unused
+    /// one is tried.
+    fn next_trial(&mut self, buffer: &mut [u8], trial: Trial, last: Cause) -> Answer {
+        let mut failures = Failures {
+            last: Cause::Unknown,
+            before: last,
+            present: last,
+        };
         if trial.spare {
-            self.push_spare(DEAD);
+            self.push_spare(DEAD, last);
+            failures.present = trial.failures.present;
         }
-        match self.next_spare() {
+        match self.table.next_spare() {
             Some(sector) => self.try_sector(Trial {
                 sector,
                 spare: true,
+                failures,
                 ..trial
             }),
             None => self.end(buffer, trial.seen, 0x01, 0x40),
         }
     }
 
-    fn push_spare(&mut self, entry: u16) {
-        self.spares[self.nspares] = entry;
-        self.nspares += 1;
+    fn push_spare(&mut self, entry: u16, cause: Cause) {
+        self.table.push_spare(entry, cause);
         self.changed = true;
     }
 
     fn passed(&mut self, buffer: &mut [u8], trial: Trial) -> Answer {
         let mut two = 0;
         if trial.spare {
-            if let Some(old) = self.spare_of(trial.block) {
-                self.spares[old] = DEAD;
+            if let Some(old) = self.table.spare_of(trial.block) {
+                self.table.kill(old, trial.failures.present);
             }
-            self.push_spare(trial.block);
+            self.push_spare(trial.block, trial.failures.before);
             two = 0x04;
         }
-        if let Some(at) = self.bad_at(trial.block) {
-            self.bads.copy_within(at + 1..self.nbads, at);
-            self.nbads -= 1;
+        if let Some(at) = self.table.bad_at(trial.block) {
+            self.table.remove_bad(at);
             self.changed = true;
         }
         self.end(buffer, trial.seen, 0, two)
@@ -687,7 +671,7 @@ impl Drive {
         if let Phase::TrialWrite(Trial { spare: true, .. }, _)
         | Phase::TrialRead(Trial { spare: true, .. }, _) = self.phase
         {
-            self.push_spare(DEAD);
+            self.push_spare(DEAD, Cause::NoSettle);
         }
         self.latch = true;
         self.end(buffer, seen, 0x11, 0)
@@ -706,69 +690,13 @@ impl Drive {
         Answer::Finished
     }
 
-    /// Writes the image of the table into 532 bytes.
-    fn write_image(&self, image: &mut [u8]) {
-        image.fill(0);
-        image[..24].copy_from_slice(FIXED);
-        // Both counts fit in a byte: code 1 tested them.
-        image[24] = self.nspares as u8;
-        image[25] = self.nbads as u8;
-        let mut at = 26;
-        for list in [&self.spares[..self.nspares], &self.bads[..self.nbads]] {
-            for &entry in list {
-                let [high, low] = entry.to_be_bytes();
-                let top = if entry == DEAD { 0xFF } else { 0 };
-                image[at..at + 3].copy_from_slice(&[top, high, low]);
-                at += 3;
-            }
-            image[at..at + 3].fill(0xFF);
-            at += 3;
-        }
-    }
-
     /// Writes the health block into 532 bytes.
     fn write_health(&self, block: &mut [u8]) {
         block.fill(0);
-        // Both counts fit in a byte, as above.
-        block[0] = (SPARES - self.nspares) as u8;
-        block[1] = self.nbads as u8;
+        // Both counts fit in a byte: code 1 tested them.
+        block[0] = (SPARES - self.table.nspares) as u8;
+        block[1] = self.table.nbads as u8;
         block[2] = u8::from(self.latch);
         block[3] = u8::from(self.changed);
     }
-
-    /// Takes the table of an image if it is well formed.
-    fn read_image(&mut self, image: &[u8]) -> bool {
-        let (nspares, nbads) = (usize::from(image[24]), usize::from(image[25]));
-        if &image[..24] != FIXED || nspares > SPARES || nbads > BADS {
-            return false;
-        }
-        let mut spares = [0; SPARES];
-        let mut bads = [0; BADS];
-        let mut at = 26;
-        for list in [&mut spares[..nspares], &mut bads[..nbads]] {
-            for entry in list {
-                *entry = match u32::from_be_bytes([0, image[at], image[at + 1], image[at + 2]]) {
-                    RAM => DEAD,
-                    number @ 0..=9727 => number as u16,
-                    _ => return false,
-                };
-                at += 3;
-            }
-            if image[at..at + 3] != [0xFF; 3] {
-                return false;
-            }
-            at += 3;
-        }
-        let formed = image[at..].iter().all(|&byte| byte == 0)
-            && list_ok(&spares[..nspares], true)
-            && list_ok(&bads[..nbads], false);
-        if formed {
-            (self.spares, self.bads) = (spares, bads);
-            (self.nspares, self.nbads) = (nspares, nbads);
-            self.known = true;
-        }
-        formed
-    }
 }
-
-const FIXED: &[u8; 24] = b"PROFILE      \x00\x00\x00\x03\x90\x00\x26\x00\x02\x14\x20";

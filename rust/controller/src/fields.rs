@@ -10,13 +10,15 @@ pub const BADS: usize = 100;
 /// The entry of a dead spare.
 pub const DEAD: u16 = 0xFFFE;
 
-/// Where the lists begin.
-const AT_SPARES: usize = 21;
-const AT_BADS: usize = 53;
+/// Where the lists and the causes begin.
+const AT_SPARES: usize = 24;
+const AT_BADS: usize = AT_SPARES + SPARES;
+const AT_CAUSES: usize = AT_BADS + BADS;
 
 /// The numbers of a phase. What a phase does not have is 0. A flag is 0 or 1; what
 /// is not 0 is taken as 1. A trial's rereads are its detail, its failures are in
-/// spent; a write that is read back is marked by first.
+/// spent, and remembered has the three failures that it remembers; a write that is
+/// read back is marked by first.
 #[derive(Clone, Copy, Debug, Default, PartialEq, Eq)]
 pub struct Stage {
     pub kind: u8,
@@ -32,6 +34,7 @@ pub struct Stage {
     pub spare: u16,
     pub crc: u16,
     pub timeout: u16,
+    pub remembered: u16,
 }
 
 /// The marks, each 0 or 1.
@@ -51,10 +54,12 @@ pub struct Fields {
     pub count: u16,
     pub fed: u16,
     pub command: [u8; 6],
+    pub run: u32,
     pub nspares: u16,
     pub nbads: u16,
     pub spares: [u16; SPARES],
     pub bads: [u16; BADS],
+    pub causes: [u16; SPARES],
 }
 
 impl Fields {
@@ -80,14 +85,17 @@ impl Fields {
             spare: 0,
             crc: 0,
             timeout: 0,
+            remembered: 0,
         },
         count: 0,
         fed: 0,
         command: [0; 6],
+        run: 0,
         nspares: 0,
         nbads: 0,
         spares: [0; SPARES],
         bads: [0; BADS],
+        causes: [0; SPARES],
     };
 
     /// Reads them off a record.
@@ -121,14 +129,17 @@ impl Fields {
                 spare: words[11],
                 crc: words[12],
                 timeout: words[13],
+                remembered: words[19],
             },
             count: words[14],
             fed: words[15],
             command,
-            nspares: words[19],
-            nbads: words[20],
+            run: u32::from(words[20]) + (u32::from(words[21]) << 16),
+            nspares: words[22],
+            nbads: words[23],
             spares: core::array::from_fn(|place| words[AT_SPARES + place]),
             bads: core::array::from_fn(|place| words[AT_BADS + place]),
+            causes: core::array::from_fn(|place| words[AT_CAUSES + place]),
         }
     }
 
@@ -157,17 +168,27 @@ impl Fields {
             pair(self.command[0], self.command[1]),
             pair(self.command[2], self.command[3]),
             pair(self.command[4], self.command[5]),
+            stage.remembered,
+            // The low and the high half.
+            self.run as u16,
+            (self.run >> 16) as u16,
             self.nspares,
             self.nbads,
         ]);
         words[AT_SPARES..AT_BADS].copy_from_slice(&self.spares);
-        words[AT_BADS..].copy_from_slice(&self.bads);
+        words[AT_BADS..AT_CAUSES].copy_from_slice(&self.bads);
+        words[AT_CAUSES..].copy_from_slice(&self.causes);
         raw::Drive { words }
     }
 
     /// The spare list; none if the count is more than there are places.
     pub fn spare_list(&self) -> Option<&[u16]> {
         self.spares.get(..self.nspares.into())
+    }
+
+    /// The causes of its entries, likewise.
+    pub fn cause_list(&self) -> Option<&[u16]> {
+        self.causes.get(..self.nspares.into())
     }
 
     /// The bad list, likewise.

@@ -1,10 +1,11 @@
 //! The proved controller for a board: seven calls over a record, and a buffer that
-//! each call is lent; and the parity bit of a byte on the bus.
+//! each call is lent; one call with no record, which turns a table's image into its
+//! other form; and the parity bit of a byte on the bus.
 //!
-//! `raw` is the library as C sees it, `Drive` and `parity` the safe API over it. The
-//! caller turns what happens on the bus and at the heads into calls and does what
-//! each call answers; `docs/BOARD.md` has the loop. With the feature `compare` there
-//! is also what the programs `fuzz` and `bench` use.
+//! `raw` is the library as C sees it, `Drive`, `convert` and `parity` the safe API over
+//! it. The caller turns what happens on the bus and at the heads into calls and does
+//! what each call answers; `docs/BOARD.md` has the loop. With the feature `compare`
+//! there is also what the programs `fuzz` and `bench` use.
 
 #![no_std]
 
@@ -88,6 +89,12 @@ pub enum Code {
     Answer = 4,
     /// The bytes do not go with the surface answer.
     Bytes = 5,
+    /// The image is neither a well-formed one of form A, nor does it begin as form B.
+    Form = 6,
+    /// The sum of an image of form B is wrong.
+    Sum = 7,
+    /// An offset, count, entry, cause or zero of an image of form B is wrong.
+    Field = 8,
 }
 
 impl Code {
@@ -135,6 +142,9 @@ impl Answer {
             (6, 3) => Answer::Refused(Code::Place),
             (6, 4) => Answer::Refused(Code::Answer),
             (6, 5) => Answer::Refused(Code::Bytes),
+            (6, 6) => Answer::Refused(Code::Form),
+            (6, 7) => Answer::Refused(Code::Sum),
+            (6, 8) => Answer::Refused(Code::Field),
             (kind, value) => unreachable!("the library answered {kind} {value}"),
         }
     }
@@ -147,6 +157,44 @@ impl Answer {
 pub fn parity(byte: u8) -> u8 {
     // Any byte may be given, and nothing else is touched.
     unsafe { raw::bv_parity(byte) }
+}
+
+/// Turns the image of a table in `from` into the other form in `to`, and leaves `from`.
+/// Both have 532 bytes. Form B made of form A has run number 0 and causes 0; form A
+/// has neither. It answers wait, or refuses with `Buffer`, `Form`, `Sum` or `Field` and
+/// leaves `to`.
+pub fn convert(from: &[u8], to: &mut [u8]) -> Answer {
+    let (buf, len) = (to.as_mut_ptr(), to.len());
+    // Slices are never null, and a `&mut` one does not overlap the other.
+    Answer::new(unsafe { raw::bv_convert(from.as_ptr(), from.len(), buf, len) })
+}
+
+/// Where an image of form B has its numbers, each with its high byte first.
+pub mod form_b {
+    /// The first bytes.
+    pub const MAGIC: [u8; 4] = [0xF0, 0x78, 0x3C, 0x1E];
+    /// The run number, of 4 bytes.
+    pub const RUN: usize = 4;
+    /// Counts and offsets of the lists, of 2 bytes.
+    pub const SPARE_COUNT: usize = 8;
+    pub const SPARE_OFFSET: usize = 10;
+    pub const BAD_COUNT: usize = 12;
+    pub const BAD_OFFSET: usize = 14;
+    /// The spare list, with 4 bytes an entry: block and cause. The bad list follows,
+    /// with 3.
+    pub const SPARES: usize = 16;
+    pub const SPARE_BYTES: usize = 4;
+    pub const BAD_BYTES: usize = 3;
+    /// The sum of all bytes before it, of 2 bytes.
+    pub const SUM: usize = 530;
+}
+
+/// Why a spare's entry was made.
+pub mod cause {
+    pub const UNKNOWN: u8 = 0;
+    pub const CRC: u8 = 1;
+    pub const TIMEOUT: u8 = 2;
+    pub const NO_SETTLE: u8 = 3;
 }
 
 /// How an access went, as `surface` is told.
@@ -254,7 +302,7 @@ impl Drive {
         Answer::new(unsafe { raw::bv_reset(&mut self.record, buf, len) })
     }
 
-    /// Writes the table's image into 532 lent bytes, and leaves the record.
+    /// Writes the table's image of form B into 532 lent bytes, and leaves the record.
     pub fn image(&self, lent: &mut [u8]) -> Answer {
         let (buf, len) = (lent.as_mut_ptr(), lent.len());
         Answer::new(unsafe { raw::bv_image(&self.record, buf, len) })

@@ -1,7 +1,7 @@
 //! The library as C sees it: `include/bumivondra.h` in Rust.
 
 /// How many words a record has.
-pub const WORDS: usize = 153;
+pub const WORDS: usize = 188;
 
 /// `struct bv_drive`: the record. All of it is the library's own, but for the
 /// words of `word`, which a board may look at.
@@ -83,5 +83,6 @@ extern "C" {
     ) -> Reply;
     pub fn bv_reset(drive: *mut Drive, buf: *mut u8, len: usize) -> Reply;
     pub fn bv_image(drive: *const Drive, buf: *mut u8, len: usize) -> Reply;
+    pub fn bv_convert(from: *const u8, from_len: usize, to: *mut u8, to_len: usize) -> Reply;
     pub fn bv_parity(v: u8) -> u8;
 }

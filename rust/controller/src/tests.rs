@@ -8,7 +8,8 @@ use std::{env, fs};
 use crate::fields::Fields;
 use crate::raw::kind;
 use crate::{
-    parity, surface, Answer, Code, Drive, Offer, Sector, BUFFER, GO_ON, SECTOR_BYTES, TABLE,
+    cause, convert, form_b, parity, surface, Answer, Code, Drive, Offer, Sector, BUFFER, GO_ON,
+    SECTOR_BYTES, TABLE,
 };
 
 /// The archive that was linked.
@@ -27,7 +28,10 @@ fn the_linked_library_is_the_one_in_place() {
     assert!(library == LINKED, "touch the library, and cargo links it");
 }
 
-/// The image of a table with these entries.
+/// The entry of a dead spare.
+const DEAD: u32 = 0xFF_FFFE;
+
+/// The image of form A of a table with these entries.
 fn image(spares: &[u32], bads: &[u32]) -> Vec<u8> {
     let mut bytes = b"PROFILE      \x00\x00\x00\x03\x90\x00\x26\x00\x02\x14\x20".to_vec();
     bytes.extend([spares.len() as u8, bads.len() as u8]);
@@ -38,6 +42,33 @@ fn image(spares: &[u32], bads: &[u32]) -> Vec<u8> {
         bytes.extend([0xFF; 3]);
     }
     bytes.resize(SECTOR_BYTES, 0);
+    bytes
+}
+
+/// The image of form B of a table with this run number and these entries, each spare
+/// with its cause.
+fn image_b(run: u32, spares: &[(u32, u8)], bads: &[u32]) -> Vec<u8> {
+    let bads_at = 16 + 4 * spares.len();
+    let mut bytes = form_b::MAGIC.to_vec();
+    bytes.extend(run.to_be_bytes());
+    for number in [spares.len(), 16, bads.len(), bads_at] {
+        bytes.extend((number as u16).to_be_bytes());
+    }
+    for (entry, cause) in spares {
+        bytes.extend(&entry.to_be_bytes()[1..]);
+        bytes.push(*cause);
+    }
+    for entry in bads {
+        bytes.extend(&entry.to_be_bytes()[1..]);
+    }
+    bytes.resize(SECTOR_BYTES, 0);
+    summed(bytes)
+}
+
+/// The bytes with the right sum.
+fn summed(mut bytes: Vec<u8>) -> Vec<u8> {
+    let sum: u32 = bytes[..form_b::SUM].iter().map(|&b| u32::from(b)).sum();
+    bytes[form_b::SUM..].copy_from_slice(&(sum as u16).to_be_bytes());
     bytes
 }
 
@@ -125,11 +156,182 @@ fn a_block_that_moves_and_the_store() {
     assert_eq!(drive.raise(&mut buffer), Answer::Store);
     let mut lent = [0; SECTOR_BYTES];
     assert_eq!(drive.image(&mut lent), Answer::Wait);
-    assert_eq!(lent[..], image(&[17], &[]));
+    // The last failure before the spare was a timeout.
+    assert_eq!(lent[..], image_b(1, &[(17, cause::TIMEOUT)], &[]));
     answer = drive.surface(&mut buffer, surface::GOOD, &[]);
     assert_eq!(answer, Answer::Offer(Offer::Command));
     assert_eq!(drive.reset(&mut buffer), Answer::Wait);
     assert_eq!(drive.raise(&mut buffer), Answer::Offer(Offer::Command));
+}
+
+/// Answers a trial from its write on: so many rereads are answered like this, the
+/// others bring the data part.
+fn trial(drive: &mut Drive, buffer: &mut [u8], failures: usize, failure: u8) -> Answer {
+    let data = buffer[4..].to_vec();
+    drive.surface(buffer, surface::GOOD, &[]);
+    for reread in 1..=100 {
+        let (answer, bytes) = match (reread <= failures, failure) {
+            (true, surface::CRC) => (surface::CRC, &data[..]),
+            (true, _) => (failure, &[][..]),
+            (false, _) => (surface::GOOD, &data[..]),
+        };
+        let answered = drive.surface(buffer, answer, bytes);
+        if reread == 100 || answered == Answer::Finished {
+            return answered;
+        }
+    }
+    unreachable!("the hundredth reread is the last");
+}
+
+/// The image that a drive gives.
+fn stored(drive: &Drive) -> Vec<u8> {
+    let mut lent = [0xEE; SECTOR_BYTES];
+    assert_eq!(drive.image(&mut lent), Answer::Wait);
+    lent.to_vec()
+}
+
+#[test]
+fn causes_of_entries() {
+    // Block 17 is at spare 1, by an older no settle.
+    let table = image_b(7, &[(DEAD, 0), (17, cause::NO_SETTLE)], &[17]);
+    let (mut drive, mut buffer) = started_with(&table);
+    let data = [0x33; SECTOR_BYTES];
+    let asked = command(&mut drive, &mut buffer, &[1, 0, 0, 17], &data);
+    assert_eq!(asked, Answer::Write(Sector(4929)));
+    // On the present sector CRC errors are the last failures, on spare 2 a timeout of
+    // its write, on spare 3 timeouts; spare 4 passes with CRC errors of its own.
+    let asked = trial(&mut drive, &mut buffer, 31, surface::CRC);
+    assert_eq!(asked, Answer::Write(Sector(4930)));
+    let asked = drive.surface(&mut buffer, surface::TIMEOUT, &[]);
+    assert_eq!(asked, Answer::Write(Sector(4931)));
+    let asked = trial(&mut drive, &mut buffer, 100, surface::TIMEOUT);
+    assert_eq!(asked, Answer::Write(Sector(4932)));
+    let done = trial(&mut drive, &mut buffer, 30, surface::CRC);
+    assert_eq!((done, &buffer[..2]), (Answer::Finished, &[0x0C, 4][..]));
+    let moved = [
+        (DEAD, 0),
+        (DEAD, cause::CRC),
+        (DEAD, cause::TIMEOUT),
+        (DEAD, cause::TIMEOUT),
+        (17, cause::TIMEOUT),
+    ];
+    assert_eq!(stored(&drive), image_b(7, &moved, &[]));
+
+    // A no settle on spare 5 kills it.
+    assert_eq!(drive.raise(&mut buffer), Answer::Store);
+    drive.surface(&mut buffer, surface::TIMEOUT, &[]);
+    drive.reset(&mut buffer);
+    assert_eq!(drive.raise(&mut buffer), Answer::Store);
+    drive.surface(&mut buffer, surface::GOOD, &[]);
+    drive.reset(&mut buffer);
+    command(&mut drive, &mut buffer, &[1, 0, 0, 18], &data);
+    let asked = drive.surface(&mut buffer, surface::TIMEOUT, &[]);
+    assert_eq!(asked, Answer::Write(Sector(4933)));
+    let done = trial(&mut drive, &mut buffer, 1, surface::NO_SETTLE);
+    assert_eq!(done, Answer::Finished);
+    let killed = [&moved[..], &[(DEAD, cause::NO_SETTLE)]].concat();
+    assert_eq!(stored(&drive), image_b(9, &killed, &[]));
+}
+
+#[test]
+fn run_numbers_stay_at_their_top() {
+    for (run, wanted) in [
+        (0, [1, 2]),
+        (0xFFFF, [0x1_0000, 0x1_0001]),
+        (u32::MAX - 1, [u32::MAX; 2]),
+        (u32::MAX, [u32::MAX; 2]),
+    ] {
+        let (mut drive, mut buffer) = started_with(&image_b(run, &[], &[]));
+        assert_eq!(stored(&drive), image_b(run, &[], &[]));
+        command(&mut drive, &mut buffer, &[0, 0, 0, 17, 0, 1], &[]);
+        for _ in 0..11 {
+            drive.surface(&mut buffer, surface::TIMEOUT, &[]);
+        }
+        assert_eq!(stored(&drive), image_b(run, &[], &[17]));
+        for wanted in wanted {
+            assert_eq!(drive.raise(&mut buffer), Answer::Store);
+            assert_eq!(stored(&drive), image_b(wanted, &[], &[17]));
+            assert_eq!(Fields::of(drive.record()).run, wanted);
+            drive.surface(&mut buffer, surface::TIMEOUT, &[]);
+            drive.reset(&mut buffer);
+        }
+    }
+}
+
+#[test]
+fn the_table_is_shown_in_form_a() {
+    let (mut drive, mut buffer) = started_with(&image_b(9, &[(5, 3), (DEAD, 1)], &[7]));
+    let read = [0, 0xFF, 0xFF, 0xFF, 10, 3];
+    let done = command(&mut drive, &mut buffer, &read, &[]);
+    assert_eq!(done, Answer::Finished);
+    assert_eq!(buffer[4..], image(&[5, DEAD], &[7]));
+    assert!(!drive.has_unstored());
+}
+
+#[test]
+fn either_form_into_the_other() {
+    let (spares, bads): (Vec<u32>, Vec<u32>) = ((0..32).collect(), (50..150).collect());
+    for (spares, bads) in [
+        (&[][..], &[][..]),
+        (&[5, DEAD, 9727, DEAD][..], &[5, 7][..]),
+        (&spares, &bads),
+    ] {
+        let of_a = image(spares, bads);
+        let with = |run, cause| {
+            let spares: Vec<_> = spares.iter().map(|&entry| (entry, cause)).collect();
+            image_b(run, &spares, bads)
+        };
+        let mut lent = [0xEE; SECTOR_BYTES];
+        assert_eq!(convert(&of_a, &mut lent), Answer::Wait);
+        assert_eq!(lent[..], with(0, cause::UNKNOWN));
+        for past in [lent.to_vec(), with(u32::MAX, cause::NO_SETTLE)] {
+            let mut back = [0xEE; SECTOR_BYTES];
+            assert_eq!(convert(&past, &mut back), Answer::Wait);
+            assert_eq!(back[..], of_a);
+        }
+    }
+}
+
+#[test]
+fn converts_that_are_refused() {
+    let (of_a, of_b) = (image(&[5], &[7]), image_b(1, &[(5, 2)], &[7]));
+    let with = |place: usize, byte: u8| {
+        let mut bytes = of_b.clone();
+        bytes[place] = byte;
+        bytes
+    };
+    let mut short_a = of_a.clone();
+    short_a[25] = 0;
+    let refused = |from: &[u8], length: usize, code: Code| {
+        let mut lent = vec![0xEE; length];
+        assert_eq!(convert(from, &mut lent), Answer::Refused(code));
+        assert_eq!(lent, vec![0xEE; length]);
+    };
+    for length in [0, 1, 531, 533, 536] {
+        refused(&of_a, length, Code::Buffer);
+        refused(&vec![0xF0; length], SECTOR_BYTES, Code::Buffer);
+    }
+    for bytes in [vec![0; SECTOR_BYTES], short_a, with(3, 0x1F)] {
+        refused(&bytes, SECTOR_BYTES, Code::Form);
+        refused(&summed(bytes), SECTOR_BYTES, Code::Form);
+    }
+    // Counts and offsets, a block and its cause, a bad block, and a zero.
+    for (place, byte) in [
+        (8, 1),
+        (9, 33),
+        (11, 17),
+        (13, 101),
+        (15, 16),
+        (16, 1),
+        (19, 4),
+        (20, 0xFF),
+        (23, 1),
+        (529, 1),
+    ] {
+        refused(&with(place, byte), SECTOR_BYTES, Code::Sum);
+        refused(&summed(with(place, byte)), SECTOR_BYTES, Code::Field);
+    }
+    refused(&with(531, 0), SECTOR_BYTES, Code::Sum);
 }
 
 #[test]
@@ -167,15 +369,14 @@ fn healthy(first: [u8; 4]) -> Vec<u8> {
 
 #[test]
 fn the_health_block_whatever_the_part_held() {
-    let dead = 0xFF_FFFE;
     let (spares, bads): (Vec<u32>, Vec<u32>) = ((0..32).collect(), (50..150).collect());
     let count: Vec<u8> = (0..=255).cycle().take(SECTOR_BYTES).collect();
     for (spares, bads, first) in [
         (&[][..], &[][..], [32, 0, 0, 0]),
-        (&[dead, 17, dead], &[17], [29, 1, 0, 0]),
+        (&[DEAD, 17, DEAD], &[17], [29, 1, 0, 0]),
         (&spares[..16], &bads[..50], [16, 50, 0, 0]),
         (&spares, &bads, [0, 100, 0, 0]),
-        (&[dead; 32], &[], [0, 0, 0, 0]),
+        (&[DEAD; 32], &[], [0, 0, 0, 0]),
     ] {
         let table = image(spares, bads);
         let parts = [
@@ -263,12 +464,14 @@ fn codes_in_their_order() {
 
 #[test]
 fn records_that_are_none() {
-    let changes: [fn(&mut Fields); 8] = [
+    let changes: [fn(&mut Fields); 10] = [
         |record| record.stage.kind = kind::TRIAL_READ + 1,
         |record| record.stage.kind = 255,
         |record| (record.stage.kind, record.stage.detail) = (kind::OFFER, 5),
         |record| (record.stage.kind, record.stage.detail) = (kind::START, 11),
         |record| record.nspares = 33,
+        |record| (record.nspares, record.causes[0]) = (1, 4),
+        |record| (record.nspares, record.spares[1], record.causes[1]) = (2, 1, 256),
         |record| (record.nbads, record.bads[0]) = (1, 9728),
         |record| record.count = 7,
         |record| record.fed = u16::MAX,

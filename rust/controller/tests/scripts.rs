@@ -4,7 +4,7 @@
 use std::path::Path;
 use std::{env, fs};
 
-use controller::{Answer, Drive, BUFFER, SECTOR_BYTES};
+use controller::{convert, Answer, Drive, BUFFER, SECTOR_BYTES};
 use reference::drive::Call;
 use reference::script::{adler32, parse, Line};
 
@@ -17,16 +17,31 @@ struct Player {
 impl Player {
     /// Makes the call of a line and says what a transcript says of it.
     fn play(&mut self, line: &Line) -> String {
-        if line.call == Call::Image {
-            let mut image = vec![0xEE; SECTOR_BYTES];
-            let mut lent = image.clone();
-            lent.resize(line.lend.unwrap_or(SECTOR_BYTES), 0);
-            let answer = self.drive.image(&mut lent);
-            if lent.len() == SECTOR_BYTES {
-                image = lent;
+        match &line.call {
+            Call::Image => self.image(line.lend.unwrap_or(SECTOR_BYTES)),
+            Call::Convert(from) => {
+                let mut to = vec![0xEE; line.lend.unwrap_or(SECTOR_BYTES)];
+                let answer = convert(from, &mut to);
+                format!("{} image {:08x}", word(answer), adler32(&to))
             }
-            return format!("{} image {:08x}", word(answer), adler32(&image));
+            _ => self.lend(line),
         }
+    }
+
+    /// Makes an image call that is lent so many bytes.
+    fn image(&self, length: usize) -> String {
+        let mut image = vec![0xEE; SECTOR_BYTES];
+        let mut lent = image.clone();
+        lent.resize(length, 0);
+        let answer = self.drive.image(&mut lent);
+        if lent.len() == SECTOR_BYTES {
+            image = lent;
+        }
+        format!("{} image {:08x}", word(answer), adler32(&image))
+    }
+
+    /// Makes a call on the buffer.
+    fn lend(&mut self, line: &Line) -> String {
         let mut lent = self.buffer.clone();
         lent.resize(line.lend.unwrap_or(BUFFER), 0);
         let drive = &mut self.drive;
@@ -37,7 +52,7 @@ impl Player {
             Call::Feed(bytes) => drive.feed(&mut lent, bytes),
             Call::Surface(answer, bytes) => drive.surface(&mut lent, *answer, bytes),
             Call::Reset => drive.reset(&mut lent),
-            Call::Image => unreachable!("image is lent other bytes"),
+            Call::Image | Call::Convert(_) => unreachable!("it is lent other bytes"),
         };
         if lent.len() == BUFFER {
             self.buffer = lent;

@@ -1,24 +1,28 @@
-//! The controller: its record and the seven calls (document 01, "Calls",
-//! "Acting on a command" and "Codes").
+//! The controller: its record and the eight calls (document 01, "Calls",
+//! "Acting on a command" and "Codes"; document 02, request 6).
 //!
 //! `record` has the record and the test of code 1, `acting` what a command does
-//! once it is acted on, `trial` its writes and the trials of sectors. Here are the
-//! calls: what each refuses, in the order of the codes, and the handshake.
+//! once it is acted on, `trial` its writes and the trials of sectors, `convert` the
+//! call without a record. Here are the others: what each refuses, in the order of
+//! the codes, and the handshake.
 
 mod acting;
+mod convert;
 mod near;
 mod record;
 #[cfg(test)]
 mod tests;
 mod trial;
 
+pub use convert::convert;
 pub use record::{
-    Awaited, Awaits, Job, Offer, Phase, Place, Reading, Record, Rereads, Stage, Step, Trial,
+    Awaited, Awaits, Failures, Job, Offer, Phase, Place, Reading, Record, Rereads, Stage, Step,
+    Trial,
 };
 
 use crate::coverage::met;
 use crate::geometry::{Sector, SECTOR_BYTES, TABLE};
-use crate::image;
+use crate::image::{self, Fault, Form, Table, TOP_RUN};
 
 /// Length of the lent buffer: status 0..3, data 4..535.
 pub const BUFFER: usize = STATUS + SECTOR_BYTES;
@@ -72,12 +76,28 @@ pub enum Code {
     Answer = 4,
     /// The bytes do not go with the surface answer.
     Bytes = 5,
+    /// The image is neither a well-formed one of form A, nor does it begin as form B.
+    Form = 6,
+    /// The sum of form B is wrong.
+    Sum = 7,
+    /// An offset, a count, an entry, a cause or a zero of form B is wrong.
+    Field = 8,
 }
 
 impl Code {
     /// Its number.
     pub fn number(self) -> u8 {
         self as u8
+    }
+}
+
+impl From<Fault> for Code {
+    fn from(fault: Fault) -> Code {
+        match fault {
+            Fault::Form => Code::Form,
+            Fault::Sum => Code::Sum,
+            Fault::Field(_) => Code::Field,
+        }
     }
 }
 
@@ -185,8 +205,10 @@ impl Record {
         match code {
             Code::Buffer => met(&format!("refused.2.{call}")),
             Code::Place => met(&format!("refused.3.{call}.{}", self.phase.name())),
-            // Codes 4 and 5 are counted with more detail; 1 is for tests only.
+            // Codes 4 and 5 are counted with more detail; 1 is for tests only. The
+            // others are of no call with a record.
             Code::Record | Code::Answer | Code::Bytes => {}
+            Code::Form | Code::Sum | Code::Field => {}
         }
         Answer::Refused(code)
     }
@@ -207,6 +229,7 @@ impl Record {
         match self.phase {
             Phase::Idle if self.known && self.changed && !self.latch => {
                 met("raise.idle.store");
+                self.count_store();
                 self.phase = Phase::Storing;
                 Ok(Answer::Store)
             }
@@ -234,6 +257,16 @@ impl Record {
             }
             _ => Err(Code::Place),
         }
+    }
+
+    /// Counts a store that is asked for; at its top the run number stays.
+    fn count_store(&mut self) {
+        met(match self.run {
+            TOP_RUN => "store.run-number.at-its-top",
+            run if run + 1 == TOP_RUN => "store.run-number.to-its-top",
+            _ => "store.run-number.one-more",
+        });
+        self.run = self.run.saturating_add(1);
     }
 
     fn raise_name(&self, next: Offer) -> String {
@@ -363,7 +396,7 @@ impl Record {
             return Err(Code::Place);
         }
         met(&format!("image.{}", self.phase.name()));
-        lent.copy_from_slice(&self.table_image());
+        lent.copy_from_slice(&self.stored_image());
         Ok(Answer::Wait)
     }
 
@@ -428,17 +461,18 @@ impl Record {
     fn start_read(&mut self, reads: u32, outcome: ReadOutcome) -> Answer {
         let table = match outcome {
             ReadOutcome::Good(bytes) => {
-                let table = image::read(bytes);
-                met(match table {
-                    Some(_) => "start.good.table",
-                    None => "start.good.malformed",
-                });
-                table
+                let found = image::read(bytes);
+                met(&format!("start.good.{}", found_word(&found)));
+                found.ok().map(|(form, table)| {
+                    met(start_name(form, &table));
+                    table
+                })
             }
             ReadOutcome::Crc(bytes) => {
                 met(match image::read(bytes) {
-                    Some(_) => "start.crc.well-formed",
-                    None => "start.crc.malformed",
+                    Ok((Form::A, _)) => "start.crc.form-a",
+                    Ok((Form::B, _)) => "start.crc.form-b",
+                    Err(_) => "start.crc.malformed",
                 });
                 None
             }
@@ -487,6 +521,27 @@ impl Record {
         self.command.clear();
         self.data_count = 0;
         self.phase = Phase::Idle;
+    }
+}
+
+/// Gives a word for what an image is, for the coverage names.
+fn found_word(found: &Result<(Form, Table), Fault>) -> String {
+    match found {
+        Ok((Form::A, _)) => String::from("form-a"),
+        Ok((Form::B, _)) => String::from("form-b"),
+        Err(Fault::Form) => String::from("form"),
+        Err(Fault::Sum) => String::from("sum"),
+        Err(Fault::Field(clause)) => format!("field.{}", clause.name()),
+    }
+}
+
+/// Gives the coverage name of a table that a start takes.
+fn start_name(form: Form, table: &Table) -> &'static str {
+    match (form, table.run()) {
+        (Form::A, _) => "start.run-number.of-form-a",
+        (Form::B, 0) => "start.run-number.0",
+        (Form::B, TOP_RUN) => "start.run-number.at-its-top",
+        (Form::B, _) => "start.run-number.more",
     }
 }
 

@@ -1,7 +1,10 @@
-//! The spare table and its image (document 01, "Table image").
+//! The spare table and the two forms of its image.
 //!
-//! An image is 532 bytes: 24 fixed ones, the two counts, the spare list, an end
-//! mark, the bad list, an end mark, and zeros. Entries have 3 bytes, high first.
+//! `form_a` is the form of document 01, "Table image"; `form_b` is that of document
+//! 02, request 6. An image of either form is 532 bytes, and `read` takes both.
+
+pub mod form_a;
+pub mod form_b;
 
 use std::collections::HashSet;
 use std::hash::Hash;
@@ -10,10 +13,6 @@ use crate::geometry::{Block, SECTOR_BYTES, SPARES};
 
 /// Length of an image.
 pub const LENGTH: usize = SECTOR_BYTES;
-
-/// The bytes before the counts: name, three zeros, revision 3.90, 9728 blocks,
-/// 532 bytes a sector, 32 spares.
-pub const FIXED: [u8; 24] = *b"PROFILE      \x00\x00\x00\x03\x90\x00\x26\x00\x02\x14\x20";
 
 /// The most entries a spare list has.
 pub const MOST_SPARES: usize = SPARES;
@@ -24,10 +23,10 @@ pub const MOST_BADS: usize = 100;
 /// The entry of a dead spare.
 pub const DEAD: u32 = 0xFF_FFFE;
 
-/// What stands after each list.
-pub const END: [u8; 3] = [0xFF; 3];
+/// The run number that stays.
+pub const TOP_RUN: u32 = u32::MAX;
 
-/// An entry of the spare list.
+/// What a spare is used for.
 #[derive(Clone, Copy, Debug, PartialEq, Eq, Hash)]
 pub enum Spare {
     /// This block was moved to the spare.
@@ -36,24 +35,83 @@ pub enum Spare {
     Dead,
 }
 
+impl Spare {
+    /// Finds what a number in an image or a record stands for, if anything.
+    pub fn new(number: u32) -> Option<Spare> {
+        match number {
+            DEAD => Some(Spare::Dead),
+            _ => Block::new(number).map(Spare::Moved),
+        }
+    }
+
+    /// Gives its number.
+    pub fn number(self) -> u32 {
+        match self {
+            Spare::Moved(block) => block.number(),
+            Spare::Dead => DEAD,
+        }
+    }
+}
+
+/// The failure that led to an entry of the spare list.
+#[derive(Clone, Copy, Debug, Default, PartialEq, Eq, Hash)]
+pub enum Cause {
+    #[default]
+    Unknown = 0,
+    Crc = 1,
+    Timeout = 2,
+    NoSettle = 3,
+}
+
+impl Cause {
+    /// Finds the cause of this number, if there is one.
+    pub fn new(number: u8) -> Option<Cause> {
+        Some(match number {
+            0 => Cause::Unknown,
+            1 => Cause::Crc,
+            2 => Cause::Timeout,
+            3 => Cause::NoSettle,
+            _ => return None,
+        })
+    }
+
+    /// Gives its number.
+    pub fn number(self) -> u8 {
+        self as u8
+    }
+}
+
+/// An entry of the spare list.
+#[derive(Clone, Copy, Debug, PartialEq, Eq, Hash)]
+pub struct Entry {
+    pub spare: Spare,
+    pub cause: Cause,
+}
+
 /// A spare table. Its lists are never too long, and no block stands twice in
 /// one of them.
 #[derive(Clone, Debug, PartialEq, Eq)]
 pub struct Table {
-    spares: Vec<Spare>,
+    run: u32,
+    spares: Vec<Entry>,
     bads: Vec<Block>,
 }
 
 impl Table {
-    /// The table with these lists, if they make one.
-    pub fn new(spares: Vec<Spare>, bads: Vec<Block>) -> Option<Table> {
-        let moved = spares.iter().filter(|&&spare| spare != Spare::Dead);
+    /// Makes the table with this run number and these lists, if they make one.
+    pub fn new(run: u32, spares: Vec<Entry>, bads: Vec<Block>) -> Option<Table> {
         let fits = spares.len() <= MOST_SPARES && bads.len() <= MOST_BADS;
-        (fits && all_differ(moved) && all_differ(&bads)).then_some(Table { spares, bads })
+        let once = no_block_twice(&spares) && all_differ(&bads);
+        (fits && once).then_some(Table { run, spares, bads })
+    }
+
+    /// Gives the run number: how many stores were asked for, up to its top.
+    pub fn run(&self) -> u32 {
+        self.run
     }
 
     /// Entry `k` is that of spare `k`.
-    pub fn spares(&self) -> &[Spare] {
+    pub fn spares(&self) -> &[Entry] {
         &self.spares
     }
 
@@ -63,68 +121,88 @@ impl Table {
     }
 }
 
+/// The two forms of an image.
+#[derive(Clone, Copy, Debug, PartialEq, Eq)]
+pub enum Form {
+    A,
+    B,
+}
+
+/// Why bytes are no image.
+#[derive(Clone, Copy, Debug, PartialEq, Eq)]
+pub enum Fault {
+    /// They are neither a well-formed image of form A, nor do they begin as form B
+    /// does. Bytes that are not 532 are neither.
+    Form,
+    /// The sum of form B is wrong.
+    Sum,
+    /// A clause of form B behind the sum is broken.
+    Field(Clause),
+}
+
+/// The clauses of form B behind the sum.
+#[derive(Clone, Copy, Debug, PartialEq, Eq)]
+pub enum Clause {
+    SpareCount,
+    SpareOffset,
+    BadCount,
+    BadOffset,
+    /// A spare entry is neither a block nor dead.
+    SpareEntry,
+    Cause,
+    /// A block stands twice in the spare list.
+    SpareTwice,
+    /// A bad entry is no block.
+    BadEntry,
+    /// A block stands twice in the bad list.
+    BadTwice,
+    /// What stands between the lists and the sum is not zero.
+    Zeros,
+}
+
+impl Clause {
+    /// Gives a word for it, for the coverage names.
+    pub fn name(self) -> &'static str {
+        match self {
+            Clause::SpareCount => "spare-count",
+            Clause::SpareOffset => "spare-offset",
+            Clause::BadCount => "bad-count",
+            Clause::BadOffset => "bad-offset",
+            Clause::SpareEntry => "spare-entry",
+            Clause::Cause => "cause",
+            Clause::SpareTwice => "spare-twice",
+            Clause::BadEntry => "bad-entry",
+            Clause::BadTwice => "bad-twice",
+            Clause::Zeros => "zeros",
+        }
+    }
+}
+
+/// Reads an image of either form: gives its form and its table, or why it is none.
+pub fn read(bytes: &[u8]) -> Result<(Form, Table), Fault> {
+    match form_a::read(bytes) {
+        Some(table) => Ok((Form::A, table)),
+        None => form_b::read(bytes).map(|table| (Form::B, table)),
+    }
+}
+
+/// Writes the image of a table in a form.
+pub fn write(form: Form, table: &Table) -> [u8; LENGTH] {
+    match form {
+        Form::A => form_a::write(table),
+        Form::B => form_b::write(table),
+    }
+}
+
+/// Says whether no block stands twice in a spare list.
+fn no_block_twice(spares: &[Entry]) -> bool {
+    let spares = spares.iter().map(|entry| entry.spare);
+    all_differ(spares.filter(|&spare| spare != Spare::Dead))
+}
+
 fn all_differ<T: Eq + Hash>(items: impl IntoIterator<Item = T>) -> bool {
     let mut seen = HashSet::new();
     items.into_iter().all(|item| seen.insert(item))
-}
-
-/// The table of a well-formed image; nothing if the bytes are no such image.
-pub fn read(bytes: &[u8]) -> Option<Table> {
-    if bytes.len() != LENGTH {
-        return None;
-    }
-    let rest = bytes.strip_prefix(&FIXED)?;
-    let (&[spare_count, bad_count], rest) = rest.split_first_chunk()?;
-    let (spares, rest) = read_list(rest, spare_count.into(), spare_entry)?;
-    let (bads, rest) = read_list(rest, bad_count.into(), Block::new)?;
-    if rest.iter().any(|&byte| byte != 0) {
-        return None;
-    }
-    Table::new(spares, bads)
-}
-
-/// Reads `count` entries and the end mark; hands back the entries and what
-/// stands behind them.
-fn read_list<T>(
-    bytes: &[u8],
-    count: usize,
-    entry: impl Fn(u32) -> Option<T>,
-) -> Option<(Vec<T>, &[u8])> {
-    let (list, rest) = bytes.split_at_checked(3 * count)?;
-    let entries: Option<Vec<T>> = list
-        .chunks_exact(3)
-        .map(|three| entry(u32::from_be_bytes([0, three[0], three[1], three[2]])))
-        .collect();
-    Some((entries?, rest.strip_prefix(&END)?))
-}
-
-fn spare_entry(number: u32) -> Option<Spare> {
-    match number {
-        DEAD => Some(Spare::Dead),
-        _ => Block::new(number).map(Spare::Moved),
-    }
-}
-
-/// The image of a table.
-pub fn write(table: &Table) -> [u8; LENGTH] {
-    let spares = table.spares.iter().map(|spare| match spare {
-        Spare::Moved(block) => block.number(),
-        Spare::Dead => DEAD,
-    });
-    let bads = table.bads.iter().map(|bad| bad.number());
-
-    let mut bytes = FIXED.to_vec();
-    // Both counts fit in a byte: a table's lists are that short.
-    bytes.push(table.spares.len() as u8);
-    bytes.push(table.bads.len() as u8);
-    bytes.extend(spares.flat_map(three_bytes));
-    bytes.extend(END);
-    bytes.extend(bads.flat_map(three_bytes));
-    bytes.extend(END);
-
-    let mut image = [0; LENGTH];
-    image[..bytes.len()].copy_from_slice(&bytes);
-    image
 }
 
 /// The three bytes of an entry, high first.
@@ -133,215 +211,10 @@ pub fn three_bytes(number: u32) -> [u8; 3] {
     [high, middle, low]
 }
 
-#[cfg(test)]
-mod tests {
-    use super::*;
-
-    /// The first 24 bytes, spelled out by hand.
-    const BEGIN: [u8; 24] = [
-        0x50, 0x52, 0x4F, 0x46, 0x49, 0x4C, 0x45, // PROFILE
-        0x20, 0x20, 0x20, 0x20, 0x20, 0x20, // six blanks
-        0x00, 0x00, 0x00, 0x03, 0x90, 0x00, 0x26, 0x00, 0x02, 0x14, 0x20,
-    ];
-
-    /// An image that goes on after the fixed bytes as given, then zeros.
-    fn image(tail: &[u8]) -> Vec<u8> {
-        let mut bytes = [&BEGIN, tail].concat();
-        bytes.resize(532, 0);
-        bytes
-    }
-
-    fn block(number: u32) -> Block {
-        Block::new(number).expect("a block")
-    }
-
-    fn moved(number: u32) -> Spare {
-        Spare::Moved(block(number))
-    }
-
-    fn table(spares: &[Spare], bads: &[u32]) -> Table {
-        let bads = bads.iter().map(|&number| block(number)).collect();
-        Table::new(spares.to_vec(), bads).expect("a table")
-    }
-
-    /// The bytes are the image of the table, both ways.
-    fn same(bytes: &[u8], table: &Table) {
-        assert_eq!(read(bytes).as_ref(), Some(table));
-        assert_eq!(&write(table)[..], bytes);
-    }
-
-    #[test]
-    fn fixed_bytes() {
-        assert_eq!(FIXED, BEGIN);
-    }
-
-    #[test]
-    fn empty_lists() {
-        same(
-            &image(&[0, 0, 0xFF, 0xFF, 0xFF, 0xFF, 0xFF, 0xFF]),
-            &table(&[], &[]),
-        );
-    }
-
-    #[test]
-    fn one_spare() {
-        // 9727 is 25FF hex.
-        same(
-            &image(&[1, 0, 0x00, 0x25, 0xFF, 0xFF, 0xFF, 0xFF, 0xFF, 0xFF, 0xFF]),
-            &table(&[moved(9727)], &[]),
-        );
-    }
-
-    #[test]
-    fn one_bad() {
-        same(
-            &image(&[0, 1, 0xFF, 0xFF, 0xFF, 0, 0, 0, 0xFF, 0xFF, 0xFF]),
-            &table(&[], &[0]),
-        );
-    }
-
-    #[test]
-    fn dead_spares_and_a_block_in_both_lists() {
-        // 4928 is 1340 hex, 258 is 102 hex.
-        same(
-            &image(&[
-                3, 2, 0xFF, 0xFF, 0xFE, 0x00, 0x13, 0x40, 0xFF, 0xFF, 0xFE, 0xFF, 0xFF, 0xFF, 0x00,
-                0x01, 0x02, 0x00, 0x13, 0x40, 0xFF, 0xFF, 0xFF,
-            ]),
-            &table(&[Spare::Dead, moved(4928), Spare::Dead], &[258, 4928]),
-        );
-    }
-
-    #[test]
-    fn full_lists() {
-        // 26 bytes, 96 of spares, a mark, 300 of bads, a mark: 428.
-        let full = table(
-            &(0..32).map(moved).collect::<Vec<_>>(),
-            &(100..200).collect::<Vec<_>>(),
-        );
-        let bytes = write(&full);
-        assert_eq!(bytes[24..29], [32, 100, 0, 0, 0]);
-        assert_eq!(bytes[119..128], [0, 0, 31, 0xFF, 0xFF, 0xFF, 0, 0, 100]);
-        assert_eq!(bytes[422..429], [0, 0, 199, 0xFF, 0xFF, 0xFF, 0]);
-        assert!(bytes[428..].iter().all(|&byte| byte == 0));
-        same(&bytes, &full);
-    }
-
-    /// A list of this many different blocks, as bytes.
-    fn entries(count: u8) -> Vec<u8> {
-        (0..count).flat_map(|low| [0, 1, low]).collect()
-    }
-
-    #[test]
-    fn counts_at_their_ends() {
-        let with = |spares: u8, bads: u8| {
-            image(
-                &[
-                    &[spares, bads],
-                    &entries(spares)[..],
-                    &END,
-                    &entries(bads),
-                    &END,
-                ]
-                .concat(),
-            )
-        };
-        assert!(read(&with(32, 0)).is_some());
-        assert!(read(&with(33, 0)).is_none());
-        assert!(read(&with(0, 100)).is_some());
-        assert!(read(&with(0, 101)).is_none());
-        assert!(read(&with(32, 100)).is_some());
-        assert!(read(&with(33, 100)).is_none());
-        assert!(read(&with(32, 101)).is_none());
-    }
-
-    #[test]
-    fn counts_beyond_the_bytes() {
-        assert!(read(&image(&[255, 0])).is_none());
-        assert!(read(&image(&[0, 255, 0xFF, 0xFF, 0xFF])).is_none());
-        let dead = [0xFF, 0xFF, 0xFE].repeat(168);
-        assert!(read(&image(&[&[255, 255], &dead[..]].concat())).is_none());
-    }
-
-    #[test]
-    fn no_entries() {
-        let spare = |three: [u8; 3]| read(&image(&[&[1, 0], &three[..], &END, &END].concat()));
-        let bad = |three: [u8; 3]| read(&image(&[&[0, 1], &END[..], &three, &END].concat()));
-        for three in [
-            [0x00, 0x26, 0x00],
-            [0x00, 0xFF, 0xFE],
-            [0x00, 0xFF, 0xFF],
-            [0x01, 0x00, 0x00],
-            [0x01, 0xFF, 0xFE],
-            [0xFF, 0x00, 0x00],
-            [0xFF, 0xFF, 0xFD],
-            [0xFF, 0xFF, 0xFF],
-        ] {
-            assert_eq!(spare(three), None, "{three:02x?}");
-            assert_eq!(bad(three), None, "{three:02x?}");
-        }
-        assert_eq!(spare([0xFF, 0xFF, 0xFE]), Some(table(&[Spare::Dead], &[])));
-        assert_eq!(bad([0xFF, 0xFF, 0xFE]), None);
-    }
-
-    #[test]
-    fn doubles() {
-        let spares = |a: u8, b: u8| {
-            read(&image(
-                &[&[2, 0, 0, a, 7, 0, b, 7], &END[..], &END].concat(),
-            ))
-        };
-        let bads = |a: u8, b: u8| {
-            read(&image(
-                &[&[0, 2], &END[..], &[0, a, 7, 0, b, 7], &END].concat(),
-            ))
-        };
-        assert_eq!(spares(1, 1), None);
-        assert_eq!(bads(1, 1), None);
-        // 263 and 775 differ by 512.
-        assert_eq!(spares(1, 3), Some(table(&[moved(263), moved(775)], &[])));
-        assert_eq!(bads(1, 3), Some(table(&[], &[263, 775])));
-    }
-
-    #[test]
-    fn every_single_change_of_a_small_image() {
-        // Of all changes of one byte, only those that make another free block
-        // of one leave an image. Spare 5, bad 6: each of the two entries can
-        // become the 255 others with the same middle byte and those 37 with
-        // the same low byte (0..25 hex is 38 values).
-        let good = image(&[1, 1, 0, 0, 5, 0xFF, 0xFF, 0xFF, 0, 0, 6, 0xFF, 0xFF, 0xFF]);
-        let mut read_so_far = 0;
-        for place in 0..532 {
-            for value in 0..=255 {
-                let mut bytes = good.clone();
-                bytes[place] = value;
-                if value != good[place] && read(&bytes).is_some() {
-                    assert!([27, 28, 33, 34].contains(&place), "place {place}");
-                    read_so_far += 1;
-                }
-            }
-        }
-        assert_eq!(read_so_far, 2 * (255 + 37));
-    }
-
-    #[test]
-    fn lengths() {
-        let good = image(&[0, 0, 0xFF, 0xFF, 0xFF, 0xFF, 0xFF, 0xFF]);
-        for length in (0..1200).filter(|&length| length != 532) {
-            let mut bytes = good.clone();
-            bytes.resize(length, 0);
-            assert_eq!(read(&bytes), None, "{length}");
-        }
-    }
-
-    #[test]
-    fn tables_that_are_none() {
-        let blocks = |count: u32| (0..count).map(block).collect::<Vec<_>>();
-        assert!(Table::new(vec![Spare::Dead; 32], blocks(100)).is_some());
-        assert!(Table::new(vec![Spare::Dead; 33], blocks(0)).is_none());
-        assert!(Table::new(vec![], blocks(101)).is_none());
-        assert!(Table::new(vec![moved(3), Spare::Dead, moved(3)], vec![]).is_none());
-        assert!(Table::new(vec![], vec![block(3), block(4), block(3)]).is_none());
-        assert!(Table::new(vec![moved(3)], vec![block(3)]).is_some());
-    }
+/// Gives the number of an entry's three bytes.
+fn number_of(three: &[u8]) -> u32 {
+    u32::from_be_bytes([0, three[0], three[1], three[2]])
 }
+
+#[cfg(test)]
+mod tests;

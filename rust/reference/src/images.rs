@@ -1,13 +1,26 @@
 //! Cases for the reader and the writer of table images: the input file, and the
 //! transcript that is expected for an input.
+//!
+//! Each image has one line of transcript, which begins so:
+//!
+//! - `spares 17 dead bads 4927 written ..`: form A with these lists;
+//! - `form b run 7 spares 17:1 dead:2 bads 4927 written ..`: form B with this run
+//!   number and these lists, each spare entry with its cause;
+//! - `none`: neither form, or not 532 bytes;
+//! - `none 7`: form B with a wrong sum;
+//! - `none 8`: form B with the right sum and something else wrong.
+//!
+//! After `written` come the bytes that are written for the table in the same form.
 
 mod damage;
 pub mod draft;
+pub mod draft_b;
+mod form_b;
 mod lists;
 mod random;
 mod whole;
 
-use crate::image::{self, Spare, Table};
+use crate::image::{self, Fault, Form, Spare, Table};
 use crate::rng::Rng;
 use crate::text;
 
@@ -16,8 +29,12 @@ use crate::text;
 pub enum Expect {
     /// A well-formed image.
     Table,
-    /// No image.
-    None,
+    /// Neither a well-formed image of form A nor the beginning of one of form B.
+    Form,
+    /// Form B with a wrong sum.
+    Sum,
+    /// Form B with the right sum and something else wrong.
+    Field,
     /// Only the reader can tell.
     Either,
 }
@@ -52,8 +69,13 @@ impl Group {
     }
 }
 
-/// All cases.
+/// Makes all cases.
 pub fn groups() -> Vec<Group> {
+    [of_form_a(), of_form_b()].concat()
+}
+
+/// Makes the cases of form A.
+pub fn of_form_a() -> Vec<Group> {
     [
         whole::groups(),
         damage::groups(),
@@ -61,6 +83,11 @@ pub fn groups() -> Vec<Group> {
         random::groups(),
     ]
     .concat()
+}
+
+/// Makes the cases of form B.
+pub fn of_form_b() -> Vec<Group> {
+    [form_b::whole(), form_b::damaged()].concat()
 }
 
 /// The input file.
@@ -102,20 +129,29 @@ pub fn transcript(input: &[u8]) -> String {
     transcript
 }
 
-/// The line for one image.
+/// Makes the line for one image: what it holds and what is written for that in the
+/// same form, or that it is none and, for form B, with which code.
 fn outcome(bytes: &[u8]) -> String {
     match image::read(bytes) {
-        Some(table) => show_table(&table),
-        None => String::from("none"),
+        Ok((form, table)) => show_table(form, &table),
+        Err(Fault::Form) => String::from("none"),
+        Err(Fault::Sum) => String::from("none 7"),
+        Err(Fault::Field(_)) => String::from("none 8"),
     }
 }
 
-fn show_table(table: &Table) -> String {
-    let mut line = String::from("spares");
-    for spare in table.spares() {
-        match spare {
+fn show_table(form: Form, table: &Table) -> String {
+    let mut line = match form {
+        Form::A => String::from("spares"),
+        Form::B => format!("form b run {} spares", table.run()),
+    };
+    for entry in table.spares() {
+        match entry.spare {
             Spare::Moved(block) => line += &format!(" {}", block.number()),
             Spare::Dead => line += " dead",
+        }
+        if form == Form::B {
+            line += &format!(":{}", entry.cause.number());
         }
     }
     line += " bads";
@@ -123,7 +159,7 @@ fn show_table(table: &Table) -> String {
         line += &format!(" {}", bad.number());
     }
     line += " written";
-    line += &text::show_bytes(&image::write(table));
+    line += &text::show_bytes(&image::write(form, table));
     line
 }
 
@@ -155,6 +191,46 @@ mod tests {
                  ff*3 00*4 25 ff*4 00*485\n"
             )
         );
+    }
+
+    const BEGIN_B: &str = "f0 78 3c 1e";
+
+    #[test]
+    fn empty_image_of_form_b() {
+        // 450 for the first bytes and 16 twice: 482.
+        let bytes = format!("{BEGIN_B} 00*7 10 00*3 10 00*514 01 e2");
+        assert_eq!(
+            transcript(format!("read {bytes}").as_bytes()),
+            format!("form b run 0 spares bads written {bytes}\n")
+        );
+    }
+
+    #[test]
+    fn image_of_form_b_with_entries() {
+        // Run number 258; spares: dead by a timeout, 9727 after a CRC error, 0; bads
+        // 0 and 9727. 450, 3, 49, 766, 293 and 292: 1853 in all, 073d hex.
+        let bytes = format!(
+            "{BEGIN_B} 00*2 01 02 00 03 00 10 00 02 00 1c ff ff fe 02 00 25 ff 01 00*4 \
+             00*3 00 25 ff 00*496 07 3d"
+        );
+        let written = format!(
+            "{BEGIN_B} 00*2 01 02 00 03 00 10 00 02 00 1c ff*2 fe 02 00 25 ff 01 00*8 25 ff \
+             00*496 07 3d"
+        );
+        assert_eq!(
+            transcript(format!("read {bytes}").as_bytes()),
+            format!("form b run 258 spares dead:2 9727:1 0:0 bads 0 9727 written {written}\n")
+        );
+    }
+
+    #[test]
+    fn refusals_of_form_b() {
+        let read = |bytes: &str| transcript(format!("read {BEGIN_B} {bytes}").as_bytes());
+        assert_eq!(read("00*7 10 00*3 10 00*514 01 e3"), "none 7\n");
+        assert_eq!(read("00*7 10 00*3 11 00*514 01 e2"), "none 7\n");
+        assert_eq!(read("00*7 10 00*3 11 00*514 01 e3"), "none 8\n");
+        assert_eq!(read("00*7 10 00*3 10 00*513 01 e2"), "none\n");
+        assert_eq!(read(""), "error: line 1: a byte is two hex digits\n");
     }
 
     #[test]
@@ -199,8 +275,10 @@ mod tests {
             assert!(!group.cases.is_empty(), "{}", group.about);
             for (number, case) in group.cases.iter().enumerate() {
                 let found = match image::read(&case.bytes) {
-                    Some(_) => Expect::Table,
-                    None => Expect::None,
+                    Ok(_) => Expect::Table,
+                    Err(Fault::Form) => Expect::Form,
+                    Err(Fault::Sum) => Expect::Sum,
+                    Err(Fault::Field(_)) => Expect::Field,
                 };
                 assert!(
                     case.expect == Expect::Either || case.expect == found,
@@ -215,8 +293,8 @@ mod tests {
     #[test]
     fn an_image_that_was_read_is_written_again() {
         for case in groups().iter().flat_map(|group| &group.cases) {
-            if let Some(table) = image::read(&case.bytes) {
-                assert_eq!(image::write(&table)[..], case.bytes[..]);
+            if let Ok((form, table)) = image::read(&case.bytes) {
+                assert_eq!(image::write(form, &table)[..], case.bytes[..]);
             }
         }
     }
@@ -229,7 +307,7 @@ mod tests {
                 .iter()
                 .filter(|case| case.expect == Expect::Either);
             let (read, not): (Vec<_>, Vec<_>) =
-                open.partition(|case| image::read(&case.bytes).is_some());
+                open.partition(|case| image::read(&case.bytes).is_ok());
             if read.len() + not.len() > 0 {
                 assert!(read.len() >= 10, "{}: {} are read", group.about, read.len());
                 assert!(not.len() >= 10, "{}: {} are not", group.about, not.len());
@@ -255,9 +333,9 @@ mod tests {
     #[test]
     fn the_input_is_of_a_fit_size_and_always_the_same() {
         let input = input();
-        assert!(input.len() < 250_000, "{} bytes", input.len());
+        assert!(input.len() < 500_000, "{} bytes", input.len());
         let count = text::lines(input.as_bytes()).count();
-        assert!((400..=600).contains(&count), "{count} images");
+        assert!((1000..=1300).contains(&count), "{count} images");
         assert_eq!(input, super::input());
         assert!(input.is_ascii());
     }

@@ -141,10 +141,10 @@ impl Ledger {
         self.good_reads
     }
 
-    /// The next call of the list. An accepted start is not in it, and image is
-    /// no call of it.
+    /// The next call of the list. An accepted start is not in it, and image and
+    /// convert are no calls of it.
     pub fn call(&mut self, call: &Call, answer: Answer, buffer: &[u8]) {
-        if matches!(answer, Answer::Refused(_)) || *call == Call::Image {
+        if matches!(answer, Answer::Refused(_)) || !call.may_change() {
             return;
         }
         assert!(*call != Call::Start, "a start begins another list");
@@ -201,7 +201,7 @@ impl Ledger {
                 self.command = None;
             }
             Call::Surface(0, bytes) if self.table_awaited => {
-                if let Some(table) = image::read(bytes) {
+                if let Ok((_, table)) = image::read(bytes) {
                     self.take_table(&table);
                 }
             }
@@ -235,8 +235,8 @@ impl Ledger {
             }
         }
         for (k, entry) in table.spares().iter().enumerate() {
-            if let (Spare::Moved(block), Some(sector)) = (entry, spare(k)) {
-                self.place(*block, sector);
+            if let (Spare::Moved(block), Some(sector)) = (entry.spare, spare(k)) {
+                self.place(block, sector);
             }
         }
         for page in &mut self.pages {

@@ -1,5 +1,5 @@
-//! A second implementation of document 01 and of requests 1, 3, 4 and 5 of
-//! document 02, written from their text alone.
+//! A second implementation of document 01 and of requests 1 and 3 to 6 of document
+//! 02, written from their text alone.
 //!
 //! It makes inputs for test programs and says what output is expected.
 //! `geometry`, `image`, `controller` and `parity` are the rules of the documents,

@@ -1,5 +1,5 @@
 //! Call scripts: one call per line is read, one line of transcript per call is
-//! written (REPLAY.md).
+//! written (REPLAY.md and REPLAY-02.md).
 
 use std::fmt;
 use std::io::{self, BufRead, Write};
@@ -81,6 +81,7 @@ pub fn parse(line: &[u8]) -> Result<Line, Fault> {
         }
         b"reset" => Call::Reset,
         b"image" => Call::Image,
+        b"convert" => Call::Convert(bytes(&mut words)?),
         _ => return Err(Fault::Call),
     };
     match words.next() {
@@ -147,6 +148,7 @@ pub fn show(line: &Line) -> String {
         Call::Surface(answer, bytes) => format!("surface {answer}{}", text::show_bytes(bytes)),
         Call::Reset => String::from("reset"),
         Call::Image => String::from("image"),
+        Call::Convert(bytes) => format!("convert{}", text::show_bytes(bytes)),
     };
     match line.lend {
         Some(length) => format!("lend {length} {call}"),
@@ -265,6 +267,11 @@ mod tests {
         assert_eq!(call(&zeros), Ok(Call::Surface(3, vec![])));
         assert_eq!(call("reset"), Ok(Call::Reset));
         assert_eq!(call("image"), Ok(Call::Image));
+        assert_eq!(call("convert"), Ok(Call::Convert(vec![])));
+        assert_eq!(
+            call("convert F0 78*1 3c*002"),
+            Ok(Call::Convert(vec![0xF0, 0x78, 0x3C, 0x3C]))
+        );
         assert_eq!(call("feed 00*4096"), Ok(Call::Feed(vec![0; 4096])));
     }
 
@@ -285,6 +292,15 @@ mod tests {
             line(7, Call::Surface(9, vec![0, 0]))
         );
         assert_eq!(parse(b"lend 532 image"), line(532, Call::Image));
+        assert_eq!(
+            parse(b"lend 0 convert"),
+            line(0, Call::Convert(vec![])),
+            "both are empty"
+        );
+        assert_eq!(
+            parse(b"lend 0600 convert 01*3"),
+            line(600, Call::Convert(vec![1; 3]))
+        );
     }
 
     #[test]
@@ -309,6 +325,11 @@ mod tests {
             "lower\t55",
             "feed\t00",
             "surface0",
+            "Convert",
+            "converts",
+            "convert\t00",
+            "convert00",
+            "lend 5 converted",
             "lends 5 raise",
             "Lend 5 raise",
             "lend\t5 raise",
@@ -354,6 +375,10 @@ mod tests {
             "surface 0 ",
             "surface 0  00",
             "surface 0 00 ",
+            "convert ",
+            "convert  00",
+            "convert 00 ",
+            "lend 5 convert ",
             "lend",
             "lend ",
             "lend  5 raise",
@@ -394,6 +419,10 @@ mod tests {
             "surface 0 0",
             "surface 0 5a*2 x",
             "surface 9 00\r",
+            "convert 0",
+            "convert 00 x",
+            "convert lend",
+            "lend 5 convert #",
             "lend 5 lower 5",
             "lend 5 feed 0",
             "feed \u{e9}",
@@ -416,6 +445,8 @@ mod tests {
             "feed 00*18446744073709551617",
             "surface 0 00*0",
             "surface 0 00 00*5000",
+            "convert 00*0",
+            "convert 00*4097",
             "lend 5 feed 00*0",
         ];
         for line in lines {
@@ -456,6 +487,7 @@ mod tests {
             "lend 5a raise",
             "lend 18446744073709551616 raise",
             "lend 601 surface 256",
+            "lend 601 convert",
         ];
         for line in lines {
             assert_eq!(fault(line), Some(Fault::Length), "{line:?}");
@@ -469,6 +501,7 @@ mod tests {
             "feed 00 00*4096",
             "surface 0 00*4096 00 zz",
             "lend 5 feed 00*4096 00",
+            "convert 00*4096 00",
         ] {
             assert_eq!(fault(line), Some(Fault::TooMany), "{line:?}");
         }
@@ -495,7 +528,11 @@ mod tests {
             text::show_bytes(&image)
         );
         let five_a = adler32(&[0x5A; 532]);
-        let table = adler32(&image);
+        // The image call gives form B.
+        let mut of_b = [0; 532];
+        of_b[..16].copy_from_slice(&[0xF0, 0x78, 0x3C, 0x1E, 0, 0, 0, 0, 0, 0, 0, 16, 0, 0, 0, 16]);
+        of_b[530..].copy_from_slice(&[0x01, 0xE2]);
+        let table = adler32(&of_b);
         assert_eq!(
             transcript(&script),
             format!(
@@ -576,17 +613,47 @@ mod tests {
     }
 
     #[test]
+    fn converts_show_their_second_buffer() {
+        let of_a = Draft::new(&[], &[]).bytes();
+        let bytes = text::show_bytes(&of_a);
+        let ee = |count: usize| adler32(&vec![0xEE; count]);
+        let of_b = {
+            let mut drive = Drive::new();
+            let returned = drive.call(&Call::Convert(of_a.clone()));
+            returned.image.expect("an image")
+        };
+        let script = format!(
+            "convert{bytes}\nlend 532 convert{}\nlend 600 convert{bytes}\n\
+             lend 0 convert{bytes}\nconvert\nconvert 00*532\n",
+            text::show_bytes(&of_b)
+        );
+        assert_eq!(
+            transcript(&script),
+            format!(
+                "wait image {:08x}\nwait image {:08x}\nrefused 2 image {:08x}\n\
+                 refused 2 image 00000001\nrefused 2 image {:08x}\nrefused 6 image {:08x}\n",
+                adler32(&of_b),
+                adler32(&of_a),
+                ee(600),
+                ee(532),
+                ee(532)
+            )
+        );
+    }
+
+    #[test]
     fn there_and_back() {
         let mut rng = Rng::new(5);
         for _ in 0..500 {
             let bytes: Vec<u8> = (0..rng.place(9)).map(|_| rng.pick(&[1, 2, 255])).collect();
-            let call = match rng.below(7) {
+            let call = match rng.below(8) {
                 0 => Call::Start,
                 1 => Call::Raise,
                 2 => Call::Lower(rng.byte()),
                 3 => Call::Feed(bytes),
                 4 => Call::Surface(rng.byte(), bytes),
                 5 => Call::Reset,
+                6 => Call::Convert(bytes),
                 _ => Call::Image,
             };
             let lend = rng.one_in(2).then(|| rng.place(601));

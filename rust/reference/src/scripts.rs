@@ -2,8 +2,11 @@
 //! ones of any length.
 
 mod bench;
+mod causes;
 mod commands;
+mod converts;
 mod errors;
+mod form_b;
 mod handshake;
 mod health;
 mod host;
@@ -58,6 +61,9 @@ pub fn all() -> Vec<Stored> {
         trials::all(),
         verifies::all(),
         settle::all(),
+        form_b::all(),
+        causes::all(),
+        converts::all(),
         refusals::all(),
         week::all(),
         errors::all(),
@@ -117,7 +123,7 @@ mod tests {
                 together += size;
             }
         }
-        assert!(together < 1_300_000, "{together} bytes");
+        assert!(together < 1_800_000, "{together} bytes");
     }
 
     #[test]

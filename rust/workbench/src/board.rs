@@ -6,13 +6,13 @@ use controller::raw::kind;
 use controller::{Answer, Drive, BUFFER, SECTOR_BYTES, STATUS};
 use reference::drive::Call;
 use reference::geometry::{Sector, TABLE};
-use reference::image::{self, Table};
+use reference::image::{form_b, Form, Table};
 use reference::surface::{obeys, Access, Left};
 
 use crate::faults::Faults;
 use crate::history::History;
 use crate::platter::Platter;
-use crate::surface;
+use crate::{surface, table_files};
 
 /// What an access is for.
 #[derive(Clone, Copy, Debug, PartialEq, Eq)]
@@ -52,6 +52,8 @@ pub struct Board {
     platter: Platter,
     history: History,
     pub faults: Faults,
+    /// It was started, and not switched off since.
+    on: bool,
     /// The last answer that was neither an access nor a refusal.
     last: Answer,
 }
@@ -65,6 +67,7 @@ impl Board {
             platter,
             history: History::default(),
             faults: Faults::default(),
+            on: false,
             last: Answer::Wait,
         }
     }
@@ -79,6 +82,11 @@ impl Board {
 
     pub fn history(&self) -> &History {
         &self.history
+    }
+
+    /// Says whether the drive was started, and not switched off since.
+    pub fn is_on(&self) -> bool {
+        self.on
     }
 
     /// Says whether the table has changes that are not stored.
@@ -103,13 +111,26 @@ impl Board {
         &self.buffer[STATUS..]
     }
 
-    /// The table that the controller knows.
-    pub fn table(&mut self) -> Option<Table> {
+    /// The table that the controller knows. Its image is of form B.
+    pub fn table(&self) -> Option<Table> {
         let mut bytes = [0; SECTOR_BYTES];
         match self.drive.image(&mut bytes) {
-            Answer::Wait => image::read(&bytes),
+            Answer::Wait => Some(form_b::read(&bytes).expect("the image call gives form B")),
             _ => None,
         }
+    }
+
+    /// Switches the drive off, and turns the table on the platter into its other form.
+    /// Returns that form, or why the platter has no table; then nothing is changed.
+    pub fn convert(&mut self) -> Result<Form, String> {
+        let held = table_files::held(&self.platter)?;
+        let (form, image) = table_files::turned(&held)?;
+        self.drive = Drive::new();
+        self.on = false;
+        self.last = Answer::Wait;
+        let left = Left::Held(image.to_vec());
+        self.platter.leave(Access::Write(TABLE), &image, &left);
+        Ok(form)
     }
 
     /// Makes a call and does the accesses that it leads to.
@@ -134,10 +155,13 @@ impl Board {
             Call::Feed(bytes) => self.drive.feed(buffer, bytes),
             Call::Surface(answer, bytes) => self.drive.surface(buffer, *answer, bytes),
             Call::Reset => self.drive.reset(buffer),
-            Call::Image => unreachable!("image is lent other bytes"),
+            Call::Image | Call::Convert(_) => unreachable!("it is lent other bytes"),
         };
         match call {
-            Call::Start => self.history.begin(self.platter.sectors()),
+            Call::Start => {
+                self.on = true;
+                self.history.begin(self.platter.sectors());
+            }
             _ => self.history.call(call, answer, &self.buffer),
         }
         answer
@@ -166,7 +190,7 @@ impl Board {
         self.call(&Call::Surface(outcome.answer, outcome.bytes))
     }
 
-    fn image_to_store(&mut self) -> Vec<u8> {
+    fn image_to_store(&self) -> Vec<u8> {
         let mut bytes = vec![0; SECTOR_BYTES];
         let answer = self.drive.image(&mut bytes);
         assert_eq!(answer, Answer::Wait, "a store has a table to store");

@@ -77,6 +77,9 @@ fn told(answer: Answer) -> ledgers::Answer {
             Code::Place => ledgers::Code::Place,
             Code::Answer => ledgers::Code::Answer,
             Code::Bytes => ledgers::Code::Bytes,
+            Code::Form => ledgers::Code::Form,
+            Code::Sum => ledgers::Code::Sum,
+            Code::Field => ledgers::Code::Field,
         }),
     }
 }

@@ -3,7 +3,7 @@
 use controller::{Answer, Code, Offer, GO_ON};
 use reference::drive::Call;
 use reference::geometry::{home, spare, Block, Sector};
-use reference::image::{three_bytes, Spare, Table};
+use reference::image::{three_bytes, Cause, Entry, Spare, Table};
 
 use crate::board::{Accessed, Board};
 use crate::{bus, status};
@@ -39,6 +39,7 @@ pub enum Change {
         block: Block,
         from: Sector,
         spare: usize,
+        cause: Cause,
     },
     Died {
         spare: usize,
@@ -207,26 +208,27 @@ fn changes(before: Option<&Table>, after: Option<&Table>) -> Vec<Change> {
     changes
 }
 
-fn spare_changes(old: &[Spare], new: &[Spare]) -> Vec<Change> {
+fn spare_changes(old: &[Entry], new: &[Entry]) -> Vec<Change> {
     let differing = (0..new.len()).filter(|&k| old.get(k) != Some(&new[k]));
     differing
-        .map(|k| match new[k] {
+        .map(|k| match new[k].spare {
             Spare::Dead => Change::Died { spare: k },
-            Spare::Moved(block) => moved(old, block, k),
+            Spare::Moved(block) => moved(old, block, k, new[k].cause),
         })
         .collect()
 }
 
 /// Returns the move of a block to spare `k`.
-fn moved(old: &[Spare], block: Block, k: usize) -> Change {
+fn moved(old: &[Entry], block: Block, k: usize, cause: Cause) -> Change {
     let was = old
         .iter()
-        .position(|&entry| entry == Spare::Moved(block))
+        .position(|entry| entry.spare == Spare::Moved(block))
         .and_then(spare);
     Change::Moved {
         block,
         from: was.unwrap_or(home(block)),
         spare: k,
+        cause,
     }
 }
 
@@ -278,7 +280,8 @@ mod tests {
                 Change::Moved {
                     block,
                     from,
-                    spare: 1
+                    spare: 1,
+                    cause: Cause::Crc
                 }
             ]
         );
@@ -294,7 +297,8 @@ mod tests {
                 Change::Moved {
                     block,
                     from,
-                    spare: 2
+                    spare: 2,
+                    cause: Cause::Crc
                 }
             ]
         );

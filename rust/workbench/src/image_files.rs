@@ -81,6 +81,7 @@ mod tests {
     use crate::faults::{Effect, Fault, Kind};
     use crate::files::test_folder;
     use reference::geometry::Sector;
+    use reference::image::Form;
     use std::fs;
 
     /// An image whose blocks all differ.
@@ -121,8 +122,9 @@ mod tests {
         assert_eq!(export(&platter, &second, false), Ok(vec![]));
         assert!(fs::read(&second).expect("an image") == bytes);
         assert!(fs::read(&platter).expect("a platter") == before);
-        let table = Platter::load(&platter).expect("a platter").table();
-        assert_eq!(table.expect("a table").spares().len(), 3);
+        let stored = Platter::load(&platter).expect("a platter").table();
+        let (form, table) = stored.expect("a table");
+        assert_eq!((form, table.spares().len()), (Form::B, 3));
         fs::remove_dir_all(folder).expect("removed");
     }
 

@@ -5,10 +5,12 @@
 //! controller, with `history` beside it, and `host` makes the host's commands; `bus`
 //! carries what it is sent, with the parity bit.
 //! `plan` reads a line of a plan, with its `data`, and `run` does it; `traffic` makes
-//! random commands. `health` has the figures of the health block. `show`, `status`,
-//! `trials`, `trace` and `summary` say what happened, `progress` how far a long line is,
-//! and `picture` draws it. `image_files` brings images on a platter and takes them off;
-//! `files` reads and writes all files. The command line is in the package `usage`.
+//! random commands. `health` has the figures of the health block, and `table` says the
+//! table in words. `show`, `status`, `trials`, `trace` and `summary` say what happened,
+//! `progress` how far a long line is, and `picture` draws it. `image_files` brings images
+//! on a platter and takes them off; `table_files` shows the tables of files, and turns
+//! their images into the other form; `files` reads and writes all files. The command line
+//! is in the package `usage`.
 
 pub mod board;
 pub mod bus;
@@ -28,6 +30,8 @@ pub mod show;
 pub mod status;
 pub mod summary;
 pub mod surface;
+pub mod table;
+pub mod table_files;
 pub mod trace;
 pub mod traffic;
 pub mod trials;

@@ -10,13 +10,11 @@ use std::io::{self, BufRead, BufReader, BufWriter, IsTerminal, Write};
 use std::path::Path;
 use std::process::ExitCode;
 
-use reference::geometry::SECTOR_BYTES;
-use reference::image;
 use usage::{Asked, Plan, Work};
 use workbench::picture::{self, Moment};
-use workbench::platter::Platter;
 use workbench::run::{Run, Settings, Stop};
-use workbench::{files, image_files, show};
+use workbench::table_files::Source;
+use workbench::{files, image_files, show, table_files};
 
 fn main() -> ExitCode {
     let asked = usage::asked(env::args_os().skip(1));
@@ -58,6 +56,11 @@ fn carry_out(work: Work) -> Result<bool, String> {
             image,
             keep_going,
         } => export(&platter, &image, keep_going),
+        Work::Table { source } => table(&source),
+        Work::Convert { from, to } => {
+            let done = table_files::convert(&from, &to)?;
+            say(&format!("{done}\n"))
+        }
         Work::Picture { source, to } => picture_of(&source, &to),
         Work::Timeline { plan, to } => timeline(&plan, &to),
     }
@@ -123,20 +126,17 @@ fn export(platter: &Path, image: &Path, keep_going: bool) -> Result<bool, String
     Ok(false)
 }
 
+/// Shows the table of a platter file, or of a table's image.
+fn table(source: &Path) -> Result<bool, String> {
+    let lines = table_files::lines(source)?;
+    say(&format!("{}\n", lines.join("\n")))
+}
+
 /// The picture of a platter file, or of a table's image.
-fn picture_of(source: &Path, to: &Path) -> Result<bool, String> {
-    let bytes = files::read(source)?;
-    let (table, unreadable) = match bytes.len() {
-        SECTOR_BYTES => (image::read(&bytes), vec![]),
-        _ => {
-            let platter = Platter::load(source)?;
-            let unreadable = platter.unreadable();
-            let numbers = unreadable.iter().map(|sector| sector.number()).collect();
-            (platter.table(), numbers)
-        }
-    };
-    let title = source.file_name().unwrap_or_default().to_string_lossy();
-    let svg = picture::platter(&title, table.as_ref(), &unreadable);
+fn picture_of(path: &Path, to: &Path) -> Result<bool, String> {
+    let source = Source::read(path)?;
+    let title = path.file_name().unwrap_or_default().to_string_lossy();
+    let svg = picture::platter(&title, source.table().as_ref(), &source.unreadable());
     files::write(to, svg.as_bytes())?;
     Ok(true)
 }

@@ -21,6 +21,7 @@ pub enum Line {
     Raise,
     Lower(u8),
     Table,
+    Convert,
     Read {
         blocks: Blocks,
         retry: Retry,
@@ -82,6 +83,7 @@ pub fn parse(line: &str) -> Result<Line, String> {
         "reset" => alone(Line::Reset, words),
         "raise" => alone(Line::Raise, words),
         "table" => alone(Line::Table, words),
+        "convert" => alone(Line::Convert, words),
         "health" => alone(Line::Health, words),
         "lower" => lower(words),
         "read" => read(words),

@@ -6,7 +6,7 @@ use std::collections::BTreeMap;
 use std::rc::Rc;
 
 use reference::geometry::{Sector, SECTORS, SECTOR_BYTES, TABLE};
-use reference::image::{self, Table};
+use reference::image::{self, Form, Table};
 use reference::surface::{Access, Bytes, Left, Sectors};
 
 pub use file::unreadable_file;
@@ -29,10 +29,10 @@ pub fn all_sectors() -> impl Iterator<Item = Sector> {
     (0..SECTORS).filter_map(Sector::new)
 }
 
-/// The image of an empty table.
+/// The image of an empty table, of form B with run number 0.
 pub fn empty_table() -> [u8; SECTOR_BYTES] {
-    let table = Table::new(vec![], vec![]).expect("no entries make a table");
-    image::write(&table)
+    let table = Table::new(0, vec![], vec![]).expect("no entries make a table");
+    image::write(Form::B, &table)
 }
 
 impl Platter {
@@ -79,9 +79,9 @@ impl Platter {
             .expect("a sector holds bytes or has remains")
     }
 
-    /// The table on the platter, if its sector is readable and holds one.
-    pub fn table(&self) -> Option<Table> {
-        image::read(&self.held(TABLE)?)
+    /// The table on the platter and its form, if its sector is readable and holds one.
+    pub fn table(&self) -> Option<(Form, Table)> {
+        image::read(&self.held(TABLE)?).ok()
     }
 
     /// The unreadable sectors in their order.
@@ -130,7 +130,8 @@ mod tests {
     fn a_blank_platter() {
         let platter = Platter::blank();
         assert_eq!(platter.all_bytes().len(), 5_209_344);
-        assert_eq!(platter.table(), Table::new(vec![], vec![]));
+        let empty = Table::new(0, vec![], vec![]).expect("a table");
+        assert_eq!(platter.table(), Some((Form::B, empty)));
         assert_eq!(platter.held(sector(17)).as_deref(), Some(&[0; 532][..]));
     }
 }

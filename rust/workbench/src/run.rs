@@ -16,7 +16,7 @@ use crate::picture::{Moment, Outcome};
 use crate::plan::{self, Line};
 use crate::platter::Platter;
 use crate::progress::Progress;
-use crate::{show, summary, trace};
+use crate::{show, summary, table, trace};
 
 /// How a plan is run.
 #[derive(Clone, Debug, Default)]
@@ -141,7 +141,7 @@ impl<W: Write> Run<W> {
 
     /// Does a line that was read from this text.
     fn line(&mut self, line: Line, text: &str) -> Result<(), Stop> {
-        if needs_start(&line) && self.host.board.history().starts() == 0 {
+        if needs_start(&line) && !self.host.board.is_on() {
             let message = "the drive is not started yet: a line \"start\" comes first";
             return Err(Stop::Line(String::from(message)));
         }
@@ -157,6 +157,7 @@ impl<W: Write> Run<W> {
             Line::Raise => self.single("raise", Host::raise),
             Line::Lower(byte) => self.single(&format!("lower {byte:02x}"), |h| h.lower(byte)),
             Line::Table => self.table(),
+            Line::Convert => self.convert(),
             Line::Dump(number) => self.dump(number),
             Line::Health => self.health(),
             Line::Read { blocks, retry, to } => self.read(blocks, retry, to.as_deref()),
@@ -190,13 +191,18 @@ impl<W: Write> Run<W> {
 
     fn start(&mut self) -> Result<(), Stop> {
         let report = self.host.start();
-        let found = match self.host.board.table() {
-            Some(table) => format!("table found: {}", summary::table_counts(&table, true)),
-            None => String::from("no table found"),
-        };
+        let found = self.found().unwrap_or(String::from("no table found"));
         let accesses = show::folded(&report.accesses).join(", ");
         writeln!(self.out, "start: {accesses}, {found}")?;
         self.record("start", report)
+    }
+
+    /// Says which table a start found, with the form that it has on the platter.
+    fn found(&self) -> Option<String> {
+        let table = self.host.board.table()?;
+        let (form, _) = self.host.board.platter().table()?;
+        let (form, counts) = (table::form(form, &table), table::counts(&table, true));
+        Some(format!("table found: {form}, {counts}"))
     }
 
     /// A line of the host that is no command.
@@ -247,12 +253,23 @@ impl<W: Write> Run<W> {
             writeln!(self.out, "table: no table")?;
             return Ok(());
         };
-        let counts = summary::table_counts(&table, summary::stored(&self.host));
-        writeln!(self.out, "table: {counts}")?;
-        for line in summary::table_lines(&table) {
+        let known = summary::known_table(&self.host, &table);
+        writeln!(self.out, "table: {known}")?;
+        for line in table::lines(&table) {
             writeln!(self.out, "  {line}")?;
         }
         Ok(())
+    }
+
+    /// Turns the table on the platter into its other form.
+    fn convert(&mut self) -> Result<(), Stop> {
+        let converted = self.host.board.convert();
+        let form = converted.map_err(|fault| format!("the platter has no good table, {fault}"))?;
+        let form = table::form_name(form);
+        Ok(writeln!(
+            self.out,
+            "convert: the table on the platter is of {form} now"
+        )?)
     }
 }
 
@@ -260,6 +277,6 @@ impl<W: Write> Run<W> {
 fn needs_start(line: &Line) -> bool {
     !matches!(
         line,
-        Line::Nothing | Line::Say(_) | Line::Start | Line::Fault(_)
+        Line::Nothing | Line::Say(_) | Line::Start | Line::Fault(_) | Line::Convert
     )
 }

@@ -139,13 +139,19 @@ fn offered(offer: Offer) -> &'static str {
     }
 }
 
-fn refused(code: Code) -> &'static str {
+/// Says why a call is refused.
+pub fn refused(code: Code) -> &'static str {
     match code {
         Code::Record => "the record is none that a call returned",
         Code::Buffer => "the buffer has another length",
         Code::Place => "the call is out of place",
         Code::Answer => "the surface has no such answer",
         Code::Bytes => "the bytes do not go with the answer",
+        Code::Form => {
+            "the image is neither a well-formed one of form A, nor does it begin as form B"
+        }
+        Code::Sum => "the sum of form B is wrong",
+        Code::Field => "an offset, count, entry, cause or zero of form B is wrong",
     }
 }
 
@@ -164,7 +170,9 @@ pub fn spare_changes(changes: &[Change]) -> Vec<String> {
         _ => false,
     });
     runs.filter_map(|run| match run {
-        [Change::Moved { block, from, spare }] => Some(format!(
+        [Change::Moved {
+            block, from, spare, ..
+        }] => Some(format!(
             "block {} moved from sector {} to {}",
             block.number(),
             from.number(),
@@ -205,17 +213,23 @@ pub fn spare_at(sector: Sector) -> Option<usize> {
 /// A command's end as a picture shows it.
 pub fn outcome(report: &Report) -> Outcome {
     let moved = report.changes.iter().find_map(|change| match change {
-        Change::Moved { block, spare, .. } => Some((block.number(), *spare)),
+        Change::Moved {
+            block,
+            spare,
+            cause,
+            ..
+        } => Some((block.number(), *spare, *cause)),
         _ => None,
     });
     match (report.end, moved) {
         (End::Refused(_), _) => Outcome::Refused,
         (End::Finished(bytes), _) if bytes[0] & status::NOT_55 != 0 => Outcome::None,
         (End::Finished(bytes), _) if !status::good(bytes) => Outcome::Failed,
-        (End::Finished(_), Some((block, k))) => {
-            let sector = spare_sector(k);
-            Outcome::Spared { block, sector }
-        }
+        (End::Finished(_), Some((block, k, cause))) => Outcome::Spared {
+            block,
+            sector: spare_sector(k),
+            cause,
+        },
         (End::Finished(_), None) => Outcome::Good,
         (End::Offered(_) | End::Waits, _) => Outcome::None,
     }

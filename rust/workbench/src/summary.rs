@@ -1,55 +1,21 @@
-//! The summary at the end of a run, and the table's lists.
+//! The summary at the end of a run.
 
 use reference::geometry::BLOCKS;
 use reference::image::{Spare, Table};
 
 use crate::host::Host;
-use crate::show::{count, count_or_no, ranges, spare_name};
-
-/// The lists of a table, a line for each entry of the spare list.
-pub fn table_lines(table: &Table) -> Vec<String> {
-    let mut lines: Vec<String> = table
-        .spares()
-        .iter()
-        .enumerate()
-        .map(|(k, entry)| match entry {
-            Spare::Moved(block) => format!("{}: block {}", spare_name(k), block.number()),
-            Spare::Dead => format!("{}: dead", spare_name(k)),
-        })
-        .collect();
-    lines.extend(bad_blocks(table));
-    lines
-}
-
-/// How many spares are used, how many of them are dead, how many blocks are bad,
-/// and whether the platter has all this.
-pub fn table_counts(table: &Table, stored: bool) -> String {
-    let spares = table.spares();
-    let dead = spares.iter().filter(|&&spare| spare == Spare::Dead).count();
-    let mut words = vec![match spares.len() {
-        0 => String::from("no spare used"),
-        used => format!("{used} of 32 spares used"),
-    }];
-    if dead > 0 {
-        words.push(format!("{dead} of them dead"));
-    }
-    let bads = table.bads().len() as u64;
-    words.push(count_or_no(bads, "bad block", "bad blocks"));
-    if !stored {
-        words.push(String::from("not stored yet"));
-    }
-    words.join(", ")
-}
-
-/// Bad blocks in the order of their list.
-fn bad_blocks(table: &Table) -> Option<String> {
-    let bads: Vec<u32> = table.bads().iter().map(|block| block.number()).collect();
-    (!bads.is_empty()).then(|| format!("bad blocks: {}", ranges(&bads)))
-}
+use crate::show::{count, ranges, spare_name};
+use crate::table;
 
 /// Whether all changes of the table are on the platter.
-pub fn stored(host: &Host) -> bool {
+fn stored(host: &Host) -> bool {
     !host.board.has_unstored()
+}
+
+/// Says the run number and the counts of the table that the controller knows.
+pub fn known_table(host: &Host, table: &Table) -> String {
+    let counts = table::counts(table, stored(host));
+    format!("{}, {counts}", table::run(table))
 }
 
 /// All lines of a summary but the last.
@@ -64,9 +30,9 @@ pub fn lines(host: &mut Host) -> Vec<String> {
     )];
     match host.board.table() {
         Some(table) => {
-            lines.push(format!("table: {}", table_counts(&table, stored(host))));
+            lines.push(format!("table: {}", known_table(host, &table)));
             lines.extend(places(&table));
-            lines.extend(bad_blocks(&table));
+            lines.extend(table::bad_blocks(&table));
         }
         None => lines.push(String::from("no table")),
     }
@@ -78,7 +44,7 @@ pub fn lines(host: &mut Host) -> Vec<String> {
 fn places(table: &Table) -> Vec<String> {
     let entries = table.spares().iter().enumerate();
     let moved: Vec<(u32, usize)> = entries
-        .filter_map(|(k, entry)| match entry {
+        .filter_map(|(k, entry)| match entry.spare {
             Spare::Moved(block) => Some((block.number(), k)),
             Spare::Dead => None,
         })

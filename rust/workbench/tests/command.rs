@@ -7,6 +7,7 @@ use std::path::Path;
 use std::process::Command;
 
 use common::{ended, folder, program, root};
+use reference::image::form_b;
 
 /// Runs the command in a folder. Says its exit status, its output and its messages.
 fn workbench(folder: &Path, arguments: &[&str], input: &str) -> (i32, String, String) {
@@ -23,7 +24,9 @@ fn help() {
     let here = folder("help");
     let (status, out, _) = workbench(&here, &["--help"], "");
     assert_eq!(status, 0);
-    for word in ["week", "run", "import", "export", "picture", "timeline"] {
+    for word in [
+        "week", "run", "import", "export", "table", "convert", "picture", "timeline",
+    ] {
         assert!(out.contains(&format!("\n  workbench {word} ")), "{word}");
     }
     fs::remove_dir_all(here).expect("removed");
@@ -40,6 +43,9 @@ fn wrong_arguments() {
         &["run", "--fast"],
         &["run", "week", "latch"],
         &["import", "none"],
+        &["table"],
+        &["table", "none"],
+        &["convert", "none", "out"],
         &["picture", "none", "out.svg"],
         &["timeline", "week"],
     ] {
@@ -124,6 +130,105 @@ fn images_and_pictures() {
     fs::remove_dir_all(here).expect("removed");
 }
 
+/// Makes a platter whose block 17 moved past a dead spare, and hands back the image of
+/// its table.
+fn moved_past_a_dead_spare(here: &Path) -> Vec<u8> {
+    let plan = "fault sector 17 writes all unreadable\nfault sector 4928 writes all timeout\n\
+                start\nwrite-verify 17 \"one\"\nraise\n";
+    let (status, _, _) = workbench(here, &["run", "--platter", "p"], plan);
+    assert_eq!(status, 0);
+    let platter = fs::read(here.join("p")).expect("a platter");
+    platter[4960 * 532..][..532].to_vec()
+}
+
+#[test]
+fn tables_are_shown_and_converted() {
+    let here = folder("tables");
+    let image = moved_past_a_dead_spare(&here);
+    fs::write(here.join("b.image"), &image).expect("written");
+    let of_b = "form B, run number 1, 2 of 32 spares used, 1 of them dead, no bad block\n  \
+                spare 0 (sector 4928): dead, timeout\n  spare 1 (sector 4929): block 17, timeout\n";
+    for name in ["p", "b.image"] {
+        let shown = workbench(&here, &["table", name], "");
+        assert_eq!(shown, (0, format!("{name}: {of_b}"), String::new()));
+    }
+    let (status, out, message) = workbench(&here, &["convert", "b.image", "a.image"], "");
+    let said = "a.image: the table of b.image in form A, without its run number and causes\n";
+    assert_eq!((status, out.as_str(), message.as_str()), (0, said, ""));
+    let (_, out, _) = workbench(&here, &["table", "a.image"], "");
+    let of_a = "a.image: form A, 2 of 32 spares used, 1 of them dead, no bad block\n  \
+                spare 0 (sector 4928): dead, cause unknown\n  \
+                spare 1 (sector 4929): block 17, cause unknown\n";
+    assert_eq!(out, of_a);
+
+    let (status, out, _) = workbench(&here, &["convert", "a.image", "c.image"], "");
+    let said = "c.image: the table of a.image in form B, with run number 0 and no cause known\n";
+    assert_eq!((status, out.as_str()), (0, said));
+    workbench(&here, &["convert", "c.image", "d.image"], "");
+    let read = |name| fs::read(here.join(name)).expect("an image");
+    assert!(read("d.image") == read("a.image"));
+    assert!(read("c.image") != image);
+    fs::remove_dir_all(here).expect("removed");
+}
+
+#[test]
+fn what_is_no_table_is_refused_and_nothing_is_written() {
+    let here = folder("no-tables");
+    let image = moved_past_a_dead_spare(&here);
+    let changed = |place: usize| {
+        let mut image = image.clone();
+        image[place] ^= 0x04;
+        image
+    };
+    // No cause is 6; the sum goes with it.
+    let mut cause = changed(19);
+    let sum = form_b::sum(&cause[..530]);
+    cause[530..].copy_from_slice(&sum.to_be_bytes());
+    for (bytes, code) in [
+        (
+            image[..531].to_vec(),
+            "2: it has 531 bytes, and an image has 532",
+        ),
+        (
+            changed(0),
+            "6: the image is neither a well-formed one of form A, nor does it begin as form B",
+        ),
+        (changed(531), "7: the sum of form B is wrong"),
+        (
+            cause,
+            "8: an offset, count, entry, cause or zero of form B is wrong: a cause",
+        ),
+    ] {
+        fs::write(here.join("t"), &bytes).expect("written");
+        let words = format!("workbench: t is no table's image, code {code}\n");
+        let refused = workbench(&here, &["convert", "t", "out"], "");
+        assert_eq!(refused, (2, String::new(), words.clone()));
+        assert_eq!(fs::read(here.join("t")).expect("as it was"), bytes);
+        assert!(!here.join("out").exists() && !here.join("out.new").exists());
+        let (status, out, message) = workbench(&here, &["table", "t"], "");
+        assert_eq!((status, out.as_str()), (2, ""));
+        let other_length = "workbench: t has 531 bytes and is neither a platter";
+        assert!(
+            message == words || message.starts_with(other_length),
+            "{message}"
+        );
+    }
+    fs::write(here.join("t"), &image).expect("written");
+    let (status, _, message) = workbench(&here, &["convert", "t", "p"], "");
+    assert_eq!(status, 2);
+    assert!(message.contains("p is there already"), "{message}");
+    let (status, _, message) = workbench(&here, &["convert", "t", "none/out"], "");
+    assert_eq!(status, 2);
+    assert!(message.contains("none/out cannot be written"), "{message}");
+    let (status, _, message) = workbench(&here, &["picture", "p.unreadable", "out"], "");
+    assert_eq!(status, 2);
+    assert!(
+        message.contains("nor a table's image, which has 532"),
+        "{message}"
+    );
+    fs::remove_dir_all(here).expect("removed");
+}
+
 /// Draws, and hands back the picture.
 fn picture(here: &Path, command: &str, from: &str) -> String {
     let (status, out, message) = workbench(here, &[command, from, "out.svg"], "");
@@ -141,7 +246,7 @@ fn pictures() {
     let lost = "start\nfault sector 30 writes next 1 unreadable\nwrite 30 \"lost\"\n";
     let (status, _, _) = workbench(&here, &["run", "--platter", "p"], lost);
     assert_eq!(status, 0);
-    let line = ">block 17 → spare 0 (sector 4928)</text>";
+    let line = ">spare 0: block 17, CRC error</text>";
     let svg = picture(&here, "picture", "p");
     assert!(svg.contains(line) && svg.contains(", 1 unreadable sector<"));
 

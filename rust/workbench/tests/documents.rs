@@ -55,6 +55,17 @@ fn the_guide_shows_lines_of_health() {
 }
 
 #[test]
+fn the_guide_shows_a_table_of_form_b() {
+    let lines = shown(GUIDE, "In the middle of `plans/form-b.plan` that is\n");
+    assert_eq!(lines.len(), 5);
+    let output = include_str!("../../../plans/form-b.expected");
+    let (_, after) = output.split_once("\nStarted again: ").expect("a start");
+    let (_, found) = lines[0].split_once(": ").expect("a name");
+    let start = format!("start: 1 read, table found: {found}");
+    agree(&[&[start.as_str()], &lines[1..]].concat(), after);
+}
+
+#[test]
 fn the_guide_lists_the_plans() {
     let (_, rest) = GUIDE
         .split_once("## The repository's plans\n")

@@ -1,31 +1,23 @@
+-- `bumivondra::bv_surface` meets its contract.
 use denote.Ref.{now}
-use Rattle.drive.specs.Results.{changed}
 use Rattle.drive.specs.Calls.{stepOf}
 use Rattle.drive.specs.Calls as call
-use Rattle.calls.specs.Gives.{handed}
-use Rattle.packed.specs.Packing.{tableAt, unpackOf}
+use Rattle.calls.specs.Gives.{notesOf, handed, alteredOf}
+use Rattle.packed.specs.Packing.{unpackOf}
 use Rattle.crossing.proofs.Crossed.{shows}
 use borrow.Author.Needs.{needs}
 use Rattle.bumivondra.proofs.bv_surface.Statement.{statement}
 use Rattle.bumivondra.proofs.bv_surface.Tie as tie
-use Rattle.bumivondra.proofs.bv_surface.Reads as reads
-use Rattle.bumivondra.proofs.bv_surface.Lts as lts
-use Rattle.crossing.proofs.settle.Reads as settle-reads
-use Rattle.crossing.proofs.surface.Reads as surface-reads
 
--- src/lib.rt:44:9
 surface-requires : tie.Need-surface-requires
 surface-requires c κs = search needs
 
--- src/lib.rt:45:5
 settle-requires : tie.Need-settle-requires
 settle-requires c κs = search needs
 
--- src/lib.rt:40:1
 same-length : tie.Need-same-length
 same-length c = search needs
 
--- src/lib.rt:40:1
 returns : tie.Need-returns
 returns c =
     let c1 = c .before .before .before .before in
@@ -33,7 +25,7 @@ returns c =
     let a = c2 .args in
     let w = now (a .drive) in
     let x = c1 .surface .result in
-    shows w _ _ (stepOf (call.surface (a .a) (now (a .bytes))) (unpackOf w) (now (a .buf))) (handed (changed (x .change) (tableAt w) (now (a .bytes))) x) _ (c1 .surface .ensures .gives) (c .settle .ensures .0) (c .settle .ensures .1)
+    shows w _ _ (stepOf (call.surface (a .a) (now (a .bytes))) (unpackOf w) (now (a .buf))) (handed (alteredOf (x .change) (notesOf (unpackOf w)) (now (a .bytes))) x) _ (c1 .surface .ensures .gives) (c .settle .ensures .0) (c .settle .ensures .1)
 
 pub bv-surface-spec : {M : Type 1} → statement M
 bv-surface-spec = tie.close (tie.spec surface-requires settle-requires same-length returns)

@@ -22,14 +22,14 @@ enum-told c = search needs
 
 feed-requires : tie.Need-feed-requires
 feed-requires c κs =
-    let u = now (c .before .before .before .before .before .before .before .args .buf) in
+    let u = now (c .before .before .before .before .before .before .before .before .args .buf) in
     let z = sound _ (length u) 536 (c .before .before .guard .ensures) (c .enum-told .given .1) in
     (z .count, z .fed)
 
 put-requires : tie.Need-put-requires
 put-requires c κs =
     let p = c .before .before .before in
-    let u = now (c .before .before .before .before .before .before .before .before .before .before .args .buf) in
+    let u = now (c .before .before .before .before .before .before .before .before .before .before .before .args .buf) in
     let z = sound _ (length u) 536 (p .before .before .guard .ensures) (p .enum-told .given .1) in
     (z .long, z .spares, z .bads)
 

@@ -9,28 +9,37 @@ use Rattle.calls.proofs.guard.Tie as tie
 lists-ok-requires : tie.Need-lists-ok-requires
 lists-ok-requires c κs = search needs
 
+causes-ok-requires : tie.Need-causes-ok-requires
+causes-ok-requires c κs = search needs
+
 state-ok-requires : tie.Need-state-ok-requires
 state-ok-requires c κs = search needs
 
 returns : tie.Need-returns
 unfolding recordOk
 returns c =
-    let q = c .before .before in
-    rw (← q .lists-ok .ensures, ← c .before .state-ok .ensures, not-true (q .lists-ok .result && c .before .state-ok .result) (c .if1 .taken))
+    let a = c .before .before .before .lists-ok in
+    let b = c .before .before .causes-ok in
+    let d = c .before .state-ok in
+    rw (← a .ensures, ← b .ensures, ← d .ensures, not-true (a .result && b .result && d .result) (c .if1 .taken))
 
 returns-2 : tie.Need-returns-2
 unfolding recordOk
 returns-2 c =
-    let q = c .before .before .before in
-    let p = c .before .before in
-    rw (← q .lists-ok .ensures, ← p .state-ok .ensures, not-false (q .lists-ok .result && p .state-ok .result) (c .before .if1 .left), not-true (q .before .before .before .args .fits) (c .if2 .taken))
+    let a = c .before .before .before .before .lists-ok in
+    let b = c .before .before .before .causes-ok in
+    let d = c .before .before .state-ok in
+    rw (← a .ensures, ← b .ensures, ← d .ensures, not-false (a .result && b .result && d .result) (c .before .if1 .left), not-true (c .before .before .before .before .before .before .before .before .args .fits) (c .if2 .taken))
 
 returns-3 : tie.Need-returns-3
 unfolding recordOk
 returns-3 c =
-    let q = c .before .before .before in
-    let p = c .before .before in
-    rw (← q .lists-ok .ensures, ← p .state-ok .ensures, not-false (q .lists-ok .result && p .state-ok .result) (c .before .if1 .left), not-false (q .before .before .before .args .fits) (c .if2 .left))
+    let a = c .before .before .before .before .lists-ok in
+    let b = c .before .before .before .causes-ok in
+    let d = c .before .before .state-ok in
+    rw (← a .ensures, ← b .ensures, ← d .ensures, not-false (a .result && b .result && d .result) (c .before .if1 .left), not-false (c .before .before .before .before .before .before .before .before .args .fits) (c .if2 .left))
 
 pub guard-spec : {M : Type 1} → statement M
-guard-spec = tie.close (tie.spec lists-ok-requires state-ok-requires returns returns-2 returns-3)
+guard-spec =
+    tie.close
+    (tie.spec lists-ok-requires causes-ok-requires state-ok-requires returns returns-2 returns-3)

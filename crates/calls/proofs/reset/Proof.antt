@@ -30,7 +30,7 @@ returns c = refused _ _ (c .before .before .before .before .guard .ensures) _ _ 
 returns-2 : tie.Need-returns-2
 unfolding stepOf resetOf
 returns-2 c =
-    let u = now (c .before .before .before .before .before .before .before .args .buf) in
+    let u = now (c .before .before .before .before .before .before .before .before .args .buf) in
     given _ u (c .before .before .before .guard .ensures) [] _ (c .before .enum-told .given .1) (c .reset .ensures) (reset-leaves _ _ _ [] u (c .reset .ensures)) (reset-keeps _ _)
 
 pub reset-spec : {M : Type 1} → statement M

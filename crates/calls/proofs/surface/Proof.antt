@@ -26,18 +26,18 @@ enum-told : tie.Need-enum-told
 enum-told c = search needs
 
 equal-requires : tie.Need-equal-requires
-equal-requires c κs = sound _ (length (now (c .before .before .before .before .before .before .before .before .args .buf))) 536 (c .before .before .before .guard .ensures) (c .before .enum-told .given .1) .long
+equal-requires c κs = sound _ (length (now (c .before .before .before .before .before .before .before .before .before .args .buf))) 536 (c .before .before .before .guard .ensures) (c .before .enum-told .given .1) .long
 
 surface-requires : tie.Need-surface-requires
 surface-requires c κs =
-    let u = now (c .before .before .before .before .before .before .before .before .before .args .buf) in
+    let u = now (c .before .before .before .before .before .before .before .before .before .before .args .buf) in
     let z = sound _ (length u) 536 (c .before .before .before .before .guard .ensures) (c .before .before .enum-told .given .1) in
     (z .spares, z .state)
 
 put-requires : tie.Need-put-requires
 put-requires c κs =
     let p = c .before .before .before .before .before in
-    let u = now (c .before .before .before .before .before .before .before .before .before .before .before .before .args .buf) in
+    let u = now (c .before .before .before .before .before .before .before .before .before .before .before .before .before .args .buf) in
     let z = sound _ (length u) 536 (p .before .before .guard .ensures) (p .enum-told .given .1) in
     (z .long, z .spares, z .bads)
 
@@ -56,7 +56,7 @@ returns-2 : tie.Need-returns-2
 unfolding stepOf surfaceOf
 returns-2 c =
     let p = c .before .before .before .before .before .before .before .before in
-    let a = p .before .before .before .before .before .before .before .args in
+    let a = p .before .before .before .before .before .before .before .before .args in
     let t = lent (now (a .spares)) (a .n) (now (a .bads)) (a .m) in
     let x = c .before .before .before .before .before .surface in
     let k = x .ensures ∙ ap (λ (q : Bool). answered (a .l .phase) (a .l) (lent [] (a .n) (now (a .bads)) (a .m)) (a .a) (now (a .bytes)) q) (c .before .before .before .before .before .before .equal .ensures) ∙ no-spares (a .l .phase) (a .l) (now (a .spares)) (now (a .bads)) (a .n) (a .m) (a .a) (now (a .bytes)) _ in

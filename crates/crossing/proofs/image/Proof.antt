@@ -1,3 +1,4 @@
+-- `crossing::image` meets its contract.
 use mathlib.Core.Path.{ap, _∙_}
 use denote.Ref.{now}
 use Rattle.drive.specs.declared.Drive.{Drive}
@@ -7,29 +8,19 @@ use Rattle.crossing.specs.Crossing.{shown, replyOf}
 use borrow.Author.Needs.{needs}
 use Rattle.crossing.proofs.image.Statement.{statement}
 use Rattle.crossing.proofs.image.Tie as tie
-use Rattle.crossing.proofs.image.Reads as reads
-use Rattle.crossing.proofs.image.Lts as lts
-use Rattle.calls.proofs.Controller.image.Reads as image-reads
-use Rattle.crossing.proofs.record_at.Reads as record-at-reads
-use Rattle.crossing.proofs.reply_of.Reads as reply-of-reads
 
--- src/lib.rt:198:16
 record-at-requires : tie.Need-record-at-requires
 record-at-requires c κs = search needs
 
--- src/lib.rt:198:9
 image-requires : tie.Need-image-requires
 image-requires c κs = search needs
 
--- src/lib.rt:200:5
 reply-of-requires : tie.Need-reply-of-requires
 reply-of-requires c κs = search needs
 
--- src/lib.rt:194:1
 same-length : tie.Need-same-length
 same-length c = search needs
 
--- src/lib.rt:194:1
 returns : tie.Need-returns
 returns c =
     let c1 = c .before .before .before in

@@ -1,3 +1,4 @@
+-- `crossing::keep` meets its contract.
 use mathlib.Core.Path.{_∙_}
 use native.Mathlib.Omega.{arith}
 use borrow.Author.Tests.{eq-eqb, ne-eqb}
@@ -6,16 +7,10 @@ use Rattle.crossing.proofs.Crossed.{left-where-refused, written-where-n
 use borrow.Author.Needs.{needs}
 use Rattle.crossing.proofs.keep.Statement.{statement}
 use Rattle.crossing.proofs.keep.Tie as tie
-use Rattle.crossing.proofs.keep.Reads as reads
-use Rattle.crossing.proofs.keep.Lts as lts
-use Rattle.crossing.proofs.reply_of.Reads as reply-of-reads
-use Rattle.packed.proofs.put_state.Reads as put-state-reads
 
--- src/lib.rt:65:9
 reply-of-requires : tie.Need-reply-of-requires
 reply-of-requires c κs = search needs
 
--- src/lib.rt:67:9
 returns : tie.Need-returns
 returns c =
     let c1 = c .before .before in
@@ -24,15 +19,12 @@ returns c =
     let e = c1 .reply-of .ensures in
     (e, left-where-refused a e _ _ (eq-eqb _ _ (c .if1 .taken)))
 
--- src/lib.rt:70:5
 put-state-requires : tie.Need-put-state-requires
 put-state-requires c κs = search needs
 
--- src/lib.rt:60:1
 same-length : tie.Need-same-length
 same-length c = search needs
 
--- src/lib.rt:60:1
 returns-2 : tie.Need-returns-2
 returns-2 c =
     let c1 = c .before .before in
@@ -44,7 +36,7 @@ returns-2 c =
     let w = now (a .w) in
     let e = c3 .reply-of .ensures in
     let k = c4 .slice-known .given in
-    let s = c1 .put-state .ensures ∙ state-packed w (search needs) (omega (arith, k 19)) (omega (arith, k 20)) (a .x .state) in
+    let s = c1 .put-state .ensures ∙ state-packed w (search needs) (omega (arith, k 22)) (omega (arith, k 23)) (a .x .state) in
     (e, s ∙ written-where-not (a .x .answer) e w _ (ne-eqb _ _ (c2 .if1 .left)))
 
 pub keep-spec : {M : Type 1} → statement M

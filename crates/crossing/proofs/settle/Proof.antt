@@ -1,3 +1,4 @@
+-- `crossing::settle` meets its contract.
 use mathlib.Core.Path.{sym, ap, _∙_}
 use mathlib.Core.List.{List, _++_}
 use Prim.Native.Nat.{ℕ}
@@ -5,27 +6,21 @@ use native.Mathlib.Omega.{arith}
 use borrow.Author.Tests.{eq-eqb, ne-eqb}
 use lib.ListN.{take, drop}
 use denote.Ref.{now}
-use Rattle.table.specs.declared.Table.{Table}
-use Rattle.drive.specs.Results.{changed}
-use Rattle.packed.specs.Packing.{packState, packTable, tableAt}
+use Rattle.calls.specs.declared.tables.Noted.{Noted}
+use Rattle.calls.specs.Gives.{notesOf, alteredOf}
+use Rattle.packed.specs.Packing.{packState, unpackOf}
+use Rattle.crossing.specs.Crossing.{noteWords}
 use Rattle.crossing.proofs.Crossed.{same-where-refused, written-where-not, state-packed, table-stays, both-packed}
 use borrow.Author.Needs.{needs}
 use Rattle.crossing.proofs.settle.Statement.{statement}
 use Rattle.crossing.proofs.settle.Tie as tie
-use Rattle.crossing.proofs.settle.Reads as reads
-use Rattle.crossing.proofs.settle.Lts as lts
-use Rattle.crossing.proofs.alter.Reads as alter-reads
-use Rattle.crossing.proofs.keep.Reads as keep-reads
 
--- src/lib.rt:155:9
 keep-requires : tie.Need-keep-requires
 keep-requires c κs = search needs
 
--- src/lib.rt:157:9
 same-length : tie.Need-same-length
 same-length c = search needs
 
--- src/lib.rt:157:9
 returns : tie.Need-returns
 returns c =
     let c1 = c .before .before .before .before in
@@ -33,15 +28,12 @@ returns c =
     let e = c1 .keep .ensures in
     (e .0, e .1 ∙ same-where-refused (c2 .args .x .answer) (e .0) _ _ _ (eq-eqb _ _ (c .if1 .taken)))
 
--- src/lib.rt:160:5
 alter-requires : tie.Need-alter-requires
 alter-requires c κs = search needs
 
--- src/lib.rt:151:1
 same-length-2 : tie.Need-same-length-2
 same-length-2 c = search needs
 
--- src/lib.rt:151:1
 returns-2 : tie.Need-returns-2
 returns-2 c =
     let c1 = c .before .before in
@@ -56,12 +48,12 @@ returns-2 c =
     let k = c4 .slice-known .given in
     let e = c3 .keep .ensures in
     let n = ne-eqb _ _ (c2 .if1 .left) in
-    let s = e .1 ∙ sym (written-where-not (a .x .answer) (e .0) w _ n) ∙ sym (state-packed w (search needs) (omega (arith, k 19)) (omega (arith, k 20)) l) in (
+    let s = e .1 ∙ sym (written-where-not (a .x .answer) (e .0) w _ n) ∙ sym (state-packed w (search needs) (omega (arith, k 22)) (omega (arith, k 23)) l) in (
       e .0,
       c1 .alter .ensures
-          ∙ ap (λ (v : List ℕ). take 19 v ++ packTable (changed (a .x .change) (tableAt v) bs)) s
-          ∙ ap (λ (t : Table). take 19 (packState l ++ drop 19 w) ++ packTable (changed (a .x .change) t bs)) (table-stays w l)
-          ∙ both-packed (drop 19 w) l (changed (a .x .change) (tableAt w) bs)
+          ∙ ap (λ (v : List ℕ). take 22 v ++ noteWords (alteredOf (a .x .change) (notesOf (unpackOf v)) bs)) s
+          ∙ ap (λ (k : Noted). take 22 (packState l ++ drop 22 w) ++ noteWords (alteredOf (a .x .change) k bs)) (table-stays w l)
+          ∙ both-packed (drop 22 w) l (alteredOf (a .x .change) (notesOf (unpackOf w)) bs)
           ∙ written-where-not (a .x .answer) (e .0) w _ n,
     )
 

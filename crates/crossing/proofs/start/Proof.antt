@@ -1,3 +1,4 @@
+-- `crossing::start` meets its contract.
 use mathlib.Core.Path.{ap, _∙_}
 use mathlib.Core.List.{List, _++_}
 use Prim.Native.Nat.{ℕ}
@@ -6,41 +7,28 @@ use lib.ListN.{take, drop}
 use denote.Ref.{now}
 use Rattle.drive.specs.declared.Drive.{Drive}
 use Rattle.drive.specs.Calls.{startOf}
-use Rattle.packed.specs.Packing.{packTable}
-use Rattle.crossing.specs.Crossing.{crossed}
+use Rattle.calls.specs.Gives.{notesOf}
+use Rattle.crossing.specs.Crossing.{crossed, noteWords}
 use Rattle.crossing.proofs.Crossed.{left-where-refused, written-where-not, shows, both-packed}
 use borrow.Author.Needs.{needs}
 use Rattle.crossing.proofs.start.Statement.{statement}
 use Rattle.crossing.proofs.start.Tie as tie
-use Rattle.crossing.proofs.start.Reads as reads
-use Rattle.crossing.proofs.start.Lts as lts
-use Rattle.calls.proofs.Controller.start.Reads as start-reads
-use Rattle.crossing.proofs.record_at.Reads as record-at-reads
-use Rattle.crossing.proofs.reply_of.Reads as reply-of-reads
-use Rattle.packed.proofs.put_state.Reads as put-state-reads
-use Rattle.packed.proofs.put_table.Reads as put-table-reads
 
--- src/lib.rt:179:16
 record-at-requires : tie.Need-record-at-requires
 record-at-requires c κs = search needs
 
--- src/lib.rt:179:9
 start-requires : tie.Need-start-requires
 start-requires c κs = search needs
 
--- src/lib.rt:181:9
 reply-of-requires : tie.Need-reply-of-requires
 reply-of-requires c κs = search needs
 
--- src/lib.rt:183:9
 same-length : tie.Need-same-length
 same-length c = search needs
 
--- src/lib.rt:183:9
 same-length-2 : tie.Need-same-length-2
 same-length-2 c = search needs
 
--- src/lib.rt:183:9
 returns : tie.Need-returns
 returns c =
     let c1 = c .before .before in
@@ -55,28 +43,23 @@ returns c =
     shows w w _ (startOf (c3 .record-at .result .0) u) s _ (c2 .start .ensures) e (left-where-refused (s .answer) e w _ (eq-eqb _ _ (c .if1 .taken)))
     ∙ ap (λ (d : Drive). crossed w (startOf d u)) (c3 .record-at .ensures)
 
--- src/lib.rt:188:5
 put-state-requires : tie.Need-put-state-requires
 put-state-requires c κs = search needs
 
--- src/lib.rt:189:5
 put-table-requires : tie.Need-put-table-requires
 put-table-requires c κs = search needs
 
--- src/lib.rt:175:1
 same-length-3 : tie.Need-same-length-3
 same-length-3 c = search needs
 
--- src/lib.rt:175:1
 same-length-4 : tie.Need-same-length-4
 same-length-4 c = search needs
 
--- src/lib.rt:175:1
 returns-2 : tie.Need-returns-2
 returns-2 c =
     let c1 = c .before .before in
     let c2 = c1 .before .before .before .before in
-    let c3 = c2 .before .before .before .before .before in
+    let c3 = c2 .before .before .before .before .before .before in
     let c4 = c3 .before .before in
     let c5 = c4 .before .before .before in
     let c6 = c5 .before .before in
@@ -86,9 +69,9 @@ returns-2 c =
     let u = now (a .buf) in
     let s = c5 .start .result in
     let l = s .drive .state in
-    let t = s .drive .table in
+    let n = notesOf (s .drive) in
     let e = c4 .reply-of .ensures in
-    let k = c1 .put-table .ensures ∙ ap (λ (v : List ℕ). take 19 v ++ packTable t) (c2 .put-state .ensures) ∙ both-packed (drop 19 w) l t in
+    let k = c1 .put-table .ensures ∙ ap (λ (v : List ℕ). take 22 v ++ noteWords n) (c2 .put-state .ensures) ∙ both-packed (drop 22 w) l n in
     shows w _ _ (startOf (c6 .record-at .result .0) u) s _ (c5 .start .ensures) e (k ∙ written-where-not (s .answer) e w _ (ne-eqb _ _ (c3 .if1 .left)))
     ∙ ap (λ (d : Drive). crossed w (startOf d u)) (c6 .record-at .ensures)
 

@@ -1,3 +1,6 @@
+-- `crossing::surface` meets its contract.
+use mathlib.Core.List.{List}
+use Prim.Native.Nat.{ℕ}
 use denote.Ref.{now}
 use Rattle.table.specs.declared.Table.{Table}
 use Rattle.drive.specs.declared.State.{State}
@@ -6,51 +9,37 @@ use Rattle.crossing.proofs.Crossed.{of-words}
 use borrow.Author.Needs.{needs}
 use Rattle.crossing.proofs.surface.Statement.{statement}
 use Rattle.crossing.proofs.surface.Tie as tie
-use Rattle.crossing.proofs.surface.Reads as reads
-use Rattle.crossing.proofs.surface.Lts as lts
-use Rattle.calls.proofs.surface.Reads as surface-reads
-use Rattle.packed.proofs.bads.Reads as bads-reads
-use Rattle.packed.proofs.number.Reads as number-reads
-use Rattle.packed.proofs.spares.Reads as spares-reads
-use Rattle.packed.proofs.state_at.Reads as state-at-reads
 
--- src/lib.rt:104:28
 shared-slice-read-number : tie.Need-shared-slice-read-number
 shared-slice-read-number c = search needs
 
--- src/lib.rt:104:9
 number-requires : tie.Need-number-requires
 number-requires c κs = search needs
 
--- src/lib.rt:105:28
 shared-slice-read-number-2 : tie.Need-shared-slice-read-number-2
 shared-slice-read-number-2 c = search needs
 
--- src/lib.rt:105:9
 number-requires-2 : tie.Need-number-requires-2
 number-requires-2 c κs = search needs
 
--- src/lib.rt:106:9
 state-at-requires : tie.Need-state-at-requires
 state-at-requires c κs = search needs
 
--- src/lib.rt:107:20
 spares-requires : tie.Need-spares-requires
 spares-requires c κs = search needs
 
--- src/lib.rt:107:42
 bads-requires : tie.Need-bads-requires
 bads-requires c κs = search needs
 
--- src/lib.rt:107:5
+causes-requires : tie.Need-causes-requires
+causes-requires c κs = search needs
+
 surface-requires : tie.Need-surface-requires
 surface-requires c κs = search needs
 
--- src/lib.rt:100:1
 same-length : tie.Need-same-length
 same-length c = search needs
 
--- src/lib.rt:100:1
 returns : tie.Need-returns
 returns c =
     let c1 = c .before .before in
@@ -58,10 +47,10 @@ returns c =
     let c3 = c2 .before in
     let c4 = c3 .before in
     let c5 = c4 .before in
-    let c6 = c5 .before .before in
-    let c7 = c6 .before .before .before .before .before in
-    let a = c7 .args in
-    of-words (now (a .w)) (λ (t : Table) (l : State). Answers (a .a) (now (a .bytes)) t l (now (a .buf)) (c1 .surface .result) (c1 .surface .last .1 .1 .1 .1 .1 .0)) (c3 .spares .ensures) (c6 .number .ensures) (c2 .bads .ensures) (c5 .number2 .ensures) (c4 .state-at .ensures) (c1 .surface .ensures)
+    let c6 = c5 .before in
+    let c7 = c6 .before .before in
+    let a = c7 .before .before .before .before .before .args in
+    of-words (now (a .w)) (λ (t : Table) (cs : List ℕ) (l : State). Answers (a .a) (now (a .bytes)) t cs l (now (a .buf)) (c1 .surface .result) (c1 .surface .last .1 .1 .1 .1 .1 .1 .0)) (c4 .spares .ensures) (c7 .number .ensures) (c3 .bads .ensures) (c6 .number2 .ensures) (c2 .causes .ensures) (c5 .state-at .ensures) (c1 .surface .ensures)
 
 pub surface-spec : {M : Type 1} → statement M
 surface-spec =
@@ -74,6 +63,7 @@ surface-spec =
     state-at-requires
     spares-requires
     bads-requires
+    causes-requires
     surface-requires
     same-length
     returns)

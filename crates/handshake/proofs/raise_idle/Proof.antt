@@ -8,6 +8,9 @@ use Rattle.handshake.proofs.raise_idle.Tie as tie
 stores-first-requires : tie.Need-stores-first-requires
 stores-first-requires c κs = search needs
 
+numbered-requires : tie.Need-numbered-requires
+numbered-requires c κs = search needs
+
 in-phase-requires : tie.Need-in-phase-requires
 in-phase-requires c κs = search needs
 
@@ -16,7 +19,7 @@ say-requires c κs = search needs
 
 returns : tie.Need-returns
 unfolding raisedIdle
-returns c = rw (c .say .ensures, c .before .in-phase .ensures, sym (c .before .before .before .stores-first .ensures) ∙ c .before .before .if1 .taken)
+returns c = rw (c .say .ensures, c .before .in-phase .ensures, c .before .before .numbered .ensures, sym (c .before .before .before .before .stores-first .ensures) ∙ c .before .before .before .if1 .taken)
 
 offer-requires : tie.Need-offer-requires
 offer-requires c κs = search needs
@@ -30,6 +33,7 @@ raise-idle-spec =
     tie.close
     (tie.spec
     stores-first-requires
+    numbered-requires
     in-phase-requires
     say-requires
     returns

@@ -1,9 +1,7 @@
--- `image::read_image` meets its contract, test by test.
-use mathlib.Core.Path.{sym, _∙_}
-use native.Mathlib.Omega.{arith}
-use borrow.Author.Tests.{ne-eqb}
-use Rattle.image.proofs.Reading.{frame, read-framed, read-unframed}
-use Rattle.image.specs.Images.{readOf, wellFormed}
+-- `image::read_image` meets its contract: the length, then the form decides.
+use borrow.Author.Tests.{eq-eqb, ne-eqb}
+use Rattle.image.proofs.Reading.{read-short, read-b, read-a}
+use mathlib.Core.Path.{_≡_, sym, _∙_}
 use borrow.Author.Needs.{needs}
 use Rattle.image.proofs.read_image.Statement.{statement}
 use Rattle.image.proofs.read_image.Tie as tie
@@ -12,43 +10,22 @@ no-image-requires : tie.Need-no-image-requires
 no-image-requires c κs = search needs
 
 returns : tie.Need-returns
-unfolding readOf wellFormed
-returns c = rw (c .no-image .ensures, ne-eqb _ _ (c .before .if1 .taken))
+returns c = c .no-image .ensures ∙ read-short (c .before .before .before .args .s .now) (ne-eqb _ _ (c .before .if1 .taken))
 
-shared-slice-read-n : tie.Need-shared-slice-read-n
-shared-slice-read-n c = search needs
+is-form-b-requires : tie.Need-is-form-b-requires
+is-form-b-requires c κs = search needs
 
-cast-n : tie.Need-cast-n
-cast-n c = omega (arith, c .before .before .shared-slice-known .given 24)
-
-shared-slice-read-m : tie.Need-shared-slice-read-m
-shared-slice-read-m c = search needs
-
-cast-m : tie.Need-cast-m
-cast-m c = omega (arith, c .before .before .before .shared-slice-known .given 25)
-
-is-framed-requires : tie.Need-is-framed-requires
-is-framed-requires c κs = search needs
-
-load-lists-requires : tie.Need-load-lists-requires
-load-lists-requires c κs =
-    let f = frame _ _ _ (sym (c .before .is-framed .ensures) ∙ c .if2 .taken) in
-    (omega arith, f .spares, f .bads)
+read-requires : tie.Need-read-requires
+read-requires c κs = search needs
 
 returns-2 : tie.Need-returns-2
-returns-2 c =
-    let b = c .before .before in
-    let s = b .before .before .before .before .before .args .s .now in
-    rw (c .load-lists .ensures) (read-framed s (omega arith) (sym (b .is-framed .ensures) ∙ c .before .if2 .taken))
+returns-2 c = c .read .ensures ∙ read-b (c .before .before .before .before .before .args .s .now) (eq-eqb _ _ (c .before .before .before .if1 .left)) (sym (c .before .before .is-form-b .ensures) ∙ c .before .if2 .taken)
 
-no-image-requires-2 : tie.Need-no-image-requires-2
-no-image-requires-2 c κs = search needs
+read-requires-2 : tie.Need-read-requires-2
+read-requires-2 c κs = search needs
 
 returns-3 : tie.Need-returns-3
-returns-3 c =
-    let b = c .before .before in
-    let s = b .before .before .before .before .before .args .s .now in
-    rw (c .no-image2 .ensures) (read-unframed s (omega arith) (sym (b .is-framed .ensures) ∙ c .before .if2 .left))
+returns-3 c = c .read2 .ensures ∙ read-a (c .before .before .before .before .before .args .s .now) (eq-eqb _ _ (c .before .before .before .if1 .left)) (sym (c .before .before .is-form-b .ensures) ∙ c .before .if2 .left)
 
 pub read-image-spec : {M : Type 1} → statement M
 read-image-spec =
@@ -56,12 +33,8 @@ read-image-spec =
     (tie.spec
     no-image-requires
     returns
-    shared-slice-read-n
-    cast-n
-    shared-slice-read-m
-    cast-m
-    is-framed-requires
-    load-lists-requires
+    is-form-b-requires
+    read-requires
     returns-2
-    no-image-requires-2
+    read-requires-2
     returns-3)

@@ -1,61 +1,45 @@
+-- `packed::command_at` meets its contract.
 use mathlib.Core.List.{[], _∷_}
 use borrow.Author.Needs.{needs}
 use Rattle.packed.proofs.command_at.Statement.{statement}
 use Rattle.packed.proofs.command_at.Tie as tie
-use Rattle.packed.proofs.command_at.Reads as reads
-use Rattle.packed.proofs.command_at.Lts as lts
-use Rattle.packed.proofs.high.Reads as high-reads
-use Rattle.packed.proofs.low.Reads as low-reads
 
--- src/lib.rt:361:13
 shared-slice-read-low : tie.Need-shared-slice-read-low
 shared-slice-read-low c = search needs
 
--- src/lib.rt:361:9
 low-requires : tie.Need-low-requires
 low-requires c κs = search needs
 
--- src/lib.rt:362:14
 shared-slice-read-high : tie.Need-shared-slice-read-high
 shared-slice-read-high c = search needs
 
--- src/lib.rt:362:9
 high-requires : tie.Need-high-requires
 high-requires c κs = search needs
 
--- src/lib.rt:363:13
 shared-slice-read-low-2 : tie.Need-shared-slice-read-low-2
 shared-slice-read-low-2 c = search needs
 
--- src/lib.rt:363:9
 low-requires-2 : tie.Need-low-requires-2
 low-requires-2 c κs = search needs
 
--- src/lib.rt:364:14
 shared-slice-read-high-2 : tie.Need-shared-slice-read-high-2
 shared-slice-read-high-2 c = search needs
 
--- src/lib.rt:364:9
 high-requires-2 : tie.Need-high-requires-2
 high-requires-2 c κs = search needs
 
--- src/lib.rt:365:13
 shared-slice-read-low-3 : tie.Need-shared-slice-read-low-3
 shared-slice-read-low-3 c = search needs
 
--- src/lib.rt:365:9
 low-requires-3 : tie.Need-low-requires-3
 low-requires-3 c κs = search needs
 
--- src/lib.rt:366:14
 shared-slice-read-high-3 : tie.Need-shared-slice-read-high-3
 shared-slice-read-high-3 c = search needs
 
--- src/lib.rt:366:9
 high-requires-3 : tie.Need-high-requires-3
 high-requires-3 c κs = search needs
 
--- src/lib.rt:356:1
 returns : tie.Need-returns
 returns c =
     let c1 = c .before .before in

@@ -1,43 +1,32 @@
+-- `packed::marks_at` meets its contract.
 use borrow.Author.Needs.{needs}
 use Rattle.packed.proofs.marks_at.Statement.{statement}
 use Rattle.packed.proofs.marks_at.Tie as tie
-use Rattle.packed.proofs.marks_at.Reads as reads
-use Rattle.packed.proofs.marks_at.Lts as lts
-use Rattle.packed.proofs.flag.Reads as flag-reads
 
--- src/lib.rt:326:21
 shared-slice-read-flag : tie.Need-shared-slice-read-flag
 shared-slice-read-flag c = search needs
 
--- src/lib.rt:326:16
 flag-requires : tie.Need-flag-requires
 flag-requires c κs = search needs
 
--- src/lib.rt:327:23
 shared-slice-read-flag-2 : tie.Need-shared-slice-read-flag-2
 shared-slice-read-flag-2 c = search needs
 
--- src/lib.rt:327:18
 flag-requires-2 : tie.Need-flag-requires-2
 flag-requires-2 c κs = search needs
 
--- src/lib.rt:328:21
 shared-slice-read-flag-3 : tie.Need-shared-slice-read-flag-3
 shared-slice-read-flag-3 c = search needs
 
--- src/lib.rt:328:16
 flag-requires-3 : tie.Need-flag-requires-3
 flag-requires-3 c κs = search needs
 
--- src/lib.rt:329:21
 shared-slice-read-flag-4 : tie.Need-shared-slice-read-flag-4
 shared-slice-read-flag-4 c = search needs
 
--- src/lib.rt:329:16
 flag-requires-4 : tie.Need-flag-requires-4
 flag-requires-4 c κs = search needs
 
--- src/lib.rt:321:1
 returns : tie.Need-returns
 returns c =
     let c1 = c .before .before in

@@ -1,5 +1,6 @@
 -- `packed::pack_state` meets its contract.
 use mathlib.Core.List.{[], _∷_}
+use Prim.Native.Nat.{_/_, _%_}
 use Rattle.packed.specs.declared.Stage.{Stage}
 use Rattle.packed.specs.Packing.{stateWords, packState}
 use mathlib.Core.Path.{ap, _∙_}
@@ -85,10 +86,16 @@ array-read-pair-6 c = search needs
 pair-requires-6 : tie.Need-pair-requires-6
 pair-requires-6 c κs = search needs
 
+cast-t44 : tie.Need-cast-t44
+cast-t44 c = search needs
+
+cast-t46 : tie.Need-cast-t46
+cast-t46 c = search needs
+
 returns : tie.Need-returns
 unfolding packState
 returns c =
-    let c1 = c .before in
+    let c1 = c .before .before in
     let c2 = c1 .before in
     let c3 = c2 .before in
     let c4 = c3 .before in
@@ -100,16 +107,17 @@ returns c =
     let c10 = c9 .before in
     let c11 = c10 .before in
     let c12 = c11 .before in
-    let c13 = c12 .before .before in
-    let c14 = c13 .before in
+    let c13 = c12 .before in
+    let c14 = c13 .before .before in
     let c15 = c14 .before in
     let c16 = c15 .before in
     let c17 = c16 .before in
     let c18 = c17 .before in
-    let l = c18 .before .before .before .args .l in
-    _∙_ {b = stateWords (l .marks) (c18 .stage-of .result) l}
-    (λ i. (c17 .bit .ensures) i ∷ (c16 .bit2 .ensures) i ∷ (c15 .bit3 .ensures) i ∷ (c14 .bit4 .ensures) i ∷ (c13 .pair .ensures) i ∷ (c12 .word .ensures) i ∷ c18 .stage-of .result .block ∷ (c11 .pair2 .ensures) i ∷ (c10 .pair3 .ensures) i ∷ (c9 .bit5 .ensures) i ∷ (c8 .bit6 .ensures) i ∷ (c7 .bit7 .ensures) i ∷ (c6 .bit8 .ensures) i ∷ (c5 .bit9 .ensures) i ∷ (c4 .word2 .ensures) i ∷ (c3 .word3 .ensures) i ∷ (c2 .pair4 .ensures) i ∷ (c1 .pair5 .ensures) i ∷ (c .pair6 .ensures) i ∷ [])
-    (ap (λ (s : Stage). stateWords (l .marks) s l) (c18 .stage-of .ensures))
+    let c19 = c18 .before in
+    let l = c19 .before .before .before .args .l in
+    _∙_ {b = stateWords (l .marks) (c19 .stage-of .result) l}
+    (λ i. (c18 .bit .ensures) i ∷ (c17 .bit2 .ensures) i ∷ (c16 .bit3 .ensures) i ∷ (c15 .bit4 .ensures) i ∷ (c14 .pair .ensures) i ∷ (c13 .word .ensures) i ∷ c19 .stage-of .result .block ∷ (c12 .pair2 .ensures) i ∷ (c11 .pair3 .ensures) i ∷ (c10 .bit5 .ensures) i ∷ (c9 .bit6 .ensures) i ∷ (c8 .bit7 .ensures) i ∷ (c7 .bit8 .ensures) i ∷ (c6 .bit9 .ensures) i ∷ (c5 .word2 .ensures) i ∷ (c4 .word3 .ensures) i ∷ (c3 .pair4 .ensures) i ∷ (c2 .pair5 .ensures) i ∷ (c1 .pair6 .ensures) i ∷ c19 .stage-of .result .memory ∷ l .run % 65536 ∷ l .run / 65536 ∷ [])
+    (ap (λ (s : Stage). stateWords (l .marks) s l) (c19 .stage-of .ensures))
 
 pub pack-state-spec : {M : Type 1} → statement M
 pack-state-spec =
@@ -141,4 +149,6 @@ pack-state-spec =
     array-read-pair-5
     array-read-pair-6
     pair-requires-6
+    cast-t44
+    cast-t46
     returns)

@@ -1,116 +1,88 @@
+-- `packed::stage_at` meets its contract.
 use lib.ListN.{getD}
 use denote.Ref.{now}
 use borrow.Author.Needs.{needs}
 use Rattle.packed.proofs.stage_at.Statement.{statement}
 use Rattle.packed.proofs.stage_at.Tie as tie
-use Rattle.packed.proofs.stage_at.Reads as reads
-use Rattle.packed.proofs.stage_at.Lts as lts
-use Rattle.packed.proofs.flag.Reads as flag-reads
-use Rattle.packed.proofs.high.Reads as high-reads
-use Rattle.packed.proofs.low.Reads as low-reads
-use Rattle.packed.proofs.wide.Reads as wide-reads
 
--- src/lib.rt:339:19
 shared-slice-read-low : tie.Need-shared-slice-read-low
 shared-slice-read-low c = search needs
 
--- src/lib.rt:339:15
 low-requires : tie.Need-low-requires
 low-requires c κs = search needs
 
--- src/lib.rt:340:22
 shared-slice-read-high : tie.Need-shared-slice-read-high
 shared-slice-read-high c = search needs
 
--- src/lib.rt:340:17
 high-requires : tie.Need-high-requires
 high-requires c κs = search needs
 
--- src/lib.rt:341:22
 shared-slice-read-wide : tie.Need-shared-slice-read-wide
 shared-slice-read-wide c = search needs
 
--- src/lib.rt:341:17
 wide-requires : tie.Need-wide-requires
 wide-requires c κs = search needs
 
--- src/lib.rt:342:16
 shared-slice-read-t12 : tie.Need-shared-slice-read-t12
 shared-slice-read-t12 c = search needs
 
--- src/lib.rt:343:19
+shared-slice-read-t14 : tie.Need-shared-slice-read-t14
+shared-slice-read-t14 c = search needs
+
 shared-slice-read-low-2 : tie.Need-shared-slice-read-low-2
 shared-slice-read-low-2 c = search needs
 
--- src/lib.rt:343:15
 low-requires-2 : tie.Need-low-requires-2
 low-requires-2 c κs = search needs
 
--- src/lib.rt:344:22
 shared-slice-read-high-2 : tie.Need-shared-slice-read-high-2
 shared-slice-read-high-2 c = search needs
 
--- src/lib.rt:344:17
 high-requires-2 : tie.Need-high-requires-2
 high-requires-2 c κs = search needs
 
--- src/lib.rt:345:20
 shared-slice-read-low-3 : tie.Need-shared-slice-read-low-3
 shared-slice-read-low-3 c = search needs
 
--- src/lib.rt:345:16
 low-requires-3 : tie.Need-low-requires-3
 low-requires-3 c κs = search needs
 
--- src/lib.rt:346:25
 shared-slice-read-high-3 : tie.Need-shared-slice-read-high-3
 shared-slice-read-high-3 c = search needs
 
--- src/lib.rt:346:20
 high-requires-3 : tie.Need-high-requires-3
 high-requires-3 c κs = search needs
 
--- src/lib.rt:347:21
 shared-slice-read-flag : tie.Need-shared-slice-read-flag
 shared-slice-read-flag c = search needs
 
--- src/lib.rt:347:16
 flag-requires : tie.Need-flag-requires
 flag-requires c κs = search needs
 
--- src/lib.rt:348:20
 shared-slice-read-flag-2 : tie.Need-shared-slice-read-flag-2
 shared-slice-read-flag-2 c = search needs
 
--- src/lib.rt:348:15
 flag-requires-2 : tie.Need-flag-requires-2
 flag-requires-2 c κs = search needs
 
--- src/lib.rt:349:21
 shared-slice-read-flag-3 : tie.Need-shared-slice-read-flag-3
 shared-slice-read-flag-3 c = search needs
 
--- src/lib.rt:349:16
 flag-requires-3 : tie.Need-flag-requires-3
 flag-requires-3 c κs = search needs
 
--- src/lib.rt:350:19
 shared-slice-read-flag-4 : tie.Need-shared-slice-read-flag-4
 shared-slice-read-flag-4 c = search needs
 
--- src/lib.rt:350:14
 flag-requires-4 : tie.Need-flag-requires-4
 flag-requires-4 c κs = search needs
 
--- src/lib.rt:351:23
 shared-slice-read-flag-5 : tie.Need-shared-slice-read-flag-5
 shared-slice-read-flag-5 c = search needs
 
--- src/lib.rt:351:18
 flag-requires-5 : tie.Need-flag-requires-5
 flag-requires-5 c κs = search needs
 
--- src/lib.rt:334:1
 returns : tie.Need-returns
 returns c =
     let c1 = c .before .before in
@@ -121,15 +93,16 @@ returns c =
     let c6 = c5 .before .before in
     let c7 = c6 .before .before in
     let c8 = c7 .before .before in
-    let c9 = c8 .before .before .before in
+    let c9 = c8 .before .before .before .before in
     let c10 = c9 .before .before in
     let c11 = c10 .before .before in
-    let c12 = c11 .before .before .before in
+    let w = now (c11 .before .before .before .args .w) in
     λ i. record {
       kind = (c11 .low .ensures) i;
       detail = (c10 .high .ensures) i;
       sector = (c9 .wide .ensures) i;
-      block = getD (now (c12 .args .w)) 6 0;
+      block = getD w 6 0;
+      memory = getD w 19 0;
       left = (c8 .low2 .ensures) i;
       errors = (c7 .high2 .ensures) i;
       spent = (c6 .low3 .ensures) i;
@@ -152,6 +125,7 @@ stage-at-spec =
     shared-slice-read-wide
     wide-requires
     shared-slice-read-t12
+    shared-slice-read-t14
     shared-slice-read-low-2
     low-requires-2
     shared-slice-read-high-2

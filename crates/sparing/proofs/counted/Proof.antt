@@ -12,22 +12,24 @@ fault-requires c κs = search needs
 met-requires : tie.Need-met-requires
 met-requires c κs = search needs
 
+last-after-requires : tie.Need-last-after-requires
+last-after-requires c κs = search needs
+
 bit-requires : tie.Need-bit-requires
 bit-requires c κs = search needs
 
-add-t8 : tie.Need-add-t8
-add-t8 c = search needs
+add-t14 : tie.Need-add-t14
+add-t14 c = search needs
 
-add-t10 : tie.Need-add-t10
-add-t10 c =
-    let b = c .before .before in
-    let a = b .before .before .before .before .before in
-    omega (arith, b .bit .ensures, one-more (a .args .equal) .1, a .pre .0, a .pre .1)
+add-t15 : tie.Need-add-t15
+add-t15 c =
+    let a = c .before .before .before .before .before .before .before .before in
+    omega (arith, c .before .before .bit .ensures, one-more (a .args .equal) .1, a .pre .0, a .pre .1)
 
 returns : tie.Need-returns
-returns c =
-    let a = c .before .before .before .before .before .before .before .args in
-    rw (c .before .before .bit .ensures ∙ one-more (a .equal) .0, c .before .before .before .met .ensures, c .before .before .before .before .fault .ensures)
+returns c = rw (c .before .before .bit .ensures ∙ one-more (c .before .before .before .before .before .before .before .before .args .equal) .0, c .before .before .before .last-after .ensures, c .before .before .before .before .met .ensures, c .before .before .before .before .before .fault .ensures)
 
 pub counted-spec : {M : Type 1} → statement M
-counted-spec = tie.close (tie.spec fault-requires met-requires bit-requires add-t8 add-t10 returns)
+counted-spec =
+    tie.close
+    (tie.spec fault-requires met-requires last-after-requires bit-requires add-t14 add-t15 returns)

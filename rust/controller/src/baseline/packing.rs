@@ -1,7 +1,8 @@
 //! The baseline's record from the library's numbers and back, for the comparison
 //! on records that no call returned.
 
-use super::{Drive, Phase, Read, Rereads, Seen, Trial, Write};
+use super::table::{Cause, Table};
+use super::{Drive, Failures, Phase, Read, Rereads, Seen, Trial, Write};
 use crate::fields::{Fields, Flags, Stage};
 use crate::raw::kind;
 use crate::Offer;
@@ -11,10 +12,14 @@ impl Drive {
     pub fn unpacked(numbers: &Fields) -> Drive {
         let flags = numbers.flags;
         Drive {
-            spares: numbers.spares,
-            bads: numbers.bads,
-            nspares: numbers.nspares.into(),
-            nbads: numbers.nbads.into(),
+            table: Table {
+                spares: numbers.spares,
+                causes: numbers.causes,
+                bads: numbers.bads,
+                nspares: numbers.nspares.into(),
+                nbads: numbers.nbads.into(),
+                run: numbers.run,
+            },
             known: flags.known != 0,
             changed: flags.changed != 0,
             latch: flags.latch != 0,
@@ -28,11 +33,14 @@ impl Drive {
 
     /// Gives the numbers of the record.
     pub fn packed(&self) -> Fields {
+        let table = &self.table;
         Fields {
-            spares: self.spares,
-            bads: self.bads,
-            nspares: self.nspares as u16,
-            nbads: self.nbads as u16,
+            spares: table.spares,
+            causes: table.causes,
+            bads: table.bads,
+            nspares: table.nspares as u16,
+            nbads: table.nbads as u16,
+            run: table.run,
             count: self.count as u16,
             fed: self.fed as u16,
             stage: stage(&self.phase),
@@ -98,6 +106,25 @@ fn trial(stage: &Stage) -> Trial {
         sector: stage.sector.into(),
         spare: stage.spare != 0,
         seen: seen(stage),
+        failures: failures(stage.remembered),
+    }
+}
+
+fn failures(word: u16) -> Failures {
+    Failures {
+        last: cause(word),
+        before: cause(word / 4),
+        present: cause(word / 16),
+    }
+}
+
+/// Returns the cause of the two lowest bits.
+fn cause(word: u16) -> Cause {
+    match word % 4 {
+        0 => Cause::Unknown,
+        1 => Cause::Crc,
+        2 => Cause::Timeout,
+        _ => Cause::NoSettle,
     }
 }
 
@@ -175,8 +202,13 @@ fn of_trial(kind: u8, trial: &Trial, rereads: &Rereads) -> Stage {
         sector: trial.sector as u16,
         spent: rereads.failures,
         spare: trial.spare.into(),
+        remembered: of_failures(&trial.failures),
         ..of_seen(&trial.seen)
     }
+}
+
+fn of_failures(failures: &Failures) -> u16 {
+    failures.last as u16 + 4 * failures.before as u16 + 16 * failures.present as u16
 }
 
 fn of_seen(seen: &Seen) -> Stage {

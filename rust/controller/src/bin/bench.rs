@@ -1,6 +1,6 @@
 //! The library against the baseline, ordinary Rust over a `&mut` record: four
-//! commands, each with tables of three sizes. `tools/bench` has the instructions
-//! counted too.
+//! commands, the image call and converts, each with tables of three sizes.
+//! `tools/bench` has the instructions counted too.
 
 use std::env;
 use std::hint::black_box;
@@ -15,7 +15,8 @@ use reference::rng::Rng;
 const USAGE: &str = "\
 usage: bench                                    time, and the records' sizes
        bench WHO WHAT SPARES BADS TIMES         one kind of work, to count instructions:
-                                                library or baseline; read, write, table or longest
+                                                library or baseline; read, write, table, longest,
+                                                image or convert
        bench calls WHAT SPARES                  how many calls the work has
 ";
 
@@ -86,6 +87,10 @@ enum What {
     Table,
     /// The longest read: R is 255 and all fails that may.
     Longest,
+    /// The image call.
+    Image,
+    /// A convert of form A into form B, and one back.
+    Convert,
 }
 
 impl What {
@@ -95,6 +100,8 @@ impl What {
             "write" => Some(What::Write),
             "table" => Some(What::Table),
             "longest" => Some(What::Longest),
+            "image" => Some(What::Image),
+            "convert" => Some(What::Convert),
             _ => None,
         }
     }
@@ -106,6 +113,8 @@ impl What {
             What::Write => 8 + 1,
             What::Table => 5,
             What::Longest => 5 + longest(spares),
+            What::Image => 1,
+            What::Convert => 2,
         }
     }
 }
@@ -132,6 +141,9 @@ trait Calls: Clone {
     fn feed(&mut self, buffer: &mut [u8], bytes: &[u8]);
     /// Whether a command is finished by it.
     fn surface(&mut self, buffer: &mut [u8], answer: u8, bytes: &[u8]) -> bool;
+    /// Whether it is answered by wait, as is convert.
+    fn image(&self, lent: &mut [u8]) -> bool;
+    fn convert(from: &[u8], to: &mut [u8]) -> bool;
 }
 
 impl Calls for raw::Drive {
@@ -161,6 +173,15 @@ impl Calls for raw::Drive {
         let (from, n) = (bytes.as_ptr(), bytes.len());
         unsafe { raw::bv_surface(self, buf, len, answer, from, n) }.kind == 5
     }
+
+    fn image(&self, lent: &mut [u8]) -> bool {
+        unsafe { raw::bv_image(self, lent.as_mut_ptr(), lent.len()) }.kind == 0
+    }
+
+    fn convert(from: &[u8], to: &mut [u8]) -> bool {
+        let (buf, len) = (to.as_mut_ptr(), to.len());
+        unsafe { raw::bv_convert(from.as_ptr(), from.len(), buf, len) }.kind == 0
+    }
 }
 
 impl Calls for baseline::Drive {
@@ -187,6 +208,14 @@ impl Calls for baseline::Drive {
     fn surface(&mut self, buffer: &mut [u8], answer: u8, bytes: &[u8]) -> bool {
         baseline::Drive::surface(self, buffer, answer, bytes) == Answer::Finished
     }
+
+    fn image(&self, lent: &mut [u8]) -> bool {
+        baseline::Drive::image(self, lent) == Answer::Wait
+    }
+
+    fn convert(from: &[u8], to: &mut [u8]) -> bool {
+        baseline::convert(from, to) == Answer::Wait
+    }
 }
 
 /// A drive with a table, and the work on it.
@@ -197,6 +226,9 @@ struct Work<D> {
     drive: D,
     buffer: [u8; BUFFER],
     bytes: [u8; SECTOR_BYTES],
+    /// The table's image in form A, and bytes to write another into.
+    image: Vec<u8>,
+    lent: [u8; SECTOR_BYTES],
     spares: usize,
 }
 
@@ -217,6 +249,8 @@ impl<D: Calls> Work<D> {
             drive,
             buffer,
             bytes: [0x5A; SECTOR_BYTES],
+            image,
+            lent: [0; SECTOR_BYTES],
             spares,
         }
     }
@@ -233,52 +267,67 @@ impl<D: Calls> Work<D> {
         drive.raise(buffer);
         drive.lower(buffer)
     }
+
+    /// A write command; whether it is finished.
+    fn write(&mut self) -> bool {
+        self.begin(1, BLOCK);
+        let (drive, buffer) = (&mut self.drive, &mut self.buffer[..]);
+        drive.feed(buffer, &self.bytes);
+        drive.raise(buffer);
+        drive.lower(buffer);
+        drive.surface(buffer, 0, &[])
+    }
+
+    /// The longest read; whether it is finished.
+    fn longest(&mut self) -> bool {
+        self.drive = self.began.clone();
+        let mut finished = self.begin(0, BLOCK);
+        let (drive, buffer) = (&mut self.drive, &mut self.buffer[..]);
+        for _ in 1..READS {
+            drive.surface(buffer, 1, &self.bytes);
+        }
+        drive.surface(buffer, 0, &self.bytes);
+        for access in 0..longest(self.spares) - READS {
+            finished = match access % (1 + REREADS) {
+                0 => drive.surface(buffer, 0, &[]),
+                _ => drive.surface(buffer, 1, &self.bytes),
+            };
+        }
+        finished
+    }
+
+    /// Two converts; whether both are taken.
+    fn convert(&mut self) -> bool {
+        D::convert(&self.image, &mut self.lent) && D::convert(&self.lent, &mut self.bytes)
+    }
 }
 
 impl<D: Calls> Once for Work<D> {
     fn once(&mut self) {
-        if self.what == What::Longest {
-            self.drive = self.began.clone();
-        }
-        let mut finished = match self.what {
-            What::Write => self.begin(1, BLOCK),
+        let finished = match self.what {
+            What::Read => {
+                self.begin(0, BLOCK);
+                self.drive.surface(&mut self.buffer, 0, &self.bytes)
+            }
+            What::Write => self.write(),
             What::Table => self.begin(0, TABLE_IMAGE),
-            What::Read | What::Longest => self.begin(0, BLOCK),
+            What::Longest => self.longest(),
+            What::Image => self.drive.image(&mut self.lent),
+            What::Convert => self.convert(),
         };
-        let (drive, buffer) = (&mut self.drive, &mut self.buffer[..]);
-        match self.what {
-            What::Table => {}
-            What::Read => finished = drive.surface(buffer, 0, &self.bytes),
-            What::Write => {
-                drive.feed(buffer, &self.bytes);
-                drive.raise(buffer);
-                drive.lower(buffer);
-                finished = drive.surface(buffer, 0, &[]);
-            }
-            What::Longest => {
-                for _ in 1..READS {
-                    drive.surface(buffer, 1, &self.bytes);
-                }
-                drive.surface(buffer, 0, &self.bytes);
-                for access in 0..longest(self.spares) - READS {
-                    finished = match access % (1 + REREADS) {
-                        0 => drive.surface(buffer, 0, &[]),
-                        _ => drive.surface(buffer, 1, &self.bytes),
-                    };
-                }
-            }
-        }
-        assert!(finished, "the command is over with its last call");
+        assert!(finished, "the work is over with its last call");
     }
 }
 
 const SIZES: [(usize, usize); 3] = [(0, 0), (10, 10), (32, 100)];
 
-const WORKS: [(&str, What, u32); 4] = [
+const WORKS: [(&str, What, u32); 6] = [
     ("read", What::Read, 2000),
     ("write", What::Write, 1500),
     ("table", What::Table, 1500),
     ("longest", What::Longest, 4),
+    ("image", What::Image, 5000),
+    ("convert", What::Convert, 2500),
 ];
 
 /// Short runs, so that one of them is not disturbed.

@@ -7,13 +7,13 @@ use std::process::ExitCode;
 
 use controller::compare::beside::{Beside, Fate, MOST_LENT};
 use controller::compare::trial::{self, length};
-use controller::compare::{bounds, clauses, damage};
+use controller::compare::{bounds, clauses, converts, damage, stores};
 use controller::fields::Fields;
 use reference::compare::Plan;
 use reference::controller::{Awaited, Offer, Phase};
 use reference::coverage;
 use reference::drive::Call;
-use reference::images::draft::Draft;
+use reference::images::draft_b::{summed, DraftB};
 use reference::rng::Rng;
 use reference::script::{self, Line};
 use reference::surface::{near_miss, plain_bytes};
@@ -65,6 +65,8 @@ fn compared(plan: &Plan, tally: &mut Tally) -> Result<usize, String> {
     let mut rng = Rng::new(plan.first);
     let sides = code_1(&mut rng, tally)?;
     tally.verifies = trial::every_place(&mut rng)?;
+    tally.converts = converts::all(&mut rng)?.calls();
+    tally.stores = stores::all()?;
     for record in damage::sweep() {
         tried(&record, &mut rng, tally)
             .map_err(|difference| format!("a record with one field changed: {difference}"))?;
@@ -104,6 +106,8 @@ struct Tally {
     short_calls: u64,
     lengths: u64,
     verifies: u64,
+    converts: u64,
+    stores: u64,
     records: u64,
     no_phase: u64,
     refused: u64,
@@ -118,7 +122,8 @@ impl Tally {
     }
 
     fn calls(&self) -> u64 {
-        self.listed + self.short_calls + self.lengths + self.verifies + self.damaged()
+        let lists = self.listed + self.short_calls + self.lengths + self.stores;
+        lists + self.verifies + self.converts + self.damaged()
     }
 
     /// Says what agreed; so many names of code 1 were met.
@@ -135,6 +140,11 @@ impl Tally {
             self.short_lists,
             self.lengths,
             self.verifies
+        );
+        println!(
+            "{} converts of images that are whole, broken in each clause or damaged, \
+             {} calls from every kind of run number",
+            self.converts, self.stores
         );
         println!(
             "{} calls on {} damaged records: {} with no such phase, {} with 1, \
@@ -183,7 +193,8 @@ fn list(seed: u64, calls: usize, tally: &mut Tally) -> Result<(), String> {
 /// A call of a list's end, with a buffer of every length.
 fn lengths(beside: &Beside, rng: &mut Rng, tally: &mut Tally) -> Result<(), String> {
     for length in 0..=MOST_LENT {
-        for call in [any(rng), fitting(beside, rng), Call::Image] {
+        let convert = Call::Convert(image(rng));
+        for call in [any(rng), fitting(beside, rng), Call::Image, convert] {
             let lend = Some(length);
             one(&mut beside.clone(), &Line { lend, call })?;
             tally.lengths += 1;
@@ -219,7 +230,7 @@ fn fitting(beside: &Beside, rng: &mut Rng) -> Call {
     let phase = beside.phase();
     match (phase.awaited(), phase) {
         (Some(Awaited::Read), Phase::Starting { .. }) if rng.one_in(2) => {
-            Call::Surface(0, Draft::of_any_size(rng).bytes())
+            Call::Surface(0, image(rng))
         }
         (Some(Awaited::Read), _) => match rng.below(10) {
             0 => Call::Surface(3, vec![]),
@@ -258,9 +269,31 @@ fn command(rng: &mut Rng) -> Call {
     Call::Feed(bytes)
 }
 
+/// An image of either form, one in four with a byte changed and often the right sum.
+fn image(rng: &mut Rng) -> Vec<u8> {
+    let draft = DraftB::of_any_size(rng);
+    let of_b = rng.one_in(2);
+    let mut bytes = match of_b {
+        true => draft.bytes(),
+        false => draft.form_a().bytes(),
+    };
+    if !rng.one_in(4) {
+        return bytes;
+    }
+    let place = match rng.below(3) {
+        0 => rng.place(bytes.len()),
+        _ => rng.place(40),
+    };
+    bytes[place] = rng.other_byte(bytes[place]);
+    match of_b && rng.one_in(2) {
+        true => summed(bytes),
+        false => bytes,
+    }
+}
+
 /// Any call with any arguments.
 fn any(rng: &mut Rng) -> Call {
-    match rng.below(9) {
+    match rng.below(10) {
         0 => Call::Start,
         1 | 2 => Call::Raise,
         3 => Call::Lower(rng.pick(&[0x55, 0x55, 0x54, 0, 0xFF])),
@@ -274,8 +307,18 @@ fn any(rng: &mut Rng) -> Call {
             Call::Surface(answer, vec![rng.byte(); count])
         }
         7 => Call::Reset,
+        8 => convert(rng),
         _ => Call::Image,
     }
+}
+
+/// A convert, one in eight of bytes that are not 532.
+fn convert(rng: &mut Rng) -> Call {
+    let mut bytes = image(rng);
+    if rng.one_in(8) {
+        bytes.resize(rng.pick(&[0, 1, 4, 26, 530, 531, 533, 536, 1064]), 0);
+    }
+    Call::Convert(bytes)
 }
 
 /// The seven calls on a damaged record; says whether code 1 refused it.

@@ -2,6 +2,7 @@
 
 use std::format;
 use std::string::String;
+use std::vec;
 use std::vec::Vec;
 
 use reference::controller as other;
@@ -11,7 +12,7 @@ use reference::image;
 use super::mapping::{alike, record_of, settled};
 use crate::baseline;
 use crate::fields::Fields;
-use crate::{Answer, Code, Drive, BUFFER, SECTOR_BYTES};
+use crate::{convert, Answer, Code, Drive, BUFFER, SECTOR_BYTES};
 
 /// The longest buffer that is lent.
 pub const MOST_LENT: usize = 600;
@@ -20,7 +21,7 @@ pub const MOST_LENT: usize = 600;
 const MARGIN: usize = 16;
 const MARK: u8 = 0xA5;
 
-/// What an image call is lent.
+/// What an image call is lent, and what the second buffer of a convert holds.
 const LENT: u8 = 0xEE;
 
 /// Lent bytes between two margins.
@@ -105,34 +106,13 @@ impl Beside {
         let returned = self.reference.lend(lend, call);
         let wanted = told(returned.answer);
 
-        let answer = if *call == Call::Image {
-            let image = returned.image.unwrap_or_default();
-            let length = lend.unwrap_or(SECTOR_BYTES);
-            let full = [LENT; SECTOR_BYTES];
-            let mut lent = Lent::new(&full, length);
-            let answer = self.library.image(lent.bytes_mut());
-            if !lent.margins_stay() {
-                return Err(String::from("bytes around the lent ones were changed"));
+        let image = returned.image.unwrap_or_default();
+        let answer = match call {
+            Call::Image => self.image_call(lend.unwrap_or(SECTOR_BYTES), &image, wanted)?,
+            Call::Convert(from) => {
+                convert_call(lend.unwrap_or(SECTOR_BYTES), from, &image, wanted)?
             }
-            // Of another length than 532 they must be as they were.
-            let left = match length {
-                SECTOR_BYTES => Lent::new(&image, length),
-                _ => Lent::new(&full, length),
-            };
-            if lent.bytes() != left.bytes() {
-                return Err(String::from("the image is another"));
-            }
-            let mut second = Lent::new(&full, length);
-            let base = self.baseline.image(second.bytes_mut());
-            if base != wanted || second.bytes() != left.bytes() {
-                return Err(format!("the baseline answers {base:?}, not {wanted:?}"));
-            }
-            if self.library != before {
-                return Err(String::from("an image call changed the record"));
-            }
-            answer
-        } else {
-            self.lent_call(lend.unwrap_or(BUFFER), call, wanted)?
+            _ => self.lent_call(lend.unwrap_or(BUFFER), call, wanted)?,
         };
 
         if answer != wanted {
@@ -151,6 +131,34 @@ impl Beside {
             )),
             Some(_) => Ok(answer),
         }
+    }
+
+    /// An image call with a buffer of this length, in which the reference left this.
+    fn image_call(&self, length: usize, image: &[u8], wanted: Answer) -> Result<Answer, String> {
+        let before = self.library.clone();
+        let full = [LENT; SECTOR_BYTES];
+        let mut lent = Lent::new(&full, length);
+        let answer = self.library.image(lent.bytes_mut());
+        if !lent.margins_stay() {
+            return Err(String::from("bytes around the lent ones were changed"));
+        }
+        // Of another length than 532 they must be as they were.
+        let left = match length {
+            SECTOR_BYTES => Lent::new(image, length),
+            _ => Lent::new(&full, length),
+        };
+        if lent.bytes() != left.bytes() {
+            return Err(String::from("the image is another"));
+        }
+        let mut second = Lent::new(&full, length);
+        let base = self.baseline.image(second.bytes_mut());
+        if base != wanted || second.bytes() != left.bytes() {
+            return Err(format!("the baseline answers {base:?}, not {wanted:?}"));
+        }
+        if self.library != before {
+            return Err(String::from("an image call changed the record"));
+        }
+        Ok(answer)
     }
 
     /// A call with a buffer of this length.
@@ -190,6 +198,40 @@ impl Beside {
     }
 }
 
+/// A convert whose second buffer has this length, in which the reference left this.
+fn convert_call(length: usize, from: &[u8], left: &[u8], wanted: Answer) -> Result<Answer, String> {
+    let full = vec![LENT; length];
+    let given = from.to_vec();
+    let mut lent = Lent::new(&full, length);
+    let answer = convert(&given, lent.bytes_mut());
+    if !lent.margins_stay() || given != from {
+        return Err(String::from("bytes beside the second buffer were changed"));
+    }
+    if lent.bytes() != left {
+        return Err(String::from("the converted image is another"));
+    }
+    let mut second = Lent::new(&full, length);
+    let base = baseline::convert(from, second.bytes_mut());
+    if base != wanted || second.bytes() != left {
+        return Err(format!("the baseline answers {base:?}, not {wanted:?}"));
+    }
+    Ok(answer)
+}
+
+/// Converts these bytes into a second buffer of this length on all implementations,
+/// and says what is not the same. Gives that buffer too.
+pub fn converted(from: &[u8], length: usize) -> Result<(Answer, Vec<u8>), String> {
+    let mut left = vec![LENT; length];
+    let wanted = told(other::convert(from, &mut left));
+    let answer = convert_call(length, from, &left, wanted)?;
+    if answer != wanted {
+        return Err(format!(
+            "the library answers {answer:?}, the reference {wanted:?}"
+        ));
+    }
+    Ok((answer, left))
+}
+
 fn on_library(drive: &mut Drive, buffer: &mut [u8], call: &Call) -> Answer {
     match call {
         Call::Start => drive.start(buffer),
@@ -199,6 +241,7 @@ fn on_library(drive: &mut Drive, buffer: &mut [u8], call: &Call) -> Answer {
         Call::Surface(answer, bytes) => drive.surface(buffer, *answer, bytes),
         Call::Reset => drive.reset(buffer),
         Call::Image => drive.image(buffer),
+        Call::Convert(from) => convert(from, buffer),
     }
 }
 
@@ -211,6 +254,7 @@ fn on_baseline(drive: &mut baseline::Drive, buffer: &mut [u8], call: &Call) -> A
         Call::Surface(answer, bytes) => drive.surface(buffer, *answer, bytes),
         Call::Reset => drive.reset(buffer),
         Call::Image => drive.image(buffer),
+        Call::Convert(from) => baseline::convert(from, buffer),
     }
 }
 
@@ -223,6 +267,7 @@ fn on_reference(record: &mut other::Record, buffer: &mut [u8], call: &Call) -> o
         Call::Surface(answer, bytes) => record.surface(buffer, *answer, bytes),
         Call::Reset => record.reset(buffer),
         Call::Image => record.image(buffer),
+        Call::Convert(from) => other::convert(from, buffer),
     }
 }
 
@@ -248,6 +293,9 @@ fn told(answer: other::Answer) -> Answer {
             other::Code::Place => Code::Place,
             other::Code::Answer => Code::Answer,
             other::Code::Bytes => Code::Bytes,
+            other::Code::Form => Code::Form,
+            other::Code::Sum => Code::Sum,
+            other::Code::Field => Code::Field,
         }),
     }
 }
@@ -414,7 +462,7 @@ impl Left {
 /// The length that a call asks for.
 pub fn length_of(call: &Call) -> usize {
     match call {
-        Call::Image => image::LENGTH,
+        Call::Image | Call::Convert(_) => image::LENGTH,
         _ => BUFFER,
     }
 }

@@ -20,6 +20,7 @@ pub fn records() -> Vec<Fields> {
         let mut made = Made { sound, records };
         made.with(|_| {});
         made.spare_list();
+        made.causes();
         made.bad_list();
         made.numbers();
         made.access();
@@ -72,6 +73,21 @@ impl Made {
         }
         if self.sound.stage.spare == 0 {
             self.with(|drive| drive.nspares = SPARES as u16 + 1);
+        }
+    }
+
+    fn causes(&mut self) {
+        let last = usize::from(self.sound.nspares) - 1;
+        for place in [0, last] {
+            for cause in [3, 4, 256] {
+                self.with(|drive| drive.causes[place] = cause);
+            }
+        }
+        for cause in [4, 256] {
+            self.with(|drive| {
+                drive.nspares = SPARES as u16 - 1;
+                drive.causes[SPARES - 1] = cause;
+            });
         }
     }
 

@@ -106,6 +106,10 @@ const AT: &[Side] = &[
     side("spares.unused-listed", ALL, |d| {
         unused_spare(d).is_some() && unused_spare(d) == first(spares(d))
     }),
+    side("causes.first-3", ALL, |d| first(causes(d)) == Some(3)),
+    side("causes.last-3", ALL, |d| last_cause(d) == Some(3)),
+    side("causes.unused-4", ALL, |d| unused_cause(d) == Some(4)),
+    side("causes.unused-256", ALL, |d| unused_cause(d) == Some(256)),
     side("bads.count-100", ALL, |d| d.nbads == 100),
     side("bads.first-9727", ALL, |d| first(bads(d)) == Some(9727)),
     side("bads.last-9727", ALL, |d| last_bad(d) == Some(9727)),
@@ -163,6 +167,10 @@ const BEYOND: &[Side] = &[
     side("spares.twice-last-two", ALL, |d| {
         last_spare(d).is_some() && last_twice(spares(d))
     }),
+    side("causes.first-4", ALL, |d| first(causes(d)) == Some(4)),
+    side("causes.last-4", ALL, |d| last_cause(d) == Some(4)),
+    side("causes.first-256", ALL, |d| first(causes(d)) == Some(256)),
+    side("causes.last-256", ALL, |d| last_cause(d) == Some(256)),
     side("bads.count-101", ALL, |d| d.nbads == 101),
     side("bads.first-9728", ALL, |d| first(bads(d)) == Some(9728)),
     side("bads.last-9728", ALL, |d| last_bad(d) == Some(9728)),
@@ -212,6 +220,10 @@ fn spares(drive: &Fields) -> &[u16] {
     drive.spare_list().unwrap_or_default()
 }
 
+fn causes(drive: &Fields) -> &[u16] {
+    drive.cause_list().unwrap_or_default()
+}
+
 fn bads(drive: &Fields) -> &[u16] {
     drive.bad_list().unwrap_or_default()
 }
@@ -222,8 +234,16 @@ fn first(list: &[u16]) -> Option<u16> {
 
 /// The last entry of a full list. With a spare under trial one fewer is full.
 fn last_spare(drive: &Fields) -> Option<u16> {
-    let full = SPARES - usize::from(drive.stage.spare.min(1));
-    spares(drive).get(full - 1).copied()
+    spares(drive).get(last_place(drive)).copied()
+}
+
+fn last_cause(drive: &Fields) -> Option<u16> {
+    causes(drive).get(last_place(drive)).copied()
+}
+
+/// The last place of a full spare list.
+fn last_place(drive: &Fields) -> usize {
+    SPARES - 1 - usize::from(drive.stage.spare.min(1))
 }
 
 fn last_bad(drive: &Fields) -> Option<u16> {
@@ -233,6 +253,10 @@ fn last_bad(drive: &Fields) -> Option<u16> {
 /// Returns the last place's number if only that place is unused.
 fn unused_spare(drive: &Fields) -> Option<u16> {
     (usize::from(drive.nspares) == SPARES - 1).then_some(drive.spares[SPARES - 1])
+}
+
+fn unused_cause(drive: &Fields) -> Option<u16> {
+    (usize::from(drive.nspares) == SPARES - 1).then_some(drive.causes[SPARES - 1])
 }
 
 fn unused_bad(drive: &Fields) -> Option<u16> {

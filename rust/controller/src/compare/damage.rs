@@ -48,6 +48,10 @@ fn sound(rng: &mut Rng) -> Fields {
     for (place, bad) in drive.bads.iter_mut().enumerate() {
         *bad = block(place + 3);
     }
+    for cause in &mut drive.causes {
+        *cause = rng.below(4) as u16;
+    }
+    drive.run = rng.pick(&RUNS);
     drive.count = rng.pick(&[0, 3, 4, 5, 6, 6]);
     drive.fed = rng.pick(&[0, 0, 1, 531, 532, 533]);
     let mark = |rng: &mut Rng| u16::from(rng.one_in(2));
@@ -61,6 +65,9 @@ fn sound(rng: &mut Rng) -> Fields {
     drive.stage = stage(&drive, rng);
     drive
 }
+
+/// Run numbers of interest.
+const RUNS: [u32; 6] = [0, 1, 65_535, 65_536, u32::MAX - 1, u32::MAX];
 
 /// The bytes of a command for this block, or for a number of interest.
 fn command(block: u16, rng: &mut Rng) -> [u8; 6] {
@@ -110,8 +117,10 @@ fn numbers(stage: &mut Stage, rng: &mut Rng) {
         kind::TRIAL_WRITE => {
             stage.detail = rng.pick(&[0, 0, 0, 0, 1, 100]);
             stage.spare = mark(rng);
+            stage.remembered = rng.below(64) as u16;
         }
         kind::TRIAL_READ => {
+            stage.remembered = rng.below(64) as u16;
             stage.detail = rng.pick(&[0, 1, 30, 31, 98, 99, 99, 99, 100, 101]);
             stage.spent = rng.pick(&[0, 0, 1, 29, 30, 30, 31, 99, 100]);
             stage.spare = mark(rng);
@@ -154,7 +163,7 @@ fn field(drive: &mut Fields, rng: &mut Rng) {
     let mark = rng.pick(&[0, 1, 2, 255, 256, 65_535]);
     let stage = &mut drive.stage;
     let flags = &mut drive.flags;
-    match rng.below(28) {
+    match rng.below(32) {
         0 | 1 => drive.spares[rng.place(32)] = rng.pick(&ENTRIES),
         2 => drive.spares[rng.place(32)] = drive.spares[rng.place(32)],
         3 | 4 => drive.bads[rng.place(100)] = rng.pick(&ENTRIES),
@@ -185,6 +194,9 @@ fn field(drive: &mut Fields, rng: &mut Rng) {
         24 => flags.changed = mark,
         25 => flags.latch = mark,
         26 => flags.fresh = mark,
+        27 | 28 => drive.causes[rng.place(32)] = rng.pick(&[0, 3, 4, 255, 256, 65_535]),
+        29 => drive.run = rng.pick(&RUNS),
+        30 => stage.remembered = rng.pick(&[0, 1, 21, 42, 63, 64, 256, 65_535]),
         _ => drive.command[rng.place(6)] = byte,
     }
 }
@@ -226,11 +238,13 @@ const COUNTS: [fn(&mut Fields) -> &mut u16; 4] = [
     |drive| &mut drive.fed,
 ];
 
-/// Sound records of each kind, and one at a read of FFFFFD, each with one field
-/// changed: a byte to each of its values, a flag and another number to some.
+/// Sound records of each kind, one at a read of FFFFFD and one of a block that moves
+/// on, each with one field changed: a byte to each of its values, a flag and another
+/// number to some.
 pub fn sweep() -> Vec<Fields> {
     let mut records = Vec::new();
-    for sound in sound_ones().into_iter().chain([health_read()]) {
+    let others = [health_read(), moves_on()];
+    for sound in sound_ones().into_iter().chain(others) {
         let mut with = |change: &dyn Fn(&mut Fields)| {
             let mut drive = sound;
             change(&mut drive);
@@ -261,6 +275,17 @@ pub fn sweep() -> Vec<Fields> {
                 with(&|drive| drive.bads[place] = block);
             }
         }
+        for cause in (0..=8).chain([255, 256, 259, 32_768, 65_535]) {
+            for place in [0, 2, 3, 31] {
+                with(&|drive| drive.causes[place] = cause);
+            }
+        }
+        for word in (0..=70).chain([255, 256, 32_768, 65_535]) {
+            with(&|drive| drive.stage.remembered = word);
+        }
+        for run in RUNS {
+            with(&|drive| drive.run = run);
+        }
         let wide = [32_768, 65_534, 65_535];
         for sector in (0..5).chain(4920..=4970).chain(9785..=9800).chain(wide) {
             with(&|drive| drive.stage.sector = sector);
@@ -286,6 +311,13 @@ fn health_read() -> Fields {
     }
 }
 
+/// At the last reread of the next spare for a block that has one already.
+fn moves_on() -> Fields {
+    let [_, mut spare_reread] = specimens(kind::TRIAL_READ);
+    spare_reread.stage.block = spare_reread.spares[1];
+    spare_reread
+}
+
 /// Two sound records of a kind: for trials on the present sector and on a spare,
 /// for writes with none to verify and with one, for reads with the first read and a
 /// reread awaited.
@@ -296,10 +328,12 @@ fn specimens(kind: u8) -> [Fields; 2] {
         count: 6,
         fed: 0,
         command: [0, 0, 0, 17, 2, 1],
+        run: 0x0001_0002,
         ..Fields::NEW
     };
     for place in 0..32 {
         drive.spares[place as usize] = 100 + place;
+        drive.causes[place as usize] = place % 4;
     }
     for place in 0..100 {
         drive.bads[place as usize] = 200 + place;
@@ -319,13 +353,19 @@ fn specimens(kind: u8) -> [Fields; 2] {
             (drive.stage.first, other.stage.first) = (1, 1);
             other.flags.changed = 1;
         }
-        kind::TRIAL_WRITE | kind::TRIAL_READ => other.stage.spare = 1,
+        kind::TRIAL_WRITE | kind::TRIAL_READ => {
+            other.stage.spare = 1;
+            // Before it a CRC error, on the present sector a timeout.
+            other.stage.remembered = 4 + 16 * 2;
+        }
         _ => other.flags.changed = 1,
     }
     if kind == kind::TRIAL_READ {
-        // The last reread, with as many failures as pass.
-        (drive.stage.detail, drive.stage.spent) = (99, 30);
-        (other.stage.detail, other.stage.spent) = (99, 30);
+        // The last reread, with as many failures as pass, the last a timeout.
+        for stage in [&mut drive.stage, &mut other.stage] {
+            (stage.detail, stage.spent) = (99, 30);
+            stage.remembered += 2;
+        }
     }
     if kind == kind::OFFER {
         other.command[0] = 1;

@@ -4,10 +4,11 @@ use std::vec;
 use std::vec::Vec;
 
 use reference::controller::{
-    Awaits, Job, Offer, Phase, Place, Reading, Record, Rereads, Stage, Step, Trial, TRIAL_REREADS,
+    Awaits, Failures, Job, Offer, Phase, Place, Reading, Record, Rereads, Stage, Step, Trial,
+    TRIAL_REREADS,
 };
 use reference::drive::Call;
-use reference::image::DEAD;
+use reference::image::{Cause, DEAD};
 
 use crate::fields::{self, Fields};
 use crate::raw::kind;
@@ -25,6 +26,11 @@ const SPARES: u32 = 32;
 pub fn record_of(numbers: &Fields) -> Option<Record> {
     let flags = numbers.flags;
     Some(Record {
+        run: numbers.run,
+        // Above 3 the reference refuses them all.
+        causes: numbers
+            .causes
+            .map(|cause| u8::try_from(cause).unwrap_or(u8::MAX)),
         spares: list(numbers.spare_list(), fields::SPARES, |entry| match entry {
             fields::DEAD => DEAD,
             block => u32::from(block),
@@ -96,12 +102,7 @@ fn phase(stage: &fields::Stage) -> Option<Phase> {
 
 /// Returns the job of a write command before any trial, which has met nothing yet.
 fn clean_job(stage: &fields::Stage) -> Job {
-    Job {
-        block: u32::from(stage.block),
-        crc: false,
-        timeout: false,
-        errors: 0,
-    }
+    Job::new(stage.block.into())
 }
 
 fn verifying(stage: &fields::Stage, step: Step) -> Phase {
@@ -114,11 +115,28 @@ fn verifying(stage: &fields::Stage, step: Step) -> Phase {
 
 fn job(stage: &fields::Stage) -> Job {
     Job {
-        block: u32::from(stage.block),
         crc: flag(stage.crc),
         timeout: flag(stage.timeout),
         errors: u32::from(stage.errors),
+        failures: match stage.kind {
+            kind::TRIAL_WRITE | kind::TRIAL_READ => failures(stage.remembered),
+            _ => Failures::NONE,
+        },
+        ..Job::new(stage.block.into())
     }
+}
+
+fn failures(word: u16) -> Failures {
+    Failures {
+        last: cause(word),
+        before: cause(word / 4),
+        present: cause(word / 16),
+    }
+}
+
+/// Returns the cause of the two lowest bits.
+fn cause(word: u16) -> Cause {
+    Cause::new((word % 4) as u8).expect("there are four causes")
 }
 
 fn reading(stage: &fields::Stage) -> Reading {
@@ -167,20 +185,46 @@ fn trial(stage: &fields::Stage) -> Trial {
     }
 }
 
-/// Whether two records are the same to every later call: command bytes and the
-/// data count are told apart only where a command is on its way.
+/// Whether two records, the first being the library's, are the same to every later
+/// call: command bytes and the data count are told apart only where a command is on
+/// its way, failures only in trials.
 pub fn alike(one: &Record, other: &Record) -> bool {
-    let phase = one.phase;
+    let (phase, failures) = parted(one.phase);
+    let (other_phase, other_failures) = parted(other.phase);
     let command = matches!(phase, Phase::Command | Phase::Data)
         || matches!(phase, Phase::Offered(offer) if offer != Offer::Command);
     let data = matches!(phase, Phase::Data | Phase::Offered(Offer::Act));
-    phase == other.phase
+    phase == other_phase
+        && remember_alike(failures, other_failures)
+        && (one.run, one.causes) == (other.run, other.causes)
         && one.spares == other.spares
         && one.bads == other.bads
         && (one.known, one.changed) == (other.known, other.changed)
         && (one.latch, one.fresh) == (other.latch, other.fresh)
         && (!command || one.command == other.command)
         && (!data || one.data_count == other.data_count)
+}
+
+/// Parts a phase from the failures that its trial remembers; other phases remember
+/// none in the library.
+fn parted(phase: Phase) -> (Phase, Failures) {
+    let without = |job: Job| Job {
+        failures: Failures::NONE,
+        ..job
+    };
+    match phase {
+        Phase::Trying(job, trial) => (Phase::Trying(without(job), trial), job.failures),
+        Phase::Reading(job, reading) => (Phase::Reading(without(job), reading), Failures::NONE),
+        other => (other, Failures::NONE),
+    }
+}
+
+/// Whether two trials remember the same. The library's has no last failure until one
+/// of its own rereads fails, the reference's then still has one from before. No call
+/// shows it: a sector is given up only after a failure of its own.
+fn remember_alike(library: Failures, other: Failures) -> bool {
+    let last = library.last == other.last || library.last == Cause::Unknown;
+    last && (library.before, library.present) == (other.before, other.present)
 }
 
 /// Whether the two implementations must do the same at a call on a valid record.
@@ -250,6 +294,74 @@ mod tests {
     }
 
     #[test]
+    fn failures_are_those_of_a_trial() {
+        let at = |kind, remembered| {
+            let mut drive = Fields::NEW;
+            drive.stage.kind = kind;
+            drive.stage.remembered = remembered;
+            record_of(&drive).expect("a phase")
+        };
+        let wanted = Failures {
+            last: Cause::Crc,
+            before: Cause::Timeout,
+            present: Cause::NoSettle,
+        };
+        for kind in [kind::TRIAL_WRITE, kind::TRIAL_READ] {
+            let told = at(kind, 1 + 4 * 2 + 16 * 3);
+            assert_eq!(parted(told.phase).1, wanted);
+            // Higher bits are none.
+            assert_eq!(at(kind, 0xFFC0), at(kind, 0));
+            for (one, other, same) in [
+                (1, 1, true),
+                (0, 1, true),
+                (1, 0, false),
+                (1, 2, false),
+                (4, 5, true),
+                (4, 9, false),
+                (16, 33, false),
+            ] {
+                assert_eq!(alike(&at(kind, one), &at(kind, other)), same);
+            }
+        }
+        for kind in kind::IDLE..kind::TRIAL_WRITE {
+            if kind != kind::OFFER {
+                assert_eq!(at(kind, 0xFFFF), at(kind, 0), "{kind}");
+            }
+        }
+    }
+
+    #[test]
+    fn a_read_remembers_nothing() {
+        let mut drive = Fields::NEW;
+        drive.stage.kind = kind::READ;
+        let one = record_of(&drive).expect("a phase");
+        let mut other = one.clone();
+        let Phase::Reading(job, _) = &mut other.phase else {
+            panic!("no read");
+        };
+        job.failures.last = Cause::Crc;
+        assert!(alike(&one, &other));
+    }
+
+    #[test]
+    fn run_numbers_and_causes_are_told_apart() {
+        let new = Record::new();
+        let changed = |change: fn(&mut Record)| {
+            let mut record = Record::new();
+            change(&mut record);
+            record
+        };
+        assert!(alike(&new, &new));
+        for change in [
+            (|record| record.run = 65_536) as fn(&mut Record),
+            |record| record.causes[0] = 1,
+            |record| record.causes[31] = 1,
+        ] {
+            assert!(!alike(&new, &changed(change)));
+        }
+    }
+
+    #[test]
     fn what_the_reference_cannot_hold_it_refuses() {
         let mut drive = Fields::NEW;
         drive.flags.known = 1;
@@ -265,6 +377,16 @@ mod tests {
             nbads: 101,
             ..drive
         }));
+        for (cause, passes) in [(3, true), (4, false), (256, false), (u16::MAX, false)] {
+            let mut one = Fields {
+                nspares: 1,
+                ..drive
+            };
+            one.causes[0] = cause;
+            assert_eq!(valid(&one), passes, "{cause}");
+            one.nspares = 0;
+            assert!(valid(&one), "{cause}");
+        }
         assert!(!valid(&Fields { count: 7, ..drive }));
         assert!(!valid(&Fields { fed: 534, ..drive }));
         drive.stage.kind = kind::READ;

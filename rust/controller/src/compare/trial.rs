@@ -7,6 +7,7 @@ use std::vec;
 use std::vec::Vec;
 
 use reference::drive::Call;
+use reference::images::draft_b::DraftB;
 use reference::rng::Rng;
 use reference::script::{self, Line};
 use reference::surface::{near_miss, plain_bytes};
@@ -73,7 +74,7 @@ fn calls(filled: u8, rng: &mut Rng) -> [Call; 7] {
 
 fn surface(filled: u8, rng: &mut Rng) -> Call {
     let part = [filled; SECTOR_BYTES];
-    match rng.below(9) {
+    match rng.below(11) {
         0 => Call::Surface(rng.byte(), vec![]),
         1 => Call::Surface(rng.below(4) as u8, vec![0; rng.pick(&[0, 531, 532, 533])]),
         2 => Call::Surface(2, vec![]),
@@ -82,7 +83,9 @@ fn surface(filled: u8, rng: &mut Rng) -> Call {
         // The data part verifies, and what it nearly is does not.
         5 => Call::Surface(0, part.to_vec()),
         6 => Call::Surface(0, near_miss(rng, &part)),
-        n => Call::Surface(n as u8 - 7, plain_bytes(rng)),
+        7 => Call::Surface(0, DraftB::of_any_size(rng).bytes()),
+        8 => Call::Surface(0, DraftB::of_any_size(rng).form_a().bytes()),
+        n => Call::Surface(n as u8 - 9, plain_bytes(rng)),
     }
 }
 

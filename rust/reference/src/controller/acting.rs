@@ -6,7 +6,7 @@ use super::{
 };
 use crate::coverage::met;
 use crate::geometry::{Block, Sector, SECTOR_BYTES, SPARES};
-use crate::image::{DEAD, MOST_BADS};
+use crate::image::{Cause, DEAD, MOST_BADS};
 
 /// The number that reads and writes the buffer.
 pub const RAM: u32 = 0xFF_FFFE;
@@ -144,8 +144,8 @@ impl Record {
                 self.finish(buffer, [one::FAILED | aborted, two::NO_TABLE, 0, 0])
             }
             Target::TableImage => {
-                met("act.ffffff");
-                data_mut(buffer).copy_from_slice(&self.table_image());
+                self.met_table_image();
+                data_mut(buffer).copy_from_slice(&self.shown_image());
                 self.finish(buffer, [0; STATUS])
             }
             Target::Health => {
@@ -189,6 +189,20 @@ impl Record {
         format!("act.latch.{}.{what}", order.command.name())
     }
 
+    /// Counts what a table image leaves out.
+    fn met_table_image(&self) {
+        met("act.ffffff");
+        if self.run > 0 {
+            met("act.ffffff.run-number-dropped");
+        }
+        if self.causes[..self.spares.len()]
+            .iter()
+            .any(|&cause| cause > 0)
+        {
+            met("act.ffffff.causes-dropped");
+        }
+    }
+
     /// Counts what a health block shows.
     fn met_health(&self) {
         met(match (self.changed, self.latch) {
@@ -218,12 +232,7 @@ impl Record {
         let sector = self.sector(block);
         let listed = self.is_bad(number);
         met(&self.begin_name(order));
-        let job = Job {
-            block: number,
-            crc: false,
-            timeout: false,
-            errors: 0,
-        };
+        let job = Job::new(number);
         let at = sector.number();
         match order.command {
             Command::Read => {
@@ -292,11 +301,11 @@ impl Record {
                 if !had_good {
                     data_mut(buffer).copy_from_slice(bytes);
                 }
-                job.crc = true;
+                job.meet_crc();
                 false
             }
             ReadOutcome::Timeout => {
-                job.timeout = true;
+                job.meet_timeout();
                 false
             }
         };
@@ -400,7 +409,8 @@ impl Record {
             if k + 1 == SPARES {
                 met("no-settle.last-spare-dies");
             }
-            self.kill_next_spare();
+            met(&format!("dead.by-no-settle.in-{}", self.phase.name()));
+            self.kill_next_spare(Cause::NoSettle);
         }
         met(match self.latch {
             false => "no-settle.latch-made",

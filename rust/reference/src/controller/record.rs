@@ -5,7 +5,7 @@
 
 use super::{MOST_COMMAND, MOST_DATA, MOST_START_READS, TRIAL_REREADS};
 use crate::geometry::{home, spare, Block, Sector, SECTOR_BYTES, SPARES};
-use crate::image::{self, Spare, Table, DEAD};
+use crate::image::{form_a, form_b, Cause, Entry, Spare, Table, LENGTH, MOST_SPARES};
 
 /// What the controller offers to do next.
 #[derive(Clone, Copy, Debug, PartialEq, Eq)]
@@ -79,6 +79,53 @@ pub struct Job {
     pub timeout: bool,
     /// E: the failures among the R rereads.
     pub errors: u32,
+    pub failures: Failures,
+}
+
+/// The failures that a command remembers, since entries may get their causes from
+/// them (document 02, request 6).
+#[derive(Clone, Copy, Debug, PartialEq, Eq)]
+pub struct Failures {
+    /// The last one, wherever it was.
+    pub last: Cause,
+    /// The last one on the block's present sector, once that was left.
+    pub present: Cause,
+    /// The last one before the spare under trial was tried.
+    pub before: Cause,
+}
+
+impl Failures {
+    /// None so far.
+    pub const NONE: Failures = Failures {
+        last: Cause::Unknown,
+        present: Cause::Unknown,
+        before: Cause::Unknown,
+    };
+}
+
+impl Job {
+    /// Begins a command for this block, which has met nothing.
+    pub fn new(block: u32) -> Job {
+        Job {
+            block,
+            crc: false,
+            timeout: false,
+            errors: 0,
+            failures: Failures::NONE,
+        }
+    }
+
+    /// Takes a CRC error into account.
+    pub(super) fn meet_crc(&mut self) {
+        self.crc = true;
+        self.failures.last = Cause::Crc;
+    }
+
+    /// Takes a timeout into account.
+    pub(super) fn meet_timeout(&mut self) {
+        self.timeout = true;
+        self.failures.last = Cause::Timeout;
+    }
 }
 
 /// Where a read command stands before any trial.
@@ -210,8 +257,12 @@ impl Phase {
 /// The drive's record.
 #[derive(Clone, Debug, PartialEq, Eq)]
 pub struct Record {
+    /// The run number: the stores asked for, up to its top.
+    pub run: u32,
     /// The spare list: blocks and FFFFFE.
     pub spares: Vec<u32>,
+    /// The causes of its entries; those beyond its end are of no entry.
+    pub causes: [u8; MOST_SPARES],
     /// The bad list.
     pub bads: Vec<u32>,
     /// There is a table.
@@ -239,7 +290,9 @@ impl Record {
     /// A record that was never started.
     pub fn new() -> Record {
         Record {
+            run: 0,
             spares: vec![],
+            causes: [0; MOST_SPARES],
             bads: vec![],
             known: false,
             changed: false,
@@ -294,27 +347,55 @@ impl Record {
         self.known && is_block(job.block) && job.errors <= 255
     }
 
-    /// The table that the lists make, if they are well formed.
+    /// Makes the table of the lists, if they are well formed and no entry has a cause
+    /// above 3.
     pub fn table(&self) -> Option<Table> {
-        let spares: Option<Vec<Spare>> = self.spares.iter().map(|&entry| spare_of(entry)).collect();
+        if self.spares.len() > MOST_SPARES {
+            return None;
+        }
+        let entries = self.spares.iter().zip(self.causes);
+        let spares: Option<Vec<Entry>> = entries
+            .map(|(&number, cause)| {
+                let spare = Spare::new(number)?;
+                let cause = Cause::new(cause)?;
+                Some(Entry { spare, cause })
+            })
+            .collect();
         let bads: Option<Vec<Block>> = self.bads.iter().map(|&entry| Block::new(entry)).collect();
-        Table::new(spares?, bads?)
+        Table::new(self.run, spares?, bads?)
     }
 
-    /// Takes the lists of a table that was read.
+    /// Takes the run number, the lists and the causes of a table that was read.
     pub(super) fn take_table(&mut self, table: &Table) {
-        let number = |spare: &Spare| match spare {
-            Spare::Moved(block) => block.number(),
-            Spare::Dead => DEAD,
-        };
-        self.spares = table.spares().iter().map(number).collect();
+        self.run = table.run();
+        self.spares.clear();
+        self.causes = [0; MOST_SPARES];
+        for entry in table.spares() {
+            self.enter_spare(entry.spare.number(), entry.cause);
+        }
         self.bads = table.bads().iter().map(|bad| bad.number()).collect();
         self.known = true;
     }
 
-    /// The image of the lists, which are well formed.
-    pub(super) fn table_image(&self) -> [u8; image::LENGTH] {
-        image::write(&self.table().expect("code 1 tested the lists"))
+    /// Makes the entry of the next unused spare.
+    pub(super) fn enter_spare(&mut self, number: u32, cause: Cause) {
+        self.causes[self.spares.len()] = cause.number();
+        self.spares.push(number);
+    }
+
+    /// Writes the table in form A, which FFFFFF shows.
+    pub(super) fn shown_image(&self) -> [u8; LENGTH] {
+        form_a::write(&self.tested_table())
+    }
+
+    /// Writes the table in form B, which the image call and every store give.
+    pub fn stored_image(&self) -> [u8; LENGTH] {
+        form_b::write(&self.tested_table())
+    }
+
+    /// Makes the table of a record that code 1 let through.
+    fn tested_table(&self) -> Table {
+        self.table().expect("code 1 tested the lists")
     }
 
     /// The health block: unused spares, bad entries, latch, unstored mark, then
@@ -349,13 +430,6 @@ impl Record {
         self.spare_of(block.number())
             .and_then(spare)
             .unwrap_or(home(block))
-    }
-}
-
-fn spare_of(entry: u32) -> Option<Spare> {
-    match entry {
-        DEAD => Some(Spare::Dead),
-        _ => Block::new(entry).map(Spare::Moved),
     }
 }
 

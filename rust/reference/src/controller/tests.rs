@@ -1,11 +1,13 @@
-//! Hand-computed cases from document 01, and from requests 1, 3 and 4 of document 02.
+//! Hand-computed cases from document 01, and from requests 1, 3, 4 and 6 of document 02.
 
+mod form_b;
 mod health;
 mod short_data;
 mod trials;
 
 use super::*;
 use crate::drive::{Call, Drive};
+use crate::image::Cause;
 use crate::images::draft::Draft;
 use crate::rng::Rng;
 
@@ -397,6 +399,7 @@ const JOB: Job = Job {
     crc: false,
     timeout: false,
     errors: 0,
+    failures: Failures::NONE,
 };
 
 fn reading(job: Job, stage: Stage) -> Record {
@@ -696,6 +699,10 @@ fn the_order_of_the_codes() {
     assert_eq!(refused(&known(), None, Call::Image), 0);
 }
 
+fn any_cause(rng: &mut Rng) -> Cause {
+    Cause::new(rng.below(4) as u8).expect("a cause")
+}
+
 /// A record with all its parts near their bounds.
 fn any_record(rng: &mut Rng) -> Record {
     let block = |rng: &mut Rng| rng.pick(&[0, 5, 6, 9727, 9728, DEAD]);
@@ -704,6 +711,11 @@ fn any_record(rng: &mut Rng) -> Record {
         crc: rng.one_in(2),
         timeout: rng.one_in(2),
         errors: rng.pick(&[0, 1, 100, 254, 255, 256]),
+        failures: Failures {
+            last: any_cause(rng),
+            present: any_cause(rng),
+            before: any_cause(rng),
+        },
     };
     let sector = rng.pick(&[0, 5, 4928, 4960, 9791, 9792]);
     let stage = match rng.below(3) {
@@ -765,8 +777,15 @@ fn any_record(rng: &mut Rng) -> Record {
         },
         _ => Phase::Trying(job, Trial { place, awaits }),
     };
+    let mut causes = [0; 32];
+    causes.fill_with(|| rng.below(4) as u8);
+    if rng.one_in(4) {
+        causes[rng.place(32)] = rng.pick(&[4, 255]);
+    }
     Record {
+        run: rng.pick(&[0, 1, u32::MAX - 1, u32::MAX]),
         spares,
+        causes,
         bads: match rng.below(3) {
             0 => (0..rng.pick(&[99, 100, 101])).collect(),
             _ => (0..rng.below(3)).map(|_| block(rng)).collect(),
@@ -789,7 +808,7 @@ fn any_record(rng: &mut Rng) -> Record {
 fn any_record_at_all() {
     let mut rng = Rng::new(77);
     let mut taken = 0;
-    for _ in 0..4000 {
+    for _ in 0..5000 {
         let mut drive = Drive {
             record: any_record(&mut rng),
             buffer: vec![rng.byte(); 536],

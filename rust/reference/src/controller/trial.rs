@@ -4,12 +4,12 @@
 
 use super::acting::{in_range, one, two};
 use super::{
-    data, near, Answer, Awaits, Job, Phase, Place, ReadOutcome, Record, Rereads, Step, Trial,
-    WriteOutcome, TRIAL_FAILURES, TRIAL_REREADS,
+    data, near, Answer, Awaits, Failures, Job, Phase, Place, ReadOutcome, Record, Rereads, Step,
+    Trial, WriteOutcome, TRIAL_FAILURES, TRIAL_REREADS,
 };
 use crate::coverage::met;
 use crate::geometry::{spare, Sector, SECTOR_BYTES, SPARES};
-use crate::image::DEAD;
+use crate::image::{Cause, DEAD};
 
 impl Record {
     /// The one write of a write command was answered.
@@ -23,7 +23,7 @@ impl Record {
         match outcome {
             WriteOutcome::Done => self.finish_job(buffer, job, 0, 0),
             WriteOutcome::Timeout => {
-                job.timeout = true;
+                job.meet_timeout();
                 self.try_next_spare(buffer, job)
             }
             WriteOutcome::NoSettle => self.no_settle(buffer, job),
@@ -46,7 +46,7 @@ impl Record {
                 Answer::Read(in_range(sector))
             }
             WriteOutcome::Timeout => {
-                job.timeout = true;
+                job.meet_timeout();
                 self.try_next_spare(buffer, job)
             }
             WriteOutcome::NoSettle => self.no_settle(buffer, job),
@@ -103,7 +103,7 @@ impl Record {
         match outcome {
             WriteOutcome::Done => self.reread(job, place, Rereads::default()),
             WriteOutcome::Timeout => {
-                job.timeout = true;
+                job.meet_timeout();
                 self.try_next_spare(buffer, job)
             }
             WriteOutcome::NoSettle => self.no_settle(buffer, job),
@@ -137,6 +137,12 @@ impl Record {
             return self.reread(job, place, rereads);
         }
         met(&end_name(place, rereads.failures));
+        if rereads.failures > TRIAL_FAILURES && failed == 0 {
+            met(&format!(
+                "trial.{}.fails-with-a-good-reread",
+                place_word(place)
+            ));
+        }
         match rereads.failures {
             0..=TRIAL_FAILURES => self.passed(buffer, job, place),
             _ => self.try_next_spare(buffer, job),
@@ -150,10 +156,10 @@ impl Record {
             ReadOutcome::Good(bytes) if bytes == part => return Compared::Same,
             ReadOutcome::Good(bytes) => {
                 self.met_near(part, bytes);
-                job.crc = true;
+                job.meet_crc();
             }
-            ReadOutcome::Crc(_) => job.crc = true,
-            ReadOutcome::Timeout => job.timeout = true,
+            ReadOutcome::Crc(_) => job.meet_crc(),
+            ReadOutcome::Timeout => job.meet_timeout(),
             ReadOutcome::NoSettle => return Compared::NoSettle,
         }
         Compared::Failed(job)
@@ -182,19 +188,25 @@ impl Record {
         }
     }
 
-    /// The spare under trial, which is the next unused one, becomes dead.
-    pub(super) fn kill_next_spare(&mut self) {
-        self.spares.push(DEAD);
+    /// Kills the spare under trial, which is the next unused one, by this cause.
+    pub(super) fn kill_next_spare(&mut self, cause: Cause) {
+        self.enter_spare(DEAD, cause);
         self.changed = true;
     }
 
     /// The sector of the answered access is no good: a spare becomes dead, and the
     /// next unused one gets its trial.
-    fn try_next_spare(&mut self, buffer: &mut [u8], job: Job) -> Answer {
+    fn try_next_spare(&mut self, buffer: &mut [u8], mut job: Job) -> Answer {
         let from = self.phase.name();
-        if self.spare_under_trial().is_some() {
-            self.kill_next_spare();
+        let failures = &mut job.failures;
+        match self.spare_under_trial() {
+            Some(_) => {
+                met_dead(from, *failures);
+                self.kill_next_spare(failures.last);
+            }
+            None => failures.present = failures.last,
         }
+        failures.before = failures.last;
         match self.next_spare() {
             Some(k) => {
                 met(&format!("spare.next.after-{from}"));
@@ -221,16 +233,38 @@ impl Record {
         }
         let opcode = self.command.first().copied().unwrap_or(0);
         met(&format!("moved.by-{opcode:02x}"));
-        match self.spare_of(job.block) {
-            Some(old) => {
-                met("moved.old-entry-killed");
-                self.spares[old] = DEAD;
-            }
-            None => met("moved.from-home"),
+        let old = self.spare_of(job.block);
+        self.met_moved(old, job.failures);
+        if let Some(old) = old {
+            self.spares[old] = DEAD;
+            self.causes[old] = job.failures.present.number();
         }
-        self.spares.push(job.block);
+        self.enter_spare(job.block, job.failures.before);
         self.changed = true;
         self.leave_bads(buffer, job, two::MOVED)
+    }
+
+    /// Counts a move and the causes that it gives.
+    fn met_moved(&self, old: Option<usize>, failures: Failures) {
+        let from = match old {
+            Some(_) => "moved.old-entry-killed",
+            None => "moved.from-home",
+        };
+        met(from);
+        met(&format!("moved.cause.{}", cause_word(failures.before)));
+        if failures.last != failures.before {
+            met("moved.cause.not-that-of-its-trial");
+        }
+        if failures.present != failures.before {
+            met(&format!("{from}.after-another-failure-on-a-spare"));
+        }
+        if let Some(old) = old {
+            let word = cause_word(failures.present);
+            met(&format!("moved.old-entry-killed.cause.{word}"));
+            if self.causes[old] != failures.present.number() {
+                met("moved.old-entry-killed.former-cause-differs");
+            }
+        }
     }
 
     /// The block is good where it stands: it leaves the bad list, and the command
@@ -272,6 +306,23 @@ fn place_word(place: Place) -> &'static str {
     match place {
         Place::Present(_) => "present",
         Place::Spare(_) => "spare",
+    }
+}
+
+fn cause_word(cause: Cause) -> &'static str {
+    match cause {
+        Cause::Unknown => "unknown",
+        Cause::Crc => "crc",
+        Cause::Timeout => "timeout",
+        Cause::NoSettle => "no-settle",
+    }
+}
+
+/// Counts a spare that dies in a phase.
+fn met_dead(from: &str, failures: Failures) {
+    met(&format!("dead.by-{from}.{}", cause_word(failures.last)));
+    if failures.last != failures.before {
+        met(&format!("dead.by-{from}.not-the-failure-before"));
     }
 }
 

@@ -23,7 +23,7 @@ pub fn groups() -> Vec<Group> {
 }
 
 fn none(about: &'static str, images: impl IntoIterator<Item = Vec<u8>>) -> Group {
-    Group::all(Expect::None, about, images)
+    Group::all(Expect::Form, about, images)
 }
 
 fn full(rng: &mut Rng) -> Draft {

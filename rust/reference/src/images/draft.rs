@@ -1,10 +1,11 @@
-//! A draft of an image, whose parts can each be spoiled before the bytes are
+//! A draft of an image of form A, whose parts can each be spoiled before the bytes are
 //! laid out. It keeps to no rule and knows nothing of the reader.
 
 use std::collections::HashSet;
 
 use crate::geometry::BLOCKS;
-use crate::image::{three_bytes, DEAD, END, FIXED, LENGTH};
+use crate::image::form_a::{END, FIXED};
+use crate::image::{three_bytes, DEAD, LENGTH};
 use crate::rng::Rng;
 
 /// The parts of an image in their order. Zeros follow.

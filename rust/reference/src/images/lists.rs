@@ -37,7 +37,7 @@ fn no_entries() -> Group {
         }
     }
     of(
-        Expect::None,
+        Expect::Form,
         "Numbers that are no entry, in the first, a middle and the last place of each list.",
         &drafts,
     )
@@ -53,7 +53,7 @@ fn no_entries_alone() -> Group {
     drafts.push(Draft::of_size(&mut rng, 32, 0).with(|it| it.spares[31] = 9728));
     drafts.push(Draft::of_size(&mut rng, 0, 100).with(|it| it.bads[99] = 9728));
     of(
-        Expect::None,
+        Expect::Form,
         "Numbers that are no entry, alone in a list or last in a full one.",
         &drafts,
     )
@@ -62,7 +62,7 @@ fn no_entries_alone() -> Group {
 fn dead_bads() -> Group {
     let mut rng = Rng::new(302);
     of(
-        Expect::None,
+        Expect::Form,
         "FFFFFE as a bad entry.",
         &[
             Draft::new(&[], &[DEAD]),
@@ -107,7 +107,7 @@ fn spare_doubles() -> Group {
     drafts.push(Draft::new(&[DEAD, DEAD, 8, 8], &[8]));
     drafts.push(Draft::new(&[8, DEAD, 9, DEAD, 8], &[9]));
     of(
-        Expect::None,
+        Expect::Form,
         "A block twice in the spare list: neighbours, first and last, others.",
         &drafts,
     )
@@ -123,7 +123,7 @@ fn bad_doubles() -> Group {
     drafts.push(Draft::new(&[8], &[8, 9, 8]));
     drafts.push(Draft::new(&[8, 8], &[8, 8]));
     of(
-        Expect::None,
+        Expect::Form,
         "A block twice in the bad list, or in each list.",
         &drafts,
     )

@@ -3,6 +3,7 @@
 use super::*;
 use crate::controller::{Code, BUFFER};
 use crate::images::draft::Draft;
+use crate::images::draft_b::{summed, DraftB};
 
 /// A ledger and the buffer that the last call left.
 struct List {
@@ -544,6 +545,58 @@ fn the_table_is_taken_when_it_comes() {
     let other = Draft::new(&[], &[]).bytes();
     list.call(Call::Surface(0, other), Answer::Offer(Offer::Command));
     list.read(7, 4929, GOOD, &held(4929));
+    list.allowed();
+}
+
+#[test]
+fn a_table_of_form_b_gives_the_sectors() {
+    let found = Sectors::new();
+    let held = |number: u32| found.get(sector(number)).expect("held").to_vec();
+    let draft = DraftB::new(u32::MAX, &[(0xFF_FFFE, 3), (7, 1), (5, 0)], &[7, 9]);
+    let mut list = List::begun();
+    list.table(0, &draft.bytes());
+    list.read(7, 4929, GOOD, &held(4929));
+    list.read(5, 4930, GOOD, &held(4930));
+    list.read(8, 8, GOOD, &held(8));
+    list.allowed();
+}
+
+#[test]
+fn refused_images_of_form_b_are_no_table() {
+    let draft = DraftB::new(1, &[(7, 1)], &[9]);
+    let mut wrong_sum = draft.bytes();
+    wrong_sum[531] ^= 1;
+    let mut not_zero = draft.bytes();
+    not_zero[529] = 1;
+    for bytes in [
+        draft.with(|it| it.begin[3] = 0x1F).bytes(),
+        wrong_sum,
+        not_zero.clone(),
+        summed(not_zero),
+        draft.with(|it| it.spares[0].1 = 4).bytes(),
+        draft.with(|it| it.bad_offset = 21).bytes(),
+        draft.with(|it| it.bads[0] = 0xFF_FFFE).bytes(),
+    ] {
+        let mut list = List::begun();
+        list.table(0, &bytes);
+        list.read(5, 5, FAILED, &OLD);
+        list.broken(Broken::FirstAccess {
+            number: 5,
+            wanted: None,
+            found: sector(5),
+        });
+    }
+}
+
+#[test]
+fn converts_are_no_calls_of_the_list() {
+    let mut list = List::begun();
+    let image = Draft::new(&[7], &[]).bytes();
+    list.call(Call::Convert(image), Answer::Wait);
+    // The read of 4960 is still awaited.
+    list.table(0, &DraftB::new(0, &[(5, 2)], &[]).bytes());
+    let held = Sectors::new().get(sector(4928)).expect("held");
+    list.read(5, 4928, GOOD, &held);
     list.allowed();
 }
 

@@ -6,6 +6,7 @@ use crate::drive::{Call, Drive};
 use crate::geometry::{Sector, SECTOR_BYTES, TABLE};
 use crate::image;
 use crate::images::draft::Draft;
+use crate::images::draft_b::DraftB;
 use crate::ledger::{Broken, Ledger};
 use crate::script::{self, Line};
 use crate::surface::{obeys, Access, Left, Outcome, Sectors};
@@ -166,7 +167,7 @@ impl Bench {
         );
 
         let refused = matches!(answer, Answer::Refused(_));
-        if refused || line.call == Call::Image {
+        if refused || !line.call.may_change() {
             assert_eq!(self.drive, before, "{spelled}: something changed");
         }
         if refused {
@@ -177,12 +178,12 @@ impl Bench {
             self.ledger = Some(Ledger::new(&self.sectors));
             self.obeyed = true;
             self.list_calls = 0;
-        } else if line.call != Call::Image {
+        } else if line.call.may_change() {
             if let (Some(access), Call::Surface(number, bytes)) = (self.pending, &line.call) {
                 self.settle(access, &before, *number, bytes, left);
             }
         }
-        if line.call == Call::Image {
+        if !line.call.may_change() {
             return answer;
         }
         if line.call != Call::Start || refused {
@@ -296,6 +297,10 @@ impl Bench {
         self.call(Call::Image)
     }
 
+    pub fn convert(&mut self, image: &[u8]) -> Answer {
+        self.call(Call::Convert(image.to_vec()))
+    }
+
     // Answers of a surface that keeps its rules.
 
     /// The pending access is good: a read brings what is held, a write leaves
@@ -360,12 +365,20 @@ impl Bench {
 
     // Longer ways.
 
-    /// A start that reads this table.
+    /// Starts with this table, in form A.
     pub fn started(&mut self, spares: &[u32], bads: &[u32]) {
-        self.sectors.hold(TABLE, &Draft::new(spares, bads).bytes());
-        self.start();
-        self.good();
-        assert_eq!(self.last, Answer::Wait);
+        self.started_from(&Draft::new(spares, bads).bytes());
+    }
+
+    /// Starts with this table, in form B.
+    pub fn started_b(&mut self, draft: &DraftB) {
+        self.started_from(&draft.bytes());
+    }
+
+    /// Starts with these bytes in 4960.
+    fn started_from(&mut self, image: &[u8]) {
+        self.sectors.hold(TABLE, image);
+        self.restarted();
     }
 
     /// A start that reads the table as it stands on the surface.
@@ -496,6 +509,31 @@ impl Bench {
         assert_eq!(self.drive.record.bads, bads, "{}", self.tail());
     }
 
+    /// Asserts that the table has this run number and these spares with their causes;
+    /// an image call shows them in the transcript.
+    #[track_caller]
+    pub fn history_is(&mut self, run: u32, spares: &[(u32, u8)]) {
+        let last = self.last;
+        self.image();
+        self.said(Answer::Wait);
+        self.last = last;
+        let record = &self.drive.record;
+        assert_eq!(record.run, run, "{}", self.tail());
+        let numbers = record.spares.iter().copied();
+        let entries: Vec<(u32, u8)> = numbers.zip(record.causes).collect();
+        assert_eq!(entries, spares, "{}", self.tail());
+    }
+
+    /// Converts an image of either form; gives the other one.
+    #[track_caller]
+    pub fn converted(&mut self, image: &[u8]) -> Vec<u8> {
+        self.convert(image);
+        self.said(Answer::Wait);
+        // The drive has no part in it.
+        let returned = Drive::new().call(&Call::Convert(image.to_vec()));
+        returned.image.expect("the second buffer")
+    }
+
     /// The last lines of the script, for messages.
     fn tail(&self) -> String {
         let mut lines: Vec<&str> = self.text.lines().rev().take(6).collect();
@@ -508,10 +546,7 @@ impl Bench {
 fn sent(drive: &Drive, access: Access) -> Vec<u8> {
     match access {
         Access::Read(_) => vec![],
-        Access::Write(TABLE) => {
-            let table = drive.record.table().expect("lists well formed");
-            image::write(&table).to_vec()
-        }
+        Access::Write(TABLE) => drive.record.stored_image().to_vec(),
         Access::Write(_) => drive.data().to_vec(),
     }
 }

@@ -18,7 +18,7 @@ pub fn all() -> Vec<Stored> {
 }
 
 /// Lines in unusual spellings.
-const SPELLINGS: [&str; 17] = [
+const SPELLINGS: [&str; 21] = [
     "lend 0536 raise",
     "lend 000000000000000000000000000000536 lower 55",
     "feed 01*1 00*02 1F*001",
@@ -35,6 +35,10 @@ const SPELLINGS: [&str; 17] = [
     "feed 00*2000 01*2000 02*96",
     "lend 00 reset",
     "lend 0532 image",
+    "convert F0*1 78 3C*01 1e 00*0528",
+    "lend 00532 convert",
+    "lend 0 convert",
+    "convert",
     "reset",
 ];
 
@@ -56,7 +60,7 @@ fn spellings() -> Bench {
 }
 
 /// Names of scripts, and lines of which each stops a run.
-const ERRORS: [(&str, &str); 23] = [
+const ERRORS: [(&str, &str); 28] = [
     ("error-call", "stop"),
     ("error-case", "Raise"),
     ("error-leading-blank", " raise"),
@@ -80,6 +84,11 @@ const ERRORS: [(&str, &str); 23] = [
     ("error-answer-word", "surface x"),
     ("error-length-601", "lend 601 raise"),
     ("error-too-many", "feed 00*4096 00"),
+    ("error-convert-call", "converted 00"),
+    ("error-convert-blank", "convert "),
+    ("error-convert-byte", "convert f0 7"),
+    ("error-convert-length", "lend 601 convert 00*532"),
+    ("error-convert-too-many", "convert 00*4000 00*97"),
 ];
 
 /// A few calls, then the line, then a call that is never made.

@@ -11,8 +11,9 @@ use crate::controller::{
 };
 use crate::drive::Call;
 use crate::geometry::{BLOCKS, TABLE};
-use crate::image::{self, DEAD};
+use crate::image::{self, form_b, DEAD};
 use crate::images::draft::{distinct, Draft};
+use crate::images::draft_b::{summed, DraftB};
 use crate::rng::Rng;
 use crate::script::{show, Line};
 use crate::surface::{near_miss, plain_bytes, Mood, Outcome, Policy};
@@ -322,18 +323,16 @@ impl Host {
     /// A start, with the surface as it is or prepared in some way.
     fn restart(&mut self) {
         let held = self.bench.sectors.get(TABLE);
-        let whole = held.is_some_and(|held| image::read(&held).is_some());
+        let whole = held.is_some_and(|held| image::read(&held).is_ok());
         match self.rng.below(16) {
             0 => self.bench.sectors.spoil(TABLE),
             1 => {
-                let mut bytes = self.table().bytes();
-                let place = self.rng.place(bytes.len());
-                bytes[place] = self.rng.other_byte(bytes[place]);
+                let bytes = self.damaged_image();
                 self.bench.sectors.hold(TABLE, &bytes);
             }
             2..=8 if whole => {}
             _ => {
-                let bytes = self.table().bytes();
+                let bytes = self.whole_image();
                 self.bench.sectors.hold(TABLE, &bytes);
             }
         }
@@ -344,6 +343,46 @@ impl Host {
             self.policy.turn();
         }
         self.say(None, Call::Start);
+    }
+
+    /// An image of a table in either form.
+    fn whole_image(&mut self) -> Vec<u8> {
+        let table = self.table();
+        match self.rng.one_in(2) {
+            true => DraftB::of(&table, &mut self.rng).bytes(),
+            false => table.bytes(),
+        }
+    }
+
+    /// The same with one byte changed, often with a sum that is right again.
+    fn damaged_image(&mut self) -> Vec<u8> {
+        let mut bytes = self.whole_image();
+        let rng = &mut self.rng;
+        let place = match rng.one_in(2) {
+            true => rng.place(bytes.len()),
+            false => rng.place(40),
+        };
+        bytes[place] = rng.other_byte(bytes[place]);
+        match bytes.starts_with(&form_b::BEGIN) && rng.one_in(2) {
+            true => summed(bytes),
+            false => bytes,
+        }
+    }
+
+    /// A convert of some image, whole or not.
+    fn stray_convert(&mut self) {
+        let record = &self.bench.drive.record;
+        let mut bytes = match self.rng.below(8) {
+            0..=2 if record.known => record.stored_image().to_vec(),
+            3..=5 => self.damaged_image(),
+            _ => self.whole_image(),
+        };
+        if self.rng.one_in(8) {
+            let length = self.length();
+            bytes.resize(length, 0);
+        }
+        let lend = self.rng.one_in(8).then(|| self.length());
+        self.say(lend, Call::Convert(bytes));
     }
 
     /// A table in which favourite blocks are moved or bad.
@@ -375,7 +414,7 @@ impl Host {
     /// A call that no sensible host makes now, or something besides.
     fn stray(&mut self) {
         let lend = self.rng.one_in(4).then(|| self.length());
-        match self.rng.below(60) {
+        match self.rng.below(63) {
             0 => {
                 let trying = matches!(self.bench.drive.record.phase, Phase::Trying(..));
                 if !trying || self.rng.one_in(BROKEN_OFF) {
@@ -410,6 +449,7 @@ impl Host {
                     self.say(Some(length), Call::Start);
                 }
             }
+            60..=62 => self.stray_convert(),
             _ => self.stray_answer(),
         }
     }
@@ -470,6 +510,7 @@ fn varied(line: &Line, rng: &mut Rng) -> String {
             zeros(rng),
             show_bytes_varied(bytes, rng)
         ),
+        Call::Convert(bytes) => format!("convert{}", show_bytes_varied(bytes, rng)),
         call => show(&Line {
             lend: None,
             call: call.clone(),

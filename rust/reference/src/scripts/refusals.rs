@@ -27,6 +27,8 @@ fn in_place(phase: Phase, call: &Call) -> bool {
         Call::Raise => matches!(phase, Phase::Idle | Phase::Command | Phase::Data),
         Call::Lower(_) => matches!(phase, Phase::Offered(_)),
         Call::Feed(_) => matches!(phase, Phase::Command | Phase::Data),
+        // It has no record.
+        Call::Convert(_) => true,
     }
 }
 

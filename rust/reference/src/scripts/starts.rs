@@ -5,8 +5,9 @@ use super::ways;
 use super::Stored;
 use crate::controller::{Answer, Code, Offer};
 use crate::geometry::TABLE;
+use crate::image::form_a;
 use crate::images::draft::Draft;
-use crate::images::{groups, Case, Expect};
+use crate::images::{of_form_a, Case, Expect};
 use crate::text::show_bytes;
 
 pub fn all() -> Vec<Stored> {
@@ -24,7 +25,7 @@ fn cases(expect: Expect, each: usize, most: usize) -> Vec<Vec<u8>> {
         case.expect == expect && case.bytes.len() == 532 && show_bytes(&case.bytes).len() <= most
     };
     let mut images = vec![];
-    for group in groups() {
+    for group in of_form_a() {
         let fitting = group.cases.into_iter().filter(fit);
         images.extend(fitting.take(each).map(|case| case.bytes));
     }
@@ -40,7 +41,7 @@ fn damaged_images() -> Bench {
     let mut bench =
         Bench::new("Images of every kind of damage, nine to a start, then a whole one.");
     let whole = Draft::small().bytes();
-    for nine in cases(Expect::None, 3, 260).chunks(9) {
+    for nine in cases(Expect::Form, 3, 260).chunks(9) {
         bench.skipped("");
         bench.start();
         for image in nine {
@@ -93,7 +94,7 @@ fn whole_images() -> Bench {
         bench.sectors.hold(TABLE, &image);
         bench.restarted();
         bench.image();
-        assert_eq!(bench.drive.record.table(), crate::image::read(&image));
+        assert_eq!(bench.drive.record.table(), form_a::read(&image));
     }
     bench.note("Each of some spares leads its block to its sector.");
     let dead = 0xFF_FFFE;

@@ -1,5 +1,5 @@
-//! Reads of FFFFFF: the data part is then what the image call gives, whatever it
-//! held before.
+//! Reads of FFFFFF: the data part is then the table in form A, and so is what the
+//! image call gives once it is converted, whatever the part held before.
 
 use super::bench::{Bench, RAM, TABLE_IMAGE};
 use super::Stored;
@@ -23,7 +23,8 @@ const BLOCK: u32 = 4000;
 const NUMBERS: [(u8, u8); 5] = [(0, 0), (0, 1), (10, 3), (255, 255), (255, 0)];
 
 fn table_read() -> Bench {
-    let mut bench = Bench::new("Reads of FFFFFF over other bytes, an image call after each.");
+    let mut bench =
+        Bench::new("Reads of FFFFFF over other bytes, an image call and its convert after each.");
     let tables = [(0, 0), (16, 50), (32, 100)].map(|(spares, bads)| {
         let draft = Draft::of_size(&mut Rng::new(SEED), spares, bads);
         assert!(!draft.spares.contains(&BLOCK) && !draft.bads.contains(&BLOCK));
@@ -41,14 +42,15 @@ fn table_read() -> Bench {
     bench
 }
 
-/// The data part is this table's image, and so is what the image call gives.
+/// The data part is this table's image of form A, and so is what the image call
+/// gives, once it is converted.
 #[track_caller]
 fn shown(bench: &mut Bench, draft: &Draft) {
     bench.said(Answer::Finished);
     assert_eq!(bench.drive.data(), draft.bytes());
-    let image = bench.drive.call(&Call::Image).image;
-    assert_eq!(image, Some(draft.bytes()));
     bench.table_is(&draft.spares, &draft.bads);
+    let image = bench.drive.call(&Call::Image).image.expect("an image");
+    assert_eq!(bench.converted(&image), draft.bytes());
 }
 
 /// What the part holds before: in each place one of them at least is not the image.

@@ -7,29 +7,32 @@ mod symbols;
 mod view;
 
 use reference::geometry::home;
-use reference::image::Table;
+use reference::image::{Entry, Form, Table};
 
 use super::svg::{counted, Canvas, BAD, INK, MOVED};
-use crate::summary::table_counts;
+use crate::table;
 use inset::{corner, inset, upper_right, BOX, INSET};
 use map::{axes, map, middle, CELL};
 use symbols::{diamond, dot_style, filled, keys, ring};
-use view::{parts, Move, View, PLACES, RESERVED_SECTORS};
+use view::{parts, Move, State, View, PLACES, RESERVED_SECTORS};
 
-/// The list of moves stands right of the enlarged cylinder, from here on, and
-/// names this many.
+/// The spare list stands right of the enlarged cylinder, from here on, and has this
+/// many entries.
 const LIST: i32 = 742;
-const LISTED: usize = 12;
+const LISTED: usize = 15;
+
+/// Of more moves than this the lines are paler.
+const FEW_MOVES: usize = 12;
 
 /// The legend begins here.
-const LEGEND: i32 = INSET.1 + 198;
+const LEGEND: i32 = INSET.1 + 238;
 
 const BOLD: &str = r#"font-size="14" font-weight="bold""#;
 
-/// The platter as SVG. `table` is none if no good table was found;
+/// The platter as SVG. `table` is none if no good table was found, and else has its form;
 /// `unreadable` are sector numbers, and those of no sector are left out.
-pub fn platter(title: &str, table: Option<&Table>, unreadable: &[u32]) -> String {
-    let view = View::new(table, unreadable);
+pub fn platter(title: &str, table: Option<&(Form, Table)>, unreadable: &[u32]) -> String {
+    let view = View::new(table.map(|(_, table)| table), unreadable);
     let mut canvas = Canvas::new();
     canvas.heading(title, &summary(table, view.unreadable.len()));
     axes(&mut canvas);
@@ -46,19 +49,22 @@ pub fn platter(title: &str, table: Option<&Table>, unreadable: &[u32]) -> String
 }
 
 /// The platter in one line, in the words of a run.
-fn summary(table: Option<&Table>, unreadable: usize) -> String {
+fn summary(table: Option<&(Form, Table)>, unreadable: usize) -> String {
     let unreadable = match unreadable {
         0 => String::new(),
         sectors => format!(", {}", counted(sectors, "unreadable sector")),
     };
-    let known = table.map(|table| table_counts(table, true));
+    let known = table.map(|(form, table)| {
+        let (form, counts) = (table::form(*form, table), table::counts(table, true));
+        format!("{form}, {counts}")
+    });
     let unknown = || "no good table found: the moved blocks are not known".to_string();
     format!("{}{unreadable}", known.unwrap_or_else(unknown))
 }
 
 /// A ring at each moved block's home, and a line from there to its spare.
 fn moves(canvas: &mut Canvas, view: &View) {
-    let many = view.moves.len() > LISTED;
+    let many = view.moves.len() > FEW_MOVES;
     let opacity = if many { "0.5" } else { "0.9" };
     let style = format!(r#"stroke="{MOVED}" stroke-width="1.5" stroke-opacity="{opacity}""#);
     canvas.group(&format!(r#"fill="none" {style}"#), |canvas| {
@@ -76,14 +82,16 @@ fn rings(canvas: &mut Canvas, view: &View) {
     }
 }
 
-/// "block 17 → spare 1 (sector 4929)".
+/// "block 17 → spare 1 (sector 4929), CRC error".
 fn sentence(moved: Move) -> String {
     let Move {
         block,
         spare,
         sector,
+        cause,
     } = moved;
-    format!("block {} → spare {spare} (sector {sector})", block.number())
+    let (block, cause) = (block.number(), table::cause(cause));
+    format!("block {block} → spare {spare} (sector {sector}), {cause}")
 }
 
 /// The line of a move. It comes to the upper row of spares from above, and to
@@ -164,25 +172,36 @@ fn box_dots(canvas: &mut Canvas, view: &View, colour: &str, size: i32) {
     canvas.path(&steps.collect::<String>(), &style);
 }
 
-/// The moves in words.
+/// The spare list in words.
 fn list(canvas: &mut Canvas, view: &View) {
     let top = INSET.1 + 5;
-    let title = match view.moves.len() {
-        _ if !view.known => "no good table found".to_string(),
-        0 => "no block has moved".to_string(),
-        count => format!("{}:", counted(count, "moved block")),
+    let title = match view.known {
+        false => "no good table found".to_string(),
+        true => listed_title(view.moves.len(), view.count(State::Dead)),
     };
     let colour = if view.known { INK } else { BAD };
     canvas.text((LIST, top), &format!("{BOLD} {}", filled(colour)), &title);
-    for (at, words) in listed(&view.moves).iter().enumerate() {
+    for (at, words) in listed(&view.entries).iter().enumerate() {
         canvas.text((LIST, top + 19 + 14 * at as i32), "", words);
     }
 }
 
+/// Gives the list's title: "2 moved blocks, 1 dead spare:".
+fn listed_title(moved: usize, dead: usize) -> String {
+    match (counted(moved, "moved block"), counted(dead, "dead spare")) {
+        _ if moved + dead == 0 => "no block has moved".to_string(),
+        (moved, _) if dead == 0 => format!("{moved}:"),
+        (_, dead) if moved == 0 => format!("{dead}:"),
+        (moved, dead) => format!("{moved}, {dead}:"),
+    }
+}
+
 /// The lines of the list.
-fn listed(moves: &[Move]) -> Vec<String> {
-    let first = moves.iter().take(LISTED).map(|&moved| sentence(moved));
-    let more = moves.len().saturating_sub(LISTED);
+fn listed(entries: &[Entry]) -> Vec<String> {
+    let lines = entries.iter().enumerate();
+    let lines = lines.map(|(k, &entry)| format!("spare {k}: {}", table::entry(entry)));
+    let first = lines.take(LISTED);
+    let more = entries.len().saturating_sub(LISTED);
     let rest = (more > 0).then(|| format!("and {more} more"));
     first.chain(rest).collect()
 }
@@ -190,35 +209,47 @@ fn listed(moves: &[Move]) -> Vec<String> {
 #[cfg(test)]
 mod tests {
     use reference::geometry::{Block, BLOCKS, SECTORS};
-    use reference::image::{Spare, MOST_BADS};
+    use reference::image::{Cause, Spare, MOST_BADS};
 
-    use super::super::svg::check;
+    use super::super::svg::{check, room, WIDTH};
     use super::*;
 
     fn block(number: u32) -> Block {
         Block::new(number).expect("a block")
     }
 
-    fn moved(number: u32) -> Spare {
-        Spare::Moved(block(number))
+    /// Makes the entry of a block that moved by CRC errors.
+    fn moved(number: u32) -> Entry {
+        let spare = Spare::Moved(block(number));
+        let cause = Cause::Crc;
+        Entry { spare, cause }
     }
 
-    fn table(spares: &[Spare], bads: &[u32]) -> Table {
+    fn dead(cause: Cause) -> Entry {
+        let spare = Spare::Dead;
+        Entry { spare, cause }
+    }
+
+    fn table(spares: &[Entry], bads: &[u32]) -> Table {
         let bads = bads.iter().map(|&number| block(number)).collect();
-        Table::new(spares.to_vec(), bads).expect("a table")
+        Table::new(3, spares.to_vec(), bads).expect("a table")
     }
 
     /// Every spare has a block, from all over the platter, and so has every
     /// place of the bad list.
     fn full() -> Table {
-        let spares: Vec<Spare> = (0..32).map(|k| moved(k * 8191 % BLOCKS)).collect();
+        let spares: Vec<Entry> = (0..32).map(|k| moved(k * 8191 % BLOCKS)).collect();
         let bads: Vec<u32> = (0..MOST_BADS as u32).map(|k| k * 97).collect();
         table(&spares, &bads)
     }
 
-    /// The picture of a table, looked over.
+    /// The picture of a table of form B, looked over.
     fn drawn(table: &Table, unreadable: &[u32]) -> String {
-        let svg = platter("A platter", Some(table), unreadable);
+        drawn_in(Form::B, table, unreadable)
+    }
+
+    fn drawn_in(form: Form, table: &Table, unreadable: &[u32]) -> String {
+        let svg = platter("A platter", Some(&(form, table.clone())), unreadable);
         check::picture(&svg);
         svg
     }
@@ -226,9 +257,13 @@ mod tests {
     #[test]
     fn the_week() {
         let svg = drawn(&table(&[moved(17)], &[]), &[17]);
-        assert!(svg.contains(">1 of 32 spares used, no bad block, 1 unreadable sector<"));
-        assert!(svg.contains(">block 17 → spare 0 (sector 4928)</text>"));
-        assert!(svg.contains("<title>sector 4928: spare 0, block 17</title>"));
+        let summary =
+            "form B, run number 3, 1 of 32 spares used, no bad block, 1 unreadable sector";
+        assert!(svg.contains(&format!(">{summary}<")));
+        assert!(svg.contains(">1 moved block:</text>"));
+        assert!(svg.contains(">spare 0: block 17, CRC error</text>"));
+        assert!(svg.contains("<title>block 17 → spare 0 (sector 4928), CRC error</title>"));
+        assert!(svg.contains("<title>sector 4928: spare 0, block 17, CRC error</title>"));
         assert!(svg.contains("<title>sector 4929: spare 1, unused</title>"));
         assert!(svg.contains("<title>sector 4960: the table</title>"));
         assert!(svg.contains("<title>unreadable: sectors 17</title>"));
@@ -257,33 +292,88 @@ mod tests {
             let end = if moved.spare < 16 {
                 format!(" {} {top}", left + 18)
             } else {
-                format!(" {} {}V{}h4", left - 2, INSET.1, top + 17)
+                format!(" {} {}V{}h4", left - 2, INSET.1, top + 22)
             };
             assert!(steps.ends_with(&end), "{steps}");
         }
     }
 
     #[test]
-    fn twelve_moves_are_listed_and_the_others_counted() {
-        let spares: Vec<Spare> = (0..13).map(moved).collect();
-        let view = |count: usize| View::new(Some(&table(&spares[..count], &[])), &[]);
-        assert_eq!(listed(&view(12).moves).len(), 12);
-        let lines = listed(&view(13).moves);
-        assert_eq!(lines.len(), 13);
-        assert_eq!(lines[0], "block 0 → spare 0 (sector 4928)");
-        assert_eq!(lines[12], "and 1 more");
+    fn fifteen_entries_are_listed_and_the_others_counted() {
+        let entries: Vec<Entry> = (0..16).map(moved).collect();
+        assert_eq!(listed(&entries[..15]).len(), 15);
+        let lines = listed(&entries);
+        assert_eq!(lines.len(), 16);
+        assert_eq!(lines[0], "spare 0: block 0, CRC error");
+        assert_eq!(lines[15], "and 1 more");
+    }
+
+    #[test]
+    fn the_title_of_the_list() {
+        for (moved, dead, title) in [
+            (0, 0, "no block has moved"),
+            (1, 0, "1 moved block:"),
+            (0, 2, "2 dead spares:"),
+            (16, 16, "16 moved blocks, 16 dead spares:"),
+        ] {
+            assert_eq!(listed_title(moved, dead), title);
+            assert!(LIST + room(title, 14) <= WIDTH, "{title}");
+        }
+    }
+
+    #[test]
+    fn the_list_has_room_for_every_entry() {
+        let spare = Spare::Moved(block(9727));
+        for cause in [Cause::Unknown, Cause::Crc, Cause::Timeout, Cause::NoSettle] {
+            let entries = [vec![dead(cause); 14], vec![Entry { spare, cause }]].concat();
+            for line in listed(&entries) {
+                assert!(LIST + room(&line, 12) <= WIDTH, "{line}");
+            }
+        }
+        let last = INSET.1 + 5 + 19 + 14 * LISTED as i32;
+        assert!(last < LEGEND, "{last}");
     }
 
     #[test]
     fn dead_spares_are_crossed() {
-        let svg = drawn(&table(&[Spare::Dead, moved(3), Spare::Dead], &[]), &[]);
-        assert!(svg.contains(">3 of 32 spares used, 2 of them dead, no bad block<"));
-        for (sector, k) in [(4928, 0), (4930, 2)] {
+        let spares = [dead(Cause::Timeout), moved(3), dead(Cause::Crc)];
+        let svg = drawn(&table(&spares, &[]), &[]);
+        assert!(svg.contains(" 3 of 32 spares used, 2 of them dead, no bad block<"));
+        for (sector, words) in [
+            (4928, "spare 0, dead, timeout"),
+            (4930, "spare 2, dead, CRC error"),
+        ] {
             let (x, y) = corner(sector);
             let steps = format!("<path d=\"M{} {}l16 16m0 -16l-16 16\"", x + 10, y + 14);
             assert!(svg.contains(&steps), "{steps}");
-            assert!(svg.contains(&format!("<title>sector {sector}: spare {k}, dead</title>")));
+            assert!(svg.contains(&format!("<title>sector {sector}: {words}</title>")));
         }
+    }
+
+    #[test]
+    fn each_cause_stands_in_its_box_and_in_the_list() {
+        for (cause, in_box, listed) in [
+            (Cause::Crc, 1, "CRC error"),
+            (Cause::Timeout, 1, "timeout"),
+            (Cause::NoSettle, 1, "no settle"),
+            (Cause::Unknown, 0, "cause unknown"),
+        ] {
+            let svg = drawn(&table(&[dead(cause)], &[]), &[]);
+            let (x, y) = corner(4928);
+            let place = format!("<text x=\"{}\" y=\"{}\" font-size=\"9\"", x + 18, y + 40);
+            assert_eq!(svg.matches(&place).count(), in_box, "{listed}");
+            assert!(svg.contains(&format!(">spare 0: dead, {listed}</text>")));
+        }
+        let svg = drawn(&table(&[moved(3)], &[]), &[]);
+        assert!(svg.contains(">CRC</text>"));
+    }
+
+    #[test]
+    fn form_a_has_no_run_number() {
+        let table = table(&[], &[]);
+        let svg = drawn_in(Form::A, &table, &[]);
+        assert!(svg.contains(">form A, no spare used, no bad block<"));
+        assert!(svg.contains(">no block has moved</text>"));
     }
 
     #[test]

@@ -348,6 +348,8 @@ fn draw_heading(canvas: &mut Canvas, top: i32, heading: &[Line]) {
 
 #[cfg(test)]
 mod tests {
+    use reference::image::Cause;
+
     use super::super::svg::check;
     use super::Mark::*;
     use super::*;
@@ -391,6 +393,7 @@ mod tests {
         let spared = Outcome::Spared {
             block: 17,
             sector: 4928,
+            cause: Cause::Timeout,
         };
         let rereads = |failed| Rereads { all: 100, failed };
         let long = [CrcError, Read, CrcError, Timeout, Read, Write, rereads(31)];
@@ -423,7 +426,7 @@ mod tests {
         for words in [
             "40 writes, blocks 0–39: 40 accesses, 0 errors, good",
             "read 17: 3 accesses, 2 errors, good",
-            "read 17: 207 accesses, 34 errors, spared: 17 → sector 4928",
+            "read 17: 207 accesses, 34 errors, spared: 17 → sector 4928, timeout",
             "raise: 1 access, 0 errors",
             "40 write/verifies, blocks 0–39: 80 accesses, 0 errors, good",
         ] {
@@ -439,7 +442,7 @@ mod tests {
             );
         }
         assert_eq!(svg.matches(">40 reads, blocks 0–39</text>").count(), 2);
-        assert_eq!(svg.matches(">17 → sector 4928</text>").count(), 1);
+        assert_eq!(svg.matches(">17 → sector 4928, timeout</text>").count(), 1);
         assert!(svg.len() < 25_000, "{}", svg.len());
     }
 
@@ -580,6 +583,7 @@ mod tests {
         let spared = |block| Outcome::Spared {
             block,
             sector: 4928 + block,
+            cause: Cause::NoSettle,
         };
         let command = |block| moment(&format!("read {block}"), &[NoSettle; 100], spared(block));
         let moments: Vec<Moment> = (0..9).map(command).collect();
@@ -587,7 +591,8 @@ mod tests {
         assert_eq!(lines, [0, 1, 2, 3, 4, 5, 6, 7, 8]);
         let svg = drawn(&moments);
         for block in 0..9 {
-            assert!(svg.contains(&format!(">{block} → sector {}</text>", 4928 + block)));
+            let words = format!("{block} → sector {}, no settle", 4928 + block);
+            assert!(svg.contains(&format!(">{words}</text>")), "{words}");
         }
         let short = row(&each("x", 0..2, &[CrcError])).cards;
         assert_eq!((short[0].1, short[1].1), (0, 0));

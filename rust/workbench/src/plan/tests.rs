@@ -47,6 +47,7 @@ fn reads() {
     assert_eq!(parse("read $FFFFFF"), Ok(table.clone()));
     assert_eq!(parse("read 0xffffff"), Ok(table));
     assert_eq!(parse(" health\t\r\n"), Ok(Line::Health));
+    assert_eq!(parse(" convert\r\n"), Ok(Line::Convert));
     let health = read(0xFF_FFFD, 0xFF_FFFD, 10, 3, None);
     assert_eq!(parse("read $FFFFFD"), Ok(health));
     assert_eq!(parse("dump $FFFFFD"), Ok(Line::Dump(0xFF_FFFD)));
@@ -156,7 +157,8 @@ fn expectations_and_traffic() {
 }
 
 /// Lines with a fault in them, and a part of what is said of each.
-const WRONG: [(&str, &str); 53] = [
+const WRONG: [(&str, &str); 54] = [
+    ("convert shop.platter", "\"shop.platter\" is too much"),
     ("red 17", "\"red\" begins no line of a plan"),
     ("Start", "\"Start\" begins no line"),
     ("start now", "\"now\" is too much"),
@@ -296,7 +298,7 @@ fn guide_examples() -> Vec<&'static str> {
 #[test]
 fn the_examples_of_help_and_guide_are_lines() {
     let (help, guide) = (help_examples(), guide_examples());
-    assert_eq!((help.len(), guide.len()), (23, 23));
+    assert_eq!((help.len(), guide.len()), (24, 24));
     for line in help.into_iter().chain(guide) {
         assert!(parse(line).is_ok(), "{line}: {:?}", parse(line));
     }

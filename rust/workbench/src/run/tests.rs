@@ -2,6 +2,7 @@ use super::*;
 use crate::files::test_folder;
 use crate::picture::Mark;
 use crate::platter;
+use reference::image::Cause;
 use std::fs;
 use std::path::Path;
 
@@ -141,7 +142,7 @@ fn equal_commands_are_one_line_and_a_trace_has_all() {
     assert_eq!(
         lines,
         [
-            "start: 1 read, table found: no spare used, no bad block",
+            "start: 1 read, table found: form B, run number 0, no spare used, no bad block",
             "reset: the controller waits",
             "write 3: 1 write, good, first since start or reset",
             "write 4..6: 3 blocks, each 1 write, good",
@@ -393,6 +394,106 @@ fn a_read_that_is_not_good_has_no_figures() {
     assert_eq!(figures(refused, [9; 5]), (true, words.to_string()));
 }
 
+/// Lists the lines of tables in an output: those of `convert`, `start` and `table`.
+fn table_lines(out: &str) -> Vec<&str> {
+    let (lines, _) = out.split_once("\n\nSummary\n").expect("a summary");
+    let starts = ["convert", "start", "table", "  spare", "  bad blocks"];
+    let wanted = |line: &&str| starts.iter().any(|start| line.starts_with(start));
+    let dead = |line: &&str| line.ends_with(" is dead");
+    lines
+        .lines()
+        .filter(wanted)
+        .filter(|line| !dead(line))
+        .collect()
+}
+
+#[test]
+fn from_form_a_to_form_b_and_back() {
+    let plan = "convert\nstart\nfault sector 3 writes next 1 timeout\n\
+                fault sector 4928 rereads fail 31 of 100\nwrite 3 \"one\"\nraise\nlower 00\n\
+                start\ntable\nconvert\nstart\ntable\nconvert\nstart\n";
+    let (ended, _, out) = played(plan, Settings::default());
+    assert_eq!(ended, Ok(true), "{out}");
+    assert_eq!(
+        table_lines(&out),
+        [
+            "convert: the table on the platter is of form A now",
+            "start: 1 read, table found: form A, no spare used, no bad block",
+            "start: 1 read, table found: form B, run number 1, 2 of 32 spares used, \
+             1 of them dead, no bad block",
+            "table: run number 1, 2 of 32 spares used, 1 of them dead, no bad block",
+            "  spare 0 (sector 4928): dead, CRC error",
+            "  spare 1 (sector 4929): block 3, CRC error",
+            "convert: the table on the platter is of form A now",
+            "start: 1 read, table found: form A, 2 of 32 spares used, 1 of them dead, no bad block",
+            "table: run number 0, 2 of 32 spares used, 1 of them dead, no bad block",
+            "  spare 0 (sector 4928): dead, cause unknown",
+            "  spare 1 (sector 4929): block 3, cause unknown",
+            "convert: the table on the platter is of form B now",
+            "start: 1 read, table found: form B, run number 0, 2 of 32 spares used, \
+             1 of them dead, no bad block",
+        ]
+    );
+}
+
+#[test]
+fn a_convert_switches_the_drive_off() {
+    for line in ["read 3", "table", "health", "raise", "reset", "traffic 5"] {
+        let plan = format!("start\nwrite 3 \"one\"\nraise\nconvert\n{line}\n");
+        let (ended, number, _) = played(&plan, Settings::default());
+        let message = ended.expect_err("the drive is off");
+        assert!(message.contains("the drive is not started yet"), "{line}");
+        assert_eq!(number, 5);
+    }
+    let plan = "start\nwrite 3 \"one\"\nraise\nconvert\nstart\nread 3\nexpect good\n\
+                convert\nstart\ncompare 3 with \"one\"\n";
+    let (ended, _, out) = played(plan, Settings::default());
+    assert_eq!(ended, Ok(true), "{out}");
+}
+
+#[test]
+fn a_table_that_cannot_be_converted_stays() {
+    let folder = test_folder("stays");
+    let path = folder.join("p");
+    let spoil = "start\nfault sector 3 reads all crc\nread 3 0 1\n\
+                 fault sector 4960 writes all unreadable\nraise\n";
+    let (ended, _, _) = played(spoil, on(&path));
+    assert_eq!(ended, Ok(true));
+    let before = fs::read(&path).expect("a platter");
+    let (ended, number, _) = played("convert\n", on(&path));
+    let message = "the platter has no good table, since sector 4960 is unreadable";
+    assert_eq!((ended, number), (Err(String::from(message)), 1));
+    assert!(fs::read(&path).expect("a platter") == before);
+
+    fs::remove_file(platter::unreadable_file(&path)).expect("removed");
+    let mut bytes = before;
+    bytes[4960 * 532 + 531] ^= 1;
+    fs::write(&path, &bytes).expect("written");
+    let (ended, _, _) = played("convert\n", on(&path));
+    let message = "the platter has no good table, code 7: the sum of form B is wrong";
+    assert_eq!(ended, Err(String::from(message)));
+    assert!(fs::read(&path).expect("a platter") == bytes);
+    fs::remove_dir_all(folder).expect("removed");
+}
+
+#[test]
+fn the_host_is_shown_form_a_and_the_platter_holds_form_b() {
+    let folder = test_folder("both-forms");
+    let path = folder.join("p");
+    let plan = "start\nfault sector 3 writes all unreadable\nwrite-verify 3 \"one\"\n\
+                read $FFFFFF to shown\n";
+    let (ended, _, out) = played(plan, on(&path));
+    assert_eq!(ended, Ok(true), "{out}");
+    let stored = || fs::read(&path).expect("a platter")[4960 * 532..][..532].to_vec();
+    assert_eq!(stored()[..4], controller::form_b::MAGIC);
+    let shown = fs::read(folder.join("shown")).expect("a table");
+    assert!(shown.starts_with(b"PROFILE "));
+    let (ended, _, _) = played("convert\n", on(&path));
+    assert_eq!(ended, Ok(true));
+    assert!(stored() == shown);
+    fs::remove_dir_all(folder).expect("removed");
+}
+
 #[test]
 fn moments_are_kept_for_a_picture() {
     let settings = Settings {
@@ -411,7 +512,8 @@ fn moments_are_kept_for_a_picture() {
         moments[2].outcome,
         Outcome::Spared {
             block: 9,
-            sector: 4928
+            sector: 4928,
+            cause: Cause::Crc
         }
     ));
     let rereads = |failed| Mark::Rereads { all: 100, failed };

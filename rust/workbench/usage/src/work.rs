@@ -26,6 +26,15 @@ pub enum Work {
         image: PathBuf,
         keep_going: bool,
     },
+    Table {
+        /// A platter, or a table's image.
+        source: PathBuf,
+    },
+    /// Turn a table's image into its other form.
+    Convert {
+        from: PathBuf,
+        to: PathBuf,
+    },
     Picture {
         /// A platter, or a table's image.
         source: PathBuf,
@@ -57,6 +66,13 @@ pub fn parse(words: &[&str], plans: Option<&Path>) -> Result<Work, String> {
         }),
         ["export", platter, image] => export(platter, image, false),
         ["export", "--keep-going", platter, image] => export(platter, image, true),
+        ["table", source] => Ok(Work::Table {
+            source: readable(source)?,
+        }),
+        ["convert", from, to] => Ok(Work::Convert {
+            from: readable(from)?,
+            to: new(to)?,
+        }),
         ["picture", source, to] => Ok(Work::Picture {
             source: readable(source)?,
             to: PathBuf::from(to),
@@ -267,6 +283,18 @@ mod tests {
         assert!(fault(&["import", NOWHERE, NOWHERE]).contains("/none cannot be read: "));
         assert!(fault(&["import", HERE, HERE]).contains(" is there already"));
         assert!(fault(&["import", FOLDER, NOWHERE]).ends_with("it is a folder"));
+        let work = Work::Table {
+            source: here.clone(),
+        };
+        assert_eq!(asks(&["table", HERE]), Ok(work));
+        assert!(fault(&["table", NOWHERE]).contains("/none cannot be read: "));
+        let work = Work::Convert {
+            from: here.clone(),
+            to: nowhere.clone(),
+        };
+        assert_eq!(asks(&["convert", HERE, NOWHERE]), Ok(work));
+        assert!(fault(&["convert", NOWHERE, NOWHERE]).contains("/none cannot be read: "));
+        assert!(fault(&["convert", HERE, HERE]).contains(" is there already"));
         let work = Work::Picture {
             source: here,
             to: nowhere,
@@ -280,6 +308,8 @@ mod tests {
         for (words, shown) in [
             (&["import", "a"][..], "workbench import IMAGE PLATTER"),
             (&["export"], "workbench export [--keep-going] PLATTER IMAGE"),
+            (&["table"], "workbench table PLATTER"),
+            (&["convert", "a"], "workbench convert FROM TO"),
             (
                 &["picture", "a", "b", "c"],
                 "workbench picture PLATTER OUT.svg",

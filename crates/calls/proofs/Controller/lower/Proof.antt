@@ -5,8 +5,14 @@ use borrow.Author.Needs.{needs}
 use Rattle.calls.proofs.Controller.lower.Statement.{statement}
 use Rattle.calls.proofs.Controller.lower.Tie as tie
 
+slice-aggregate-lower : tie.Need-slice-aggregate-lower
+slice-aggregate-lower c = search needs
+
 lower-requires : tie.Need-lower-requires
 lower-requires c κs = search needs
+
+noted-requires : tie.Need-noted-requires
+noted-requires c κs = search needs
 
 hand-back-requires : tie.Need-hand-back-requires
 hand-back-requires c κs = search needs
@@ -16,7 +22,17 @@ same-length c = search needs
 
 returns : tie.Need-returns
 unfolding stepOf
-returns c = (c .hand-back .ensures ∙ c .before .before .before .lower .ensures .0, c .before .before .before .lower .ensures .1)
+returns c =
+    let x = c .before .before .before .before .lower .ensures in
+    (c .hand-back .ensures ∙ rw (c .before .noted .ensures) (x .0), x .1)
 
 pub lower-spec : {M : Type 1} → statement M
-lower-spec = tie.close (tie.spec lower-requires hand-back-requires same-length returns)
+lower-spec =
+    tie.close
+    (tie.spec
+    slice-aggregate-lower
+    lower-requires
+    noted-requires
+    hand-back-requires
+    same-length
+    returns)

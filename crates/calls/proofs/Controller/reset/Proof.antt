@@ -5,8 +5,14 @@ use borrow.Author.Needs.{needs}
 use Rattle.calls.proofs.Controller.reset.Statement.{statement}
 use Rattle.calls.proofs.Controller.reset.Tie as tie
 
+slice-aggregate-reset : tie.Need-slice-aggregate-reset
+slice-aggregate-reset c = search needs
+
 reset-requires : tie.Need-reset-requires
 reset-requires c κs = search needs
+
+noted-requires : tie.Need-noted-requires
+noted-requires c κs = search needs
 
 hand-back-requires : tie.Need-hand-back-requires
 hand-back-requires c κs = search needs
@@ -16,7 +22,17 @@ same-length c = search needs
 
 returns : tie.Need-returns
 unfolding stepOf
-returns c = (c .hand-back .ensures ∙ c .before .before .before .reset .ensures .0, c .before .before .before .reset .ensures .1)
+returns c =
+    let x = c .before .before .before .before .reset .ensures in
+    (c .hand-back .ensures ∙ rw (c .before .noted .ensures) (x .0), x .1)
 
 pub reset-spec : {M : Type 1} → statement M
-reset-spec = tie.close (tie.spec reset-requires hand-back-requires same-length returns)
+reset-spec =
+    tie.close
+    (tie.spec
+    slice-aggregate-reset
+    reset-requires
+    noted-requires
+    hand-back-requires
+    same-length
+    returns)

@@ -5,11 +5,17 @@ use borrow.Author.Needs.{needs}
 use Rattle.calls.proofs.Controller.surface.Statement.{statement}
 use Rattle.calls.proofs.Controller.surface.Tie as tie
 
+slice-aggregate-surface : tie.Need-slice-aggregate-surface
+slice-aggregate-surface c = search needs
+
 surface-requires : tie.Need-surface-requires
 surface-requires c κs = search needs
 
+noted-requires : tie.Need-noted-requires
+noted-requires c κs = search needs
+
 alter-requires : tie.Need-alter-requires
-alter-requires c κs = c .before .before .surface .ensures .formed
+alter-requires c κs = c .before .before .before .surface .ensures .formed
 
 hand-back-requires : tie.Need-hand-back-requires
 hand-back-requires c κs = search needs
@@ -20,9 +26,17 @@ same-length c = search needs
 returns : tie.Need-returns
 unfolding stepOf
 returns c =
-    let x = c .before .before .before .before .surface .ensures .gives in
-    (c .hand-back .ensures ∙ rw (c .before .alter .ensures) (x .0), x .1)
+    let x = c .before .before .before .before .before .surface .ensures .gives in
+    (c .hand-back .ensures ∙ rw (c .before .alter .ensures, c .before .before .noted .ensures) (x .0), x .1)
 
 pub surface-spec : {M : Type 1} → statement M
 surface-spec =
-    tie.close (tie.spec surface-requires alter-requires hand-back-requires same-length returns)
+    tie.close
+    (tie.spec
+    slice-aggregate-surface
+    surface-requires
+    noted-requires
+    alter-requires
+    hand-back-requires
+    same-length
+    returns)

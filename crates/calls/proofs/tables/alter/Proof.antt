@@ -10,7 +10,7 @@ enum-told-2 : tie.Need-enum-told-2
 enum-told-2 c = search needs
 
 load-requires : tie.Need-load-requires
-load-requires c κs = rw (c .enum-told2 .given .1) at (c .before .before .before .pre)
+load-requires c κs = rw (c .enum-told2 .given .1) at (c .before .before .before .before .before .pre)
 
 enum-known-c : tie.Need-enum-known-c
 enum-known-c c = search needs
@@ -33,11 +33,26 @@ list-requires c κs = search needs
 without-bad-requires-2 : tie.Need-without-bad-requires-2
 without-bad-requires-2 c κs = search needs
 
-enum-told-3 : tie.Need-enum-told-3
-enum-told-3 c = search needs
+cause-number-requires : tie.Need-cause-number-requires
+cause-number-requires c κs = search needs
+
+cause-number-requires-2 : tie.Need-cause-number-requires-2
+cause-number-requires-2 c κs = search needs
+
+list-causes-requires : tie.Need-list-causes-requires
+list-causes-requires c κs = search needs
+
+enum-known-c-4 : tie.Need-enum-known-c-4
+enum-known-c-4 c = search needs
 
 kill-next-requires : tie.Need-kill-next-requires
 kill-next-requires c κs = search needs
+
+cause-number-requires-3 : tie.Need-cause-number-requires-3
+cause-number-requires-3 c κs = search needs
+
+kill-cause-requires : tie.Need-kill-cause-requires
+kill-cause-requires c κs = search needs
 
 returns : tie.Need-returns
 returns c = rw (c .enum-told .given .1)
@@ -52,10 +67,10 @@ returns-4 : tie.Need-returns-4
 returns-4 c = rw (c .without-bad .ensures, c .before .before .c2 .given .1)
 
 returns-5 : tie.Need-returns-5
-returns-5 c = rw (c .without-bad2 .ensures, c .before .list .ensures, c .before .before .before .c3 .given .1)
+returns-5 c = rw (c .list-causes .ensures, c .before .cause-number2 .ensures, c .before .before .cause-number .ensures, c .before .before .before .without-bad2 .ensures, c .before .before .before .before .list .ensures, c .before .before .before .before .before .before .c3 .given .1)
 
 returns-6 : tie.Need-returns-6
-returns-6 c = rw (c .kill-next .ensures, c .before .enum-told3 .given .1)
+returns-6 c = rw (c .kill-cause .ensures, c .before .cause-number3 .ensures, c .before .before .kill-next .ensures, c .before .before .before .before .c4 .given .1)
 
 pub alter-spec : {M : Type 1} → statement M
 alter-spec =
@@ -71,8 +86,13 @@ alter-spec =
     enum-known-c-3
     list-requires
     without-bad-requires-2
-    enum-told-3
+    cause-number-requires
+    cause-number-requires-2
+    list-causes-requires
+    enum-known-c-4
     kill-next-requires
+    cause-number-requires-3
+    kill-cause-requires
     returns
     returns-2
     returns-3

@@ -25,7 +25,7 @@ returns : tie.Need-returns
 returns c = clash (c .before .before .before .before .before .pre) (is-formed (now (c .before .before .before .before .before .args .bytes)) _ _ (ap (λ (x : Image). x .found) (c .before .before .before .read-image .ensures)) (c .before .enum-told .given .1))
 
 returns-2 : tie.Need-returns-2
-returns-2 c = loads (now (c .before .before .before .before .before .before .before .args .bytes)) (c .before .before .before .before .before .read-image .result) _ _ (c .before .before .before .before .before .before .before .pre) (c .before .before .before .before .before .read-image .ensures) (c .before .before .before .found .given .1)
+returns-2 c = loads (now (c .before .before .before .before .before .before .before .before .args .bytes)) (c .before .before .before .before .before .before .read-image .result) _ _ _ (c .before .before .before .before .before .before .before .before .pre) (c .before .before .before .before .before .before .read-image .ensures) (c .before .before .before .before .found .given .1)
 
 pub load-spec : {M : Type 1} → statement M
 load-spec =

@@ -22,7 +22,7 @@ same-length c = search needs
 
 returns : tie.Need-returns
 unfolding imageText
-returns c = after _ _ _ (after _ _ _ (c .before .before .before .before .before .before .before .before .before .before .before .before .put-answer .ensures) (c .before .before .before .before .before .before .before .put-word .ensures)) (c .before .before .put-sum .ensures)
+returns c = after _ _ _ (after _ _ _ (c .before .before .before .before .before .before .before .before .before .before .before .put-answer .ensures) (c .before .before .before .before .before .before .put-word .ensures)) (c .before .before .put-sum .ensures)
 
 pub put-image-spec : {M : Type 1} → statement M
 put-image-spec =

@@ -37,6 +37,7 @@ fn what_is_not_tried_is_missed() {
     };
     none_of("beyond.spares.count-33.", met(|d| d.nspares != 33).missed());
     none_of("at.data.count-533.", met(|d| d.fed != 533).missed());
+    none_of("beyond.causes.first-4.", met(|d| d.causes[0] != 4).missed());
     none_of("beyond.spent.90.", met(|d| d.stage.spent != 90).missed());
     none_of(
         "beyond.trial.rereads-101.",

@@ -184,7 +184,8 @@ fn the_mark_is_no_comparison() {
     assert_eq!(said(&mut drive, Call::Lower(0x55)), write_of(5));
     surface(&mut drive, 0, &[]);
     assert_eq!(reads(&mut drive, &"g".repeat(100)), Answer::Finished);
-    assert_eq!(drive.record.table(), worn(&[], &[]).record.table());
+    let Record { spares, bads, .. } = &drive.record;
+    assert!(spares.is_empty() && bads.is_empty());
     read_after_store(&mut drive, 3, [32, 0, 0, 1]);
     read_after_store(&mut drive, 0, [32, 0, 0, 0]);
 }

@@ -98,6 +98,39 @@ fn random_scripts_read_and_write_the_health_block() {
 }
 
 #[test]
+fn random_scripts_have_both_forms() {
+    coverage::clear();
+    for temper in temper::ALL {
+        simulate(800, 12_000, SOMETIMES, temper);
+    }
+    for (name, least) in [
+        ("start.good.form-a", 20),
+        ("start.good.form-b", 20),
+        ("start.good.sum", 3),
+        ("start.run-number.at-its-top", 3),
+        ("store.run-number.one-more", 20),
+        ("store.run-number.at-its-top", 1),
+        ("convert.a-to-b", 20),
+        ("convert.b-to-a", 20),
+        ("refused.6.convert.begins-as-a", 3),
+        ("refused.6.convert.other", 3),
+        ("refused.7.convert", 3),
+        ("refused.8.convert.zeros", 1),
+        ("refused.2.convert.first", 3),
+        ("refused.2.convert.second", 3),
+        ("moved.cause.crc", 3),
+        ("moved.cause.timeout", 3),
+        ("moved.old-entry-killed.cause.crc", 1),
+        ("moved.old-entry-killed.cause.timeout", 1),
+        ("moved.old-entry-killed.after-another-failure-on-a-spare", 1),
+        ("dead.by-no-settle.in-spare-reread", 1),
+    ] {
+        let count = coverage::count(name);
+        assert!(count >= least, "{name}: {count}");
+    }
+}
+
+#[test]
 fn random_scripts_bring_rereads_that_nearly_match() {
     coverage::clear();
     for temper in temper::ALL {
@@ -141,11 +174,11 @@ fn random_scripts_have_trials_on_both_sides_of_the_bound() {
     }
 }
 
-/// Three scripts of a temper.
+/// Some scripts of a temper.
 fn tempered(temper: &'static Temper) -> Vec<Tally> {
     coverage::clear();
     let script = |seed| simulate(seed, 8000, NEVER, temper).1;
-    [400, 401, 402].map(script).to_vec()
+    (400..406).map(script).collect()
 }
 
 #[test]
@@ -175,7 +208,7 @@ fn tempers_differ() {
 
 #[test]
 fn a_worn_drive_makes_the_longest_read() {
-    let (_, tally) = simulate(401, 40_000, NEVER, &WORN);
+    let (_, tally) = simulate(402, 40_000, NEVER, &WORN);
     assert_eq!(tally.most_accesses, MOST_ACCESSES);
 }
 

@@ -5,7 +5,7 @@ use std::collections::BTreeSet;
 use std::ops::Range;
 
 use reference::geometry::{home, spare, Block, SECTORS, SPARES, TABLE};
-use reference::image::{Spare, Table};
+use reference::image::{Cause, Entry, Spare, Table};
 
 /// The drive: cylinders, and on each this many heads and sectors a track.
 pub const CYLINDERS: u32 = 153;
@@ -35,17 +35,20 @@ pub enum Use {
     Nothing,
 }
 
-/// A block that left its home, its spare, and the spare's sector.
+/// A block that left its home, its spare, the spare's sector, and the cause.
 #[derive(Clone, Copy)]
 pub struct Move {
     pub block: Block,
     pub spare: usize,
     pub sector: u32,
+    pub cause: Cause,
 }
 
 /// What the picture shows.
 pub struct View {
     pub known: bool,
+    /// The spare list; entry `k` is that of spare `k`.
+    pub entries: Vec<Entry>,
     pub states: Vec<State>,
     pub moves: Vec<Move>,
     pub bads: Vec<Block>,
@@ -54,10 +57,10 @@ pub struct View {
 
 impl View {
     pub fn new(table: Option<&Table>, unreadable: &[u32]) -> View {
-        let spares = table.map_or(&[][..], Table::spares);
+        let entries = table.map_or(&[][..], Table::spares);
         let unlisted = table.map_or(State::Unknown, |_| State::Unused);
-        let listed = spares.iter().map(|spare| match spare {
-            Spare::Moved(block) => State::Moved(*block),
+        let listed = entries.iter().map(|entry| match entry.spare {
+            Spare::Moved(block) => State::Moved(block),
             Spare::Dead => State::Dead,
         });
         let states: Vec<State> = listed
@@ -67,7 +70,8 @@ impl View {
         let sectors = unreadable.iter().copied();
         View {
             known: table.is_some(),
-            moves: moves_of(&states),
+            entries: entries.to_vec(),
+            moves: moves_of(entries),
             states,
             bads: table.map_or(Vec::new(), |table| table.bads().to_vec()),
             unreadable: sectors.filter(|&sector| sector < SECTORS).collect(),
@@ -96,15 +100,16 @@ impl View {
     }
 }
 
-fn moves_of(states: &[State]) -> Vec<Move> {
-    let entries = states.iter().enumerate();
-    let moved = entries.filter_map(|(k, &state)| match state {
-        State::Moved(block) => Some(Move {
+fn moves_of(entries: &[Entry]) -> Vec<Move> {
+    let entries = entries.iter().enumerate();
+    let moved = entries.filter_map(|(k, entry)| match entry.spare {
+        Spare::Moved(block) => Some(Move {
             block,
             spare: k,
             sector: spare(k)?.number(),
+            cause: entry.cause,
         }),
-        _ => None,
+        Spare::Dead => None,
     });
     moved.collect()
 }

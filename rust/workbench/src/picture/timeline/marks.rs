@@ -1,6 +1,9 @@
 //! The marks of a time line: surface accesses and outcomes of commands.
 
+use reference::image::Cause;
+
 use super::super::svg::{room, Canvas, Key, BAD, MOVED, TABLE};
+use crate::table;
 
 /// One surface access, or the rereads of a trial. Read, write and store went well; CRC
 /// error, timeout and no settle are errors.
@@ -23,7 +26,11 @@ pub enum Mark {
 #[derive(Clone, Copy, Debug, PartialEq, Eq)]
 pub enum Outcome {
     Good,
-    Spared { block: u32, sector: u32 },
+    Spared {
+        block: u32,
+        sector: u32,
+        cause: Cause,
+    },
     Failed,
     Refused,
     None,
@@ -123,7 +130,7 @@ impl Outcome {
     pub fn room(self) -> i32 {
         match self {
             Outcome::Good | Outcome::Failed | Outcome::Refused => 24,
-            Outcome::Spared { block, sector } => room(&spared(block, sector), 12) + 24,
+            Outcome::Spared { .. } => room(&self.spared(), 12) + 24,
             Outcome::None => 0,
         }
     }
@@ -134,7 +141,7 @@ impl Outcome {
             Outcome::Good => good(canvas, x + 14, y),
             Outcome::Failed => failed(canvas, x + 14, y),
             Outcome::Refused => refused(canvas, x + 14, y),
-            Outcome::Spared { block, sector } => pill(canvas, x + 6, y, &spared(block, sector)),
+            Outcome::Spared { .. } => pill(canvas, x + 6, y, &self.spared()),
             Outcome::None => {}
         }
     }
@@ -145,15 +152,22 @@ impl Outcome {
             Outcome::Good => ", good".to_string(),
             Outcome::Failed => ", failed".to_string(),
             Outcome::Refused => ", refused".to_string(),
-            Outcome::Spared { block, sector } => format!(", spared: {}", spared(block, sector)),
+            Outcome::Spared { .. } => format!(", spared: {}", self.spared()),
             Outcome::None => String::new(),
         }
     }
-}
 
-/// "17 → sector 4929".
-fn spared(block: u32, sector: u32) -> String {
-    format!("{block} → sector {sector}")
+    /// Says where a block moved and why: "17 → sector 4929, CRC error".
+    fn spared(self) -> String {
+        match self {
+            Outcome::Spared {
+                block,
+                sector,
+                cause,
+            } => format!("{block} → sector {sector}, {}", table::cause(cause)),
+            _ => String::new(),
+        }
+    }
 }
 
 fn good(canvas: &mut Canvas, x: i32, y: i32) {

@@ -1,0 +1,148 @@
+-- Form B, computed: an image byte by byte, each clause broken by itself, and the two forms turned into one another.
+use mathlib.Core.Path.{_≡_, refl}
+use mathlib.Core.Bool.{Bool, true, false}
+use mathlib.Core.List.{List, [], _∷_, _++_}
+use Prim.Native.Nat.{ℕ, zero, suc, _%_}
+use lib.ListN.{take, drop, replicate}
+use Rattle.lists.specs.Lists.{memberOf, entryOk, entriesOk, dead}
+use Rattle.table.specs.Tables.{causesOk, spareList, badList}
+use Rattle.buffer.specs.Runs.{same, allAre, sum}
+use Rattle.image.specs.declared.Fault.{Fault}
+use Rattle.image.specs.declared.Fault.the-variants as fault
+use Rattle.image.specs.Layouts.{wide, triple, triples, narrow, entryAt, entriesFrom, entriesFit}
+use Rattle.image.specs.FormA.{listPart, framedPart, formA, framedA, formedA}
+use Rattle.image.specs.FormB.{twoBytes, headB, quad, quads, listedPart, summedPart, formB, twoAt, causesFrom, sumFits, framedB, fieldsFit, formedB}
+use Rattle.image.specs.Images.{wellFormed, faultOf, tableOf, runOf, causesOf, converted}
+
+-- AN IMAGE, BYTE BY BYTE: run number 01020304, block 17 on spare 0 after a CRC error, spare 1 dead by no settle, blocks 5 and 9727 bad.
+
+abbrev made : List ℕ
+made = formB 0x01020304 (17 ∷ dead ∷ []) (1 ∷ 3 ∷ []) (5 ∷ 9727 ∷ [])
+
+abbrev spelled : List ℕ
+spelled =
+    0xF0 ∷ 0x78 ∷ 0x3C ∷ 0x1E
+    ∷ 0x01 ∷ 0x02 ∷ 0x03 ∷ 0x04
+    ∷ 0x00 ∷ 0x02 ∷ 0x00 ∷ 0x10
+    ∷ 0x00 ∷ 0x02 ∷ 0x00 ∷ 0x18
+    ∷ 0x00 ∷ 0x00 ∷ 0x11 ∷ 0x01
+    ∷ 0xFF ∷ 0xFF ∷ 0xFE ∷ 0x03
+    ∷ 0x00 ∷ 0x00 ∷ 0x05
+    ∷ 0x00 ∷ 0x25 ∷ 0xFF
+    ∷ (replicate 500 0x00 ++ (0x06 ∷ 0x32 ∷ []))
+
+pub byte-by-byte : made ≡ spelled
+unfolding wide triple triples twoBytes headB quad quads listedPart summedPart formB sum
+byte-by-byte = refl
+
+-- It reads as what was written.
+pub record Reads : Type 0 where
+  pub formed : wellFormed spelled ≡ true
+  pub run : runOf spelled ≡ 0x01020304
+  pub causes : causesOf spelled ≡ 1 ∷ 3 ∷ replicate 30 0
+  pub spares : spareList (tableOf spelled) ≡ 17 ∷ dead ∷ []
+  pub bads : badList (tableOf spelled) ≡ 5 ∷ 9727 ∷ []
+
+pub reads : Reads
+unfolding memberOf entryOk entriesOk causesOk same allAre sum narrow entryAt entriesFrom entriesFit twoAt causesFrom sumFits framedB fieldsFit formedB wellFormed tableOf runOf causesOf
+reads = record { formed = refl; run = refl; causes = refl; spares = refl; bads = refl }
+
+-- EACH CLAUSE BY ITSELF
+
+-- Returns the bytes with another one at place k.
+abbrev with : ℕ → ℕ → List ℕ → List ℕ
+with k v i = take k i ++ (v ∷ drop (suc k) i)
+
+-- Returns them with the sum that they have now.
+abbrev resummed : List ℕ → List ℕ
+resummed i = take 530 i ++ twoBytes (sum (take 530 i) % 65536)
+
+-- Returns an image with one other byte, and the right sum.
+abbrev altered : ℕ → ℕ → List ℕ
+altered k v = resummed (with k v spelled)
+
+-- Returns an image of so many entries: dead spares by no settle, and the first blocks.
+abbrev blocks : ℕ → List ℕ
+blocks zero = []
+blocks (suc n) = n ∷ blocks n
+
+abbrev sized : ℕ → ℕ → List ℕ
+sized n m = formB 0xFFFFFFFF (replicate n dead) (replicate n 3) (blocks m)
+
+pub record Refuses : Type 0 where
+  -- 6: one of the four bytes, whatever the rest is; the sum is not looked at
+  pub first-byte : faultOf (altered 0 0xF1) ≡ fault.Form
+  pub fourth-byte : faultOf (altered 3 0x1F) ≡ fault.Form
+  pub short : faultOf (take 531 spelled) ≡ fault.Form
+  -- 7: the sum, and each byte before it
+  pub high-sum : faultOf (with 530 0x07 spelled) ≡ fault.Sum
+  pub low-sum : faultOf (with 531 0x33 spelled) ≡ fault.Sum
+  pub last-byte-summed : faultOf (with 529 0x01 spelled) ≡ fault.Sum
+  pub first-byte-summed : faultOf (with 4 0x02 spelled) ≡ fault.Sum
+  -- 7 before 8
+  pub sum-first : faultOf (with 11 0x14 spelled) ≡ fault.Sum
+  -- "modulo 65,536"
+  pub modulo : faultOf (0xF0 ∷ 0x78 ∷ 0x3C ∷ 0x1E ∷ (replicate 526 0xFF ++ (0x0D ∷ 0xB4 ∷ []))) ≡ fault.Field
+  -- 8: offsets, counts, entries, causes, zeros
+  pub spare-offset : wellFormed (altered 11 0x14) ≡ false
+  pub spare-offset-high : wellFormed (altered 10 0x01) ≡ false
+  pub bad-offset : wellFormed (altered 15 0x1C) ≡ false
+  pub bad-offset-high : wellFormed (altered 14 0x01) ≡ false
+  pub no-block : wellFormed (altered 17 0x26) ≡ false
+  pub block-twice : wellFormed (formB 0 (17 ∷ 17 ∷ []) (0 ∷ 0 ∷ []) []) ≡ false
+  pub dead-bad : wellFormed (formB 0 [] [] (dead ∷ [])) ≡ false
+  pub bad-twice : wellFormed (formB 0 [] [] (5 ∷ 5 ∷ [])) ≡ false
+  pub cause-4 : wellFormed (altered 19 0x04) ≡ false
+  pub cause-of-a-dead-spare : wellFormed (altered 23 0xFF) ≡ false
+  pub first-zero : wellFormed (altered 30 0x01) ≡ false
+  pub last-zero : wellFormed (altered 529 0x01) ≡ false
+  pub spares-32 : wellFormed (sized 32 100) ≡ true
+  pub spares-33 : wellFormed (sized 33 0) ≡ false
+  pub bads-101 : wellFormed (sized 0 101) ≡ false
+  -- which is no other fault
+  pub a-field : faultOf (altered 11 0x14) ≡ fault.Field
+  -- a form A that is broken is no form B
+  pub broken-a : faultOf (with 0 0x51 (formA [] [])) ≡ fault.Form
+
+pub refuses : Refuses
+unfolding memberOf entryOk entriesOk causesOk same allAre sum wide triple triples narrow entryAt entriesFrom entriesFit listPart framedPart formA framedA formedA twoBytes headB quad quads listedPart summedPart formB twoAt causesFrom sumFits framedB fieldsFit formedB wellFormed faultOf
+refuses =
+    record {
+      first-byte = refl;
+      fourth-byte = refl;
+      short = refl;
+      high-sum = refl;
+      low-sum = refl;
+      last-byte-summed = refl;
+      first-byte-summed = refl;
+      sum-first = refl;
+      modulo = refl;
+      spare-offset = refl;
+      spare-offset-high = refl;
+      bad-offset = refl;
+      bad-offset-high = refl;
+      no-block = refl;
+      block-twice = refl;
+      dead-bad = refl;
+      bad-twice = refl;
+      cause-4 = refl;
+      cause-of-a-dead-spare = refl;
+      first-zero = refl;
+      last-zero = refl;
+      spares-32 = refl;
+      spares-33 = refl;
+      bads-101 = refl;
+      a-field = refl;
+      broken-a = refl;
+    }
+
+-- THE OTHER FORM: of B its lists alone, of A its lists with zeros.
+pub record Turns : Type 0 where
+  pub to-a : converted spelled ≡ formA (17 ∷ dead ∷ []) (5 ∷ 9727 ∷ [])
+  pub to-b : converted (formA (17 ∷ dead ∷ []) (5 ∷ 9727 ∷ [])) ≡ formB 0 (17 ∷ dead ∷ []) (0 ∷ 0 ∷ []) (5 ∷ 9727 ∷ [])
+  pub a-has-no-run-number : runOf (formA (17 ∷ []) []) ≡ 0
+  pub a-has-no-causes : causesOf (formA (17 ∷ []) []) ≡ replicate 32 0
+
+pub turns : Turns
+unfolding memberOf entryOk entriesOk causesOk same allAre sum wide triple triples narrow entryAt entriesFrom listPart framedPart formA twoBytes headB quad quads listedPart summedPart formB twoAt causesFrom tableOf runOf causesOf converted
+turns = record { to-a = refl; to-b = refl; a-has-no-run-number = refl; a-has-no-causes = refl }
