@@ -108,7 +108,7 @@ enum {
 
 /* Where an image of form B has its numbers, each with its high byte first. */
 enum {
-    BV_FORM_B_RUN = 4,           /* 4 bytes: the stores that were asked for; stays at 0xFFFFFFFF */
+    BV_FORM_B_RUN = 4,           /* 4 bytes: one more per store asked for; stays at 0xFFFFFFFF */
     BV_FORM_B_SPARE_COUNT = 8,   /* 2 bytes, as the next three have */
     BV_FORM_B_SPARE_OFFSET = 10, /* 16 */
     BV_FORM_B_BAD_COUNT = 12,
@@ -224,6 +224,12 @@ static inline unsigned bv_rereads(const struct bv_drive *drive)
 static inline unsigned bv_failures(const struct bv_drive *drive)
 {
     return bv_phase(drive) == BV_AT_TRIAL_READ ? drive->words[8] & 0xFF : 0;
+}
+
+/* Returns the run number of the table: it goes up with each store that is asked for. */
+static inline uint32_t bv_run_number(const struct bv_drive *drive)
+{
+    return drive->words[20] + 65536u * drive->words[21];
 }
 
 BV_STATIC_ASSERT(sizeof(size_t) == 8, "the library is one of 64 bits");

@@ -279,6 +279,7 @@ static void remembers(unsigned last, unsigned before, unsigned present)
 static void run_is(uint32_t run)
 {
     EXPECT(drive.words[RUN] + 65536u * drive.words[RUN + 1] == run);
+    EXPECT(bv_run_number(&drive) == run);
 }
 
 /* The trial of a sector, from its write on, with so many failures. The last reread is answered with `kind`. */

@@ -3,7 +3,7 @@
 ghost use mathlib.Core.Path.{_≡_};
 ghost use Rattle.drive.specs.Calls as call;
 ghost use Rattle.parity.specs.Bits.{parityOf};
-ghost use Rattle.crossing.specs.Crossing.{shown, callShown, answerShown, startShown, imageShown, told, convertShown};
+ghost use Rattle.crossing.specs.Crossing.{shown, callShown, answerShown, startShown, imageShown, shownBytes, convertShown};
 use crossing::Reply;
 use packed::Words;
 
@@ -63,7 +63,7 @@ pub extern "C" fn bv_image(drive: &Words, buf: &mut [u8]) -> Reply
 
 #[no_mangle]
 pub extern "C" fn bv_convert(from: &[u8], to: &mut [u8]) -> Reply
-    ensures { λ r. ⌜ told r (now (to .exit)) ≡ convertShown (now (from .entry)) (now (to .entry)) ⌝ }
+    ensures { λ r. ⌜ shownBytes r (now (to .exit)) ≡ convertShown (now (from .entry)) (now (to .entry)) ⌝ }
 {
     crossing::convert(from, to)
 }

@@ -1,6 +1,6 @@
-// The seven calls of document 01, and convert of document 02, request 6. Each of the seven refuses with codes 1 and 2, lets its rule decide, and leaves the
-// buffer as the turn says. Over lent lists: whoever holds a record, in whatever form, calls these. Over
-// the whole record: the methods of Controller.
+// The seven calls of document 01, and convert of document 02, request 6. Each of the seven refuses with
+// codes 1 and 2, lets its rule decide, and leaves the buffer as the turn says. Over lent lists: whoever
+// holds a record, in whatever form, calls these. Over the whole record: the methods of Controller.
 ghost use mathlib.Core.Path.{_≡_};
 ghost use mathlib.Core.Bool.{_&&_};
 ghost use lib.ListN.{length};

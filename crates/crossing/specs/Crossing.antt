@@ -62,16 +62,16 @@ abbrev pub imageShown : List ℕ → List ℕ → Shown
 imageShown w u = shown (replyOf (imageOutOf (unpackOf w) u .step .answer)) w (imageOutOf (unpackOf w) u .bytes)
 
 -- Holds what C is shown of convert: the reply and the second buffer's bytes. It has no record.
-pub record Told : Type 0 where
+pub record ShownBytes : Type 0 where
   pub reply : Reply
   pub bytes : List ℕ
 
-abbrev pub told : Reply → List ℕ → Told
-told r u = record { reply = r; bytes = u }
+abbrev pub shownBytes : Reply → List ℕ → ShownBytes
+shownBytes r u = record { reply = r; bytes = u }
 
 -- Returns what C is shown of convert.
-abbrev pub convertShown : List ℕ → List ℕ → Told
-convertShown from to = told (replyOf (convertOf from to .answer)) (convertOf from to .bytes)
+abbrev pub convertShown : List ℕ → List ℕ → ShownBytes
+convertShown from to = shownBytes (replyOf (convertOf from to .answer)) (convertOf from to .bytes)
 
 -- Returns the words of a table and its causes.
 abbrev pub noteWords : Noted → List ℕ

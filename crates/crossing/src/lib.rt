@@ -7,7 +7,7 @@ ghost use Rattle.drive.specs.Words.{codeOf};
 ghost use Rattle.drive.specs.Calls as call;
 ghost use Rattle.calls.specs.Gives.{Gives, Formed, Answers, notesOf, alteredOf};
 ghost use Rattle.packed.specs.Packing.{stateAt, tableAt, causesAt, unpackOf};
-ghost use Rattle.crossing.specs.Crossing.{reply, replyOf, noteWords, Keeps, shown, startShown, imageShown, told, convertShown};
+ghost use Rattle.crossing.specs.Crossing.{reply, replyOf, noteWords, Keeps, shown, startShown, imageShown, shownBytes, convertShown};
 use calls::Controller;
 use calls::tables::Noted;
 use drive::Answer;
@@ -261,7 +261,7 @@ pub fn image(w: &[u16], buf: &mut [u8]) -> Reply
 
 // Turns an image of either form into the other, in a second lent buffer.
 pub fn convert(from: &[u8], to: &mut [u8]) -> Reply
-    ensures { λ r. ⌜ told r (now (to .exit)) ≡ convertShown (now (from .entry)) (now (to .entry)) ⌝ }
+    ensures { λ r. ⌜ shownBytes r (now (to .exit)) ≡ convertShown (now (from .entry)) (now (to .entry)) ⌝ }
 {
     let a = calls::convert(from, to);
     reply_of(a)

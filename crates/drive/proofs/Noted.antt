@@ -26,10 +26,11 @@ use Rattle.drive.specs.declared.State.{State}
 use Rattle.drive.specs.declared.Target.{Target}
 use Rattle.drive.specs.declared.Trial.{Trial}
 use Rattle.drive.specs.declared.Turn.{Turn}
+use Rattle.drive.specs.Words.{codeOf}
 use Rattle.drive.specs.Results.{noted, clean}
 use Rattle.drive.specs.Sparing.{missed, stopped, verified, tried, counted}
 use Rattle.drive.specs.Access.{writeAnswered}
-use Rattle.drive.specs.Calls.{Call, raise, lower, surface, reset, started, imageOutOf, Conversion, convertOf}
+use Rattle.drive.specs.Calls.{Call, raise, lower, feed, surface, reset, started, imageOutOf, Conversion, convertOf}
 use Rattle.drive.proofs.Computing.{computed}
 use Rattle.drive.proofs.Examples.{ready, run}
 use Rattle.drive.proofs.Codes.{table}
@@ -149,7 +150,7 @@ unstored n =
 abbrev runAfter : Drive → List Call → ℕ
 runAfter d cs = run d (replicate 536 0) cs .step .drive .state .run
 
-pub record Runs : Type 0 where
+pub record RunNumbers : Type 0 where
   -- up with the store that is asked for; the image fetched for it carries it
   pub asked : runAfter (unstored 6) (raise ∷ []) ≡ 7
   pub fetched : imageOutOf (run (unstored 6) (replicate 536 0) (raise ∷ []) .step .drive) (replicate 532 5) .bytes ≡ formB 7 (dead ∷ 17 ∷ []) (3 ∷ 1 ∷ []) []
@@ -158,6 +159,8 @@ pub record Runs : Type 0 where
   pub failed : runAfter (unstored 6) (raise ∷ surface 2 [] ∷ []) ≡ 7
   pub again : runAfter (unstored 6) (raise ∷ surface 2 [] ∷ reset ∷ raise ∷ []) ≡ 8
   pub after-no-settle : runAfter (unstored 6) (raise ∷ surface 3 [] ∷ reset ∷ raise ∷ []) ≡ 8
+  -- a whole write command leaves it
+  pub kept-by-a-command : runAfter (unstored 6) (raise ∷ surface 0 [] ∷ lower 0x55 ∷ feed (1 ∷ 0 ∷ 0 ∷ 5 ∷ []) ∷ raise ∷ lower 0x55 ∷ feed (9 ∷ []) ∷ raise ∷ lower 0x55 ∷ surface 0 [] ∷ []) ≡ 7
   -- up to its top, where it stays
   pub to-the-top : runAfter (unstored 0xFFFFFFFE) (raise ∷ []) ≡ 0xFFFFFFFF
   pub at-the-top : runAfter (unstored 0xFFFFFFFF) (raise ∷ []) ≡ 0xFFFFFFFF
@@ -169,12 +172,13 @@ pub record Runs : Type 0 where
   pub from-none : runAfter started (surface 3 [] ∷ []) ≡ 0
   -- and nothing is unstored then, from form A neither
   pub stored-a : run started (replicate 536 0) (surface 0 (formA (17 ∷ []) []) ∷ raise ∷ []) .step .answer ≡ answer.Offer offer.Command
-  -- images of a wrong sum are counted as tries
+  -- images of a wrong sum, and of a wrong field, are counted as tries
+  pub wrong-field : run started (replicate 536 0) (surface 0 (formB 0 (17 ∷ []) (4 ∷ []) []) ∷ []) .step .drive .state .phase ≡ phase.Awaiting (access.Start 2)
   pub wrong-sum : run started (replicate 536 0) (surface 0 (take 531 (formB 0 [] [] []) ++ (0 ∷ [])) ∷ []) .step .drive .state .phase ≡ phase.Awaiting (access.Start 2)
 
-pub runs : Runs
+pub run-numbers : RunNumbers
 unfolding computed imageOutOf
-runs =
+run-numbers =
     record {
       asked = refl;
       fetched = refl;
@@ -182,6 +186,7 @@ runs =
       failed = refl;
       again = refl;
       after-no-settle = refl;
+      kept-by-a-command = refl;
       to-the-top = refl;
       at-the-top = refl;
       not-asked = refl;
@@ -189,6 +194,7 @@ runs =
       from-a = refl;
       from-none = refl;
       stored-a = refl;
+      wrong-field = refl;
       wrong-sum = refl;
     }
 
@@ -211,3 +217,7 @@ pub record Conversions : Type 0 where
 pub conversions : Conversions
 unfolding computed
 conversions = record { to-b = refl; to-a = refl; first-short = refl; second-short = refl; form = refl; sum = refl; field = refl }
+
+-- The numbers of the three codes that only convert gives.
+pub codes : (codeOf refusal.Form ≡ 6) × (codeOf refusal.Sum ≡ 7) × (codeOf refusal.Field ≡ 8)
+codes = (refl, refl, refl)

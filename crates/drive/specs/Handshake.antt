@@ -1,4 +1,4 @@
--- Document 01, "Calls" and "Acting on a command", with requests 1 and 3 of document 02: raise, lower, feed and reset.
+-- Document 01, "Calls" and "Acting on a command", with requests 1, 3 and 6 of document 02: raise, lower, feed and reset.
 use mathlib.Core.Bool.{Bool, true, false, cond, not, _&&_, _||_}
 use mathlib.Core.List.{List, [], _∷_, _++_}
 use Prim.Native.Nat.{ℕ, _+_, _-_, min}

@@ -1,4 +1,5 @@
--- Code 1: which records are refused. Its clauses are exactly those of the first line of the table of codes.
+-- Code 1: which records are refused. Its clauses are exactly those of the first line of the table of codes, as requests 4 and 6 of
+-- document 02 have it.
 use mathlib.Core.Bool.{Bool, true, false, cond, not, _&&_, _||_}
 use Prim.Native.Nat.{ℕ, _+_}
 use lib.Dec.{ltb, leb, eqb}

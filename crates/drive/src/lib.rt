@@ -32,7 +32,7 @@ pub struct Target {
     pub verify: bool,
 }
 
-// Names why a spare entry is there: unknown, a CRC error, a timeout, no settle.
+// Names the cause of a spare entry: unknown, a CRC error, a timeout, no settle.
 pub enum Cause {
     Unknown,
     Crc,
@@ -42,8 +42,8 @@ pub enum Cause {
 
 // Holds the trial of a sector: the block's present one, or the next unused spare. rereads counts those
 // that were answered, failures how many of them failed. Three failures of the command are remembered:
-// last is that of this trial's rereads, before the one before this spare was tried, present the last on
-// the block's present sector.
+// last is the last of this trial's rereads, before the one before this spare was tried, present the last
+// on the block's present sector, once that was left.
 pub struct Trial {
     pub block: Block,
     pub sector: Sector,
@@ -114,8 +114,8 @@ pub struct Marks {
     pub fresh: bool,
 }
 
-// Holds all of the record but the table. command: its first count bytes were fed; fed: how many data
-// bytes were, counted up to 533; run: the run number, how many stores the table was ever asked for.
+// Holds all of the record but the table and its causes. command: its first count bytes were fed; fed: how many data
+// bytes were, counted up to 533; run: the run number, one more per store asked for.
 pub struct State {
     pub phase: Phase,
     pub marks: Marks,
@@ -199,7 +199,7 @@ pub enum Status {
 }
 
 // Names what becomes of the buffer's data part: it stays, the bytes lent with the call fill it from a
-// byte on, it is zeroed from a byte on, it is the table's image, it is four figures and zeros.
+// byte on, it is zeroed from a byte on, it is form A of the table, it is four figures and zeros.
 pub enum Part {
     Kept,
     Filled(usize),

@@ -9,10 +9,11 @@ use Rattle.table.specs.Tables.{causesOk, spareList, badList}
 use Rattle.buffer.specs.Runs.{same, allAre, sum}
 use Rattle.image.specs.declared.Fault.{Fault}
 use Rattle.image.specs.declared.Fault.the-variants as fault
+use Rattle.image.specs.declared.Found.the-variants as found
 use Rattle.image.specs.Layouts.{wide, triple, triples, narrow, entryAt, entriesFrom, entriesFit}
 use Rattle.image.specs.FormA.{listPart, framedPart, formA, framedA, formedA}
 use Rattle.image.specs.FormB.{twoBytes, headB, quad, quads, listedPart, summedPart, formB, twoAt, causesFrom, sumFits, framedB, fieldsFit, formedB}
-use Rattle.image.specs.Images.{wellFormed, faultOf, tableOf, runOf, causesOf, converted}
+use Rattle.image.specs.Images.{wellFormed, faultOf, tableOf, runOf, causesOf, readOf, converted}
 
 -- AN IMAGE, BYTE BY BYTE: run number 01020304, block 17 on spare 0 after a CRC error, spare 1 dead by no settle, blocks 5 and 9727 bad.
 
@@ -35,6 +36,19 @@ pub byte-by-byte : made ≡ spelled
 unfolding wide triple triples twoBytes headB quad quads listedPart summedPart formB sum
 byte-by-byte = refl
 
+-- With empty lists the offsets follow the same rule.
+abbrev empty : List ℕ
+empty =
+    0xF0 ∷ 0x78 ∷ 0x3C ∷ 0x1E
+    ∷ 0x00 ∷ 0x00 ∷ 0x00 ∷ 0x00
+    ∷ 0x00 ∷ 0x00 ∷ 0x00 ∷ 0x10
+    ∷ 0x00 ∷ 0x00 ∷ 0x00 ∷ 0x10
+    ∷ (replicate 514 0x00 ++ (0x01 ∷ 0xE2 ∷ []))
+
+pub empty-byte-by-byte : formB 0 [] [] [] ≡ empty
+unfolding wide triple triples twoBytes headB quad quads listedPart summedPart formB sum
+empty-byte-by-byte = refl
+
 -- It reads as what was written.
 pub record Reads : Type 0 where
   pub formed : wellFormed spelled ≡ true
@@ -42,10 +56,11 @@ pub record Reads : Type 0 where
   pub causes : causesOf spelled ≡ 1 ∷ 3 ∷ replicate 30 0
   pub spares : spareList (tableOf spelled) ≡ 17 ∷ dead ∷ []
   pub bads : badList (tableOf spelled) ≡ 5 ∷ 9727 ∷ []
+  pub empty-lists : wellFormed empty ≡ true
 
 pub reads : Reads
 unfolding memberOf entryOk entriesOk causesOk same allAre sum narrow entryAt entriesFrom entriesFit twoAt causesFrom sumFits framedB fieldsFit formedB wellFormed tableOf runOf causesOf
-reads = record { formed = refl; run = refl; causes = refl; spares = refl; bads = refl }
+reads = record { formed = refl; run = refl; causes = refl; spares = refl; bads = refl; empty-lists = refl }
 
 -- EACH CLAUSE BY ITSELF
 
@@ -61,16 +76,22 @@ resummed i = take 530 i ++ twoBytes (sum (take 530 i) % 65536)
 abbrev altered : ℕ → ℕ → List ℕ
 altered k v = resummed (with k v spelled)
 
--- Returns an image of so many entries: dead spares by no settle, and the first blocks.
+-- Returns the first blocks.
 abbrev blocks : ℕ → List ℕ
 blocks zero = []
 blocks (suc n) = n ∷ blocks n
 
+-- Returns an image of so many entries: spares dead by no settle, and the first blocks.
 abbrev sized : ℕ → ℕ → List ℕ
 sized n m = formB 0xFFFFFFFF (replicate n dead) (replicate n 3) (blocks m)
 
+-- Says that the reader finds no table, for a field that is wrong.
+abbrev Field : List ℕ → Type 0
+Field i = readOf i .found ≡ found.Malformed fault.Field
+
 pub record Refuses : Type 0 where
   -- 6: one of the four bytes, whatever the rest is; the sum is not looked at
+  pub before-the-sum : faultOf (with 0 0xF1 spelled) ≡ fault.Form
   pub first-byte : faultOf (altered 0 0xF1) ≡ fault.Form
   pub fourth-byte : faultOf (altered 3 0x1F) ≡ fault.Form
   pub short : faultOf (take 531 spelled) ≡ fault.Form
@@ -78,50 +99,59 @@ pub record Refuses : Type 0 where
   pub high-sum : faultOf (with 530 0x07 spelled) ≡ fault.Sum
   pub low-sum : faultOf (with 531 0x33 spelled) ≡ fault.Sum
   pub last-byte-summed : faultOf (with 529 0x01 spelled) ≡ fault.Sum
-  pub first-byte-summed : faultOf (with 4 0x02 spelled) ≡ fault.Sum
+  pub run-number-summed : faultOf (with 4 0x02 spelled) ≡ fault.Sum
   -- 7 before 8
   pub sum-first : faultOf (with 11 0x14 spelled) ≡ fault.Sum
   -- "modulo 65,536"
   pub modulo : faultOf (0xF0 ∷ 0x78 ∷ 0x3C ∷ 0x1E ∷ (replicate 526 0xFF ++ (0x0D ∷ 0xB4 ∷ []))) ≡ fault.Field
   -- 8: offsets, counts, entries, causes, zeros
-  pub spare-offset : wellFormed (altered 11 0x14) ≡ false
-  pub spare-offset-high : wellFormed (altered 10 0x01) ≡ false
-  pub bad-offset : wellFormed (altered 15 0x1C) ≡ false
-  pub bad-offset-high : wellFormed (altered 14 0x01) ≡ false
-  pub no-block : wellFormed (altered 17 0x26) ≡ false
-  pub block-twice : wellFormed (formB 0 (17 ∷ 17 ∷ []) (0 ∷ 0 ∷ []) []) ≡ false
-  pub dead-bad : wellFormed (formB 0 [] [] (dead ∷ [])) ≡ false
-  pub bad-twice : wellFormed (formB 0 [] [] (5 ∷ 5 ∷ [])) ≡ false
-  pub cause-4 : wellFormed (altered 19 0x04) ≡ false
-  pub cause-of-a-dead-spare : wellFormed (altered 23 0xFF) ≡ false
-  pub first-zero : wellFormed (altered 30 0x01) ≡ false
-  pub last-zero : wellFormed (altered 529 0x01) ≡ false
+  pub spare-offset : Field (altered 11 0x14)
+  pub spare-offset-high : Field (altered 10 0x01)
+  pub bad-offset : Field (altered 15 0x1C)
+  pub bad-offset-high : Field (altered 14 0x01)
+  pub spare-count-high : Field (altered 8 0x01)
+  pub bad-count-high : Field (altered 12 0x01)
+  pub no-block : Field (altered 17 0x26)
+  pub no-block-high : Field (altered 16 0x01)
+  pub mark-of-the-memory : Field (altered 20 0x00)
+  pub no-mark : Field (altered 22 0xFF)
+  pub block-twice : Field (formB 0 (17 ∷ 17 ∷ []) (0 ∷ 0 ∷ []) [])
+  pub dead-bad : Field (formB 0 [] [] (dead ∷ []))
+  pub bad-twice : Field (formB 0 [] [] (5 ∷ 5 ∷ []))
+  pub cause-4 : Field (altered 19 0x04)
+  pub cause-of-a-dead-spare : Field (altered 23 0xFF)
+  pub first-zero : Field (altered 30 0x01)
+  pub last-zero : Field (altered 529 0x01)
   pub spares-32 : wellFormed (sized 32 100) ≡ true
-  pub spares-33 : wellFormed (sized 33 0) ≡ false
-  pub bads-101 : wellFormed (sized 0 101) ≡ false
-  -- which is no other fault
-  pub a-field : faultOf (altered 11 0x14) ≡ fault.Field
+  pub spares-33 : Field (sized 33 0)
+  pub bads-101 : Field (sized 0 101)
   -- a form A that is broken is no form B
   pub broken-a : faultOf (with 0 0x51 (formA [] [])) ≡ fault.Form
 
 pub refuses : Refuses
-unfolding memberOf entryOk entriesOk causesOk same allAre sum wide triple triples narrow entryAt entriesFrom entriesFit listPart framedPart formA framedA formedA twoBytes headB quad quads listedPart summedPart formB twoAt causesFrom sumFits framedB fieldsFit formedB wellFormed faultOf
+unfolding memberOf entryOk entriesOk causesOk same allAre sum wide triple triples narrow entryAt entriesFrom entriesFit listPart framedPart formA framedA formedA twoBytes headB quad quads listedPart summedPart formB twoAt causesFrom sumFits framedB fieldsFit formedB wellFormed faultOf readOf
 refuses =
     record {
+      before-the-sum = refl;
       first-byte = refl;
       fourth-byte = refl;
       short = refl;
       high-sum = refl;
       low-sum = refl;
       last-byte-summed = refl;
-      first-byte-summed = refl;
+      run-number-summed = refl;
       sum-first = refl;
       modulo = refl;
       spare-offset = refl;
       spare-offset-high = refl;
       bad-offset = refl;
       bad-offset-high = refl;
+      spare-count-high = refl;
+      bad-count-high = refl;
       no-block = refl;
+      no-block-high = refl;
+      mark-of-the-memory = refl;
+      no-mark = refl;
       block-twice = refl;
       dead-bad = refl;
       bad-twice = refl;
@@ -132,7 +162,6 @@ refuses =
       spares-32 = refl;
       spares-33 = refl;
       bads-101 = refl;
-      a-field = refl;
       broken-a = refl;
     }
 

@@ -116,5 +116,5 @@ pub bads-few : (t : Table) → Shaped t → tableOk t ≡ true → length (badLi
 bads-few t s h = omega (arith, length-take-le (t .nbads) (t .bads) (omega (arith, s .1, passes t h .few-bads)), passes t h .few-bads)
 
 -- Bytes that are all v are v so many times.
-pub run-of : (v k : ℕ) (l : List ℕ) → length l ≡ k → allAre v l ≡ true → l ≡ replicate k v
-run-of v k l e h = rw (← e) (all-replicate v l h)
+pub all-equal : (v k : ℕ) (l : List ℕ) → length l ≡ k → allAre v l ≡ true → l ≡ replicate k v
+all-equal v k l e h = rw (← e) (all-replicate v l h)

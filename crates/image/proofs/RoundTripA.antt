@@ -20,7 +20,7 @@ use Rattle.image.specs.Images.{wellFormed, tableOf}
 use Rattle.image.proofs.Layouts.{Bytes, bytes-drop, triples-length, entries-length, entries-triples, triples-entries}
 use Rattle.image.proofs.Writing.{framed-length, image-length}
 use Rattle.image.proofs.Formed.{FormedA, formed-a, layout-a}
-use Rattle.image.proofs.RoundTrip.{read-spares, read-bads, spares-few, bads-few, run-of}
+use Rattle.image.proofs.RoundTrip.{read-spares, read-bads, spares-few, bads-few, all-equal}
 
 -- The parts of an image that was written, from its places on.
 module _ (sp bd : List ℕ) where
@@ -112,7 +112,7 @@ counts i h = rw (drop-cons i 24 0 (omega arith), drop-cons i 25 0 (omega arith))
 
 -- the mark at a place
 run-at : (i : List ℕ) (k : ℕ) → k + 3 ≤ length i → allAre 0xFF (take 3 (drop k i)) ≡ true → take 3 (drop k i) ≡ mark
-run-at i k h a = run-of 0xFF 3 (take 3 (drop k i)) (length-take-le 3 (drop k i) (simp length-drop (omega arith))) a
+run-at i k h a = all-equal 0xFF 3 (take 3 (drop k i)) (length-take-le 3 (drop k i) (simp length-drop (omega arith))) a
 
 -- all but the zeros of a well-formed image
 module _ (i : List ℕ) (bytes : Bytes i) (f : FormedA i) where
@@ -176,7 +176,7 @@ module _ (i : List ℕ) (bytes : Bytes i) (f : FormedA i) where
       let p = framed-length sp bd in
       let q = entries-length 3 n (drop 26 i) in
       let r = entries-length 3 m (drop (29 + 3 * n) i) in
-      run-of 0 (532 - length (framedPart sp bd)) (drop (32 + 3 * n + 3 * m) i) (simp length-drop (omega arith)) (f .frame .zeros)
+      all-equal 0 (532 - length (framedPart sp bd)) (drop (32 + 3 * n + 3 * m) i) (simp length-drop (omega arith)) (f .frame .zeros)
 
   pub form-a-rebuilt : formA (spareEntries (layoutA i) i) (badEntries (layoutA i) i) ≡ i
   unfolding formA

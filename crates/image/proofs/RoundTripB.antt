@@ -18,7 +18,7 @@ use Rattle.image.specs.Images.{wellFormed, tableOf, runOf, causesOf}
 use Rattle.image.proofs.Layouts.{Bytes, bytes-drop, entries-length, triples-entries}
 use Rattle.image.proofs.Quads.{two-below, two-read, four-split, quads-entries}
 use Rattle.image.proofs.Formed.{FormedB, formed-b, layout-b}
-use Rattle.image.proofs.RoundTrip.{read-spares, read-bads, spares-few, bads-few, run-of}
+use Rattle.image.proofs.RoundTrip.{read-spares, read-bads, spares-few, bads-few, all-equal}
 use Rattle.image.proofs.WritingB.{listed-length}
 use Rattle.image.proofs.Reading.{causes-of}
 use Rattle.image.proofs.WrittenB.{form-b-magic, form-b-run, form-b-spares, form-b-bads, form-b-causes, form-b-formed}
@@ -131,7 +131,7 @@ module _ (i : List ℕ) (bytes : Bytes i) (f : FormedB i) where
       let q = entries-length 4 k (drop 16 i) in
       let w = entries-length 3 j (drop (16 + 4 * k) i) in
       let g : 530 - length (listedPart (runIn i) sps (causeEntries i) bds) ≡ r = omega arith in
-      let t = run-of 0 r (take r (drop z i)) (length-take-le r (drop z i) (simp length-drop (omega arith))) (f .frame .zeros) in
+      let t = all-equal 0 r (take r (drop z i)) (length-take-le r (drop z i) (simp length-drop (omega arith))) (f .frame .zeros) in
       ap (λ (x : ℕ). take x i) e ∙ take-add z r i ∙ rw (t, to-zeros, g)
 
   pub form-b-rebuilt : formB (runIn i) (spareEntries (layoutB i) i) (causeEntries i) (badEntries (layoutB i) i) ≡ i

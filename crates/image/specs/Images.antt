@@ -56,10 +56,11 @@ holding t run causes = record { found = found.Lists (t .nspares) (t .nbads) run;
 unfoldable pub readOf : List ℕ → Image
 readOf i = cond (wellFormed i) (holding (tableOf i) (runOf i) (causesOf i)) (nothing (faultOf i))
 
--- Returns the same, form by form, and where all but the entries was tested.
+-- Returns the same where all but the entries was tested, with this layout, run number, causes, and fault of a wrong entry.
 unfoldable pub loaded : List ℕ → Layout → ℕ → List ℕ → Fault → Image
 loaded i a run causes x = cond (entriesFit a i) (holding (tableIn a i) run causes) (nothing x)
 
+-- Returns the same of 532 bytes that do not begin as form B, and of 532 that do.
 unfoldable pub readA : List ℕ → Image
 readA i = cond (formedA i) (holding (tableIn (layoutA i) i) 0 (replicate 32 0)) (nothing fault.Form)
 

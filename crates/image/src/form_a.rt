@@ -13,7 +13,7 @@ use buffer::fill;
 use buffer::put;
 use buffer::same_bytes;
 
-// The bytes before the counts.
+// Holds the bytes before the counts.
 const HEADER: [u8; 24] = *b"PROFILE      \x00\x00\x00\x03\x90\x00\x26\x00\x02\x14\x20";
 
 // Writes the entries of a list from place `at` on, and the mark after them.

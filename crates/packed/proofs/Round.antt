@@ -32,7 +32,7 @@ use Rattle.drive.specs.Records.{retryOk, targetOk, trialOk, accessOk, phaseOk, 
 use Rattle.drive.specs.Words.{response, causeNumber}
 use Rattle.drive.specs.Values.{Bytewise, Typed}
 use Rattle.packed.specs.declared.Stage.{Stage}
-use Rattle.packed.specs.Packing.{bit, flag, pair, low, high, word, long, memory, causeOf, bare, readStage, targetStage, trialStage, stageOf, damaged, trialOf, phaseOf, packState, packTable, packOf, stageAt, commandAt, stateAt, causesAt, tableAt, unpackOf}
+use Rattle.packed.specs.Packing.{bit, flag, pair, low, high, word, long, remembered, causeOf, bare, readStage, targetStage, trialStage, stageOf, damaged, trialOf, phaseOf, packState, packTable, packOf, stageAt, commandAt, stateAt, causesAt, tableAt, unpackOf}
 
 -- A WORD
 
@@ -141,9 +141,9 @@ trial-back k r =
       rereads = r .rereads;
       failures = r .failures;
       seen = r .seen;
-      last = cause-back (r .last) {n = memory r % 4} (omega arith) i;
-      before = cause-back (r .before) {n = memory r / 4 % 4} (omega arith) i;
-      present = cause-back (r .present) {n = memory r / 16 % 4} (omega arith) i;
+      last = cause-back (r .last) {n = remembered r % 4} (omega arith) i;
+      before = cause-back (r .before) {n = remembered r / 4 % 4} (omega arith) i;
+      present = cause-back (r .present) {n = remembered r / 16 % 4} (omega arith) i;
     }
 
 phase-back : (p : Phase) → phaseOf (stageOf p) ≡ p
@@ -194,7 +194,7 @@ module _ (l : State) (r : List ℕ) (n : ℕ) (ok : stateOk n l ≡ true) (full 
         detail = high-pair (s .kind) (s .detail) (f .kind) i;
         sector = word-is (s .sector) (f .sector) i;
         block = s .block;
-        memory = s .memory;
+        remembered = s .remembered;
         left = low-pair (s .left) (s .errors) (f .left) i;
         errors = high-pair (s .left) (s .errors) (f .left) i;
         spent = low-pair (s .spent) (s .threshold) (f .spent) i;

@@ -50,30 +50,30 @@ abbrev pub long : ℕ → ℕ → ℕ
 long a b = a + 65536 * b
 
 -- Returns the three failures that a trial remembers as a word, and the cause of a number from 0 to 3.
-abbrev pub memory : Trial → ℕ
-memory r = causeNumber (r .last) + 4 * causeNumber (r .before) + 16 * causeNumber (r .present)
+abbrev pub remembered : Trial → ℕ
+remembered r = causeNumber (r .last) + 4 * causeNumber (r .before) + 16 * causeNumber (r .present)
 
 abbrev pub causeOf : ℕ → Cause
 causeOf n = cond (eqb n 0) cause.Unknown (cond (eqb n 1) cause.Crc (cond (eqb n 2) cause.Timeout cause.NoSettle))
 
 -- A PHASE AS A STAGE: its kind is 0 to 10, and what a phase does not have is 0. A trial's rereads are its detail, its failures are
--- in spent, the three that it remembers in memory; a write that is read back is marked by first.
+-- in spent, the three that it remembers in remembered; a write that is read back is marked by first.
 
 abbrev pub bare : ℕ → ℕ → Stage
 bare k n =
-    record { kind = k; detail = n; sector = 0; block = 0; memory = 0; left = 0; errors = 0; spent = 0; threshold = 0; first = false; good = false; spare = false; crc = false; timeout = false }
+    record { kind = k; detail = n; sector = 0; block = 0; remembered = 0; left = 0; errors = 0; spent = 0; threshold = 0; first = false; good = false; spare = false; crc = false; timeout = false }
 
 abbrev pub readStage : Retry → Stage
 readStage r =
-    record { kind = 6; detail = 0; sector = r .sector .0; block = r .block .0; memory = 0; left = r .left; errors = r .seen .errors; spent = r .spent; threshold = r .threshold; first = r .first; good = r .good; spare = false; crc = r .seen .crc; timeout = r .seen .timeout }
+    record { kind = 6; detail = 0; sector = r .sector .0; block = r .block .0; remembered = 0; left = r .left; errors = r .seen .errors; spent = r .spent; threshold = r .threshold; first = r .first; good = r .good; spare = false; crc = r .seen .crc; timeout = r .seen .timeout }
 
 abbrev pub targetStage : ℕ → Target → Stage
 targetStage k w =
-    record { kind = k; detail = 0; sector = w .sector .0; block = w .block .0; memory = 0; left = 0; errors = 0; spent = 0; threshold = 0; first = w .verify; good = false; spare = false; crc = false; timeout = false }
+    record { kind = k; detail = 0; sector = w .sector .0; block = w .block .0; remembered = 0; left = 0; errors = 0; spent = 0; threshold = 0; first = w .verify; good = false; spare = false; crc = false; timeout = false }
 
 abbrev pub trialStage : ℕ → Trial → Stage
 trialStage k r =
-    record { kind = k; detail = r .rereads; sector = r .sector .0; block = r .block .0; memory = memory r; left = 0; errors = r .seen .errors; spent = r .failures; threshold = 0; first = false; good = false; spare = r .spare; crc = r .seen .crc; timeout = r .seen .timeout }
+    record { kind = k; detail = r .rereads; sector = r .sector .0; block = r .block .0; remembered = remembered r; left = 0; errors = r .seen .errors; spent = r .failures; threshold = 0; first = false; good = false; spare = r .spare; crc = r .seen .crc; timeout = r .seen .timeout }
 
 abbrev pub accessStage : Access → Stage
 accessStage (access.Start k) = bare 4 k
@@ -115,7 +115,7 @@ targetOf s = record { block = record { 0 = s .block }; sector = record { 0 = s .
 
 abbrev pub trialOf : Stage → Trial
 trialOf s =
-    record { block = record { 0 = s .block }; sector = record { 0 = s .sector }; spare = s .spare; rereads = s .detail; failures = s .spent; seen = seenOf s; last = causeOf (s .memory % 4); before = causeOf (s .memory / 4 % 4); present = causeOf (s .memory / 16 % 4) }
+    record { block = record { 0 = s .block }; sector = record { 0 = s .sector }; spare = s .spare; rereads = s .detail; failures = s .spent; seen = seenOf s; last = causeOf (s .remembered % 4); before = causeOf (s .remembered / 4 % 4); present = causeOf (s .remembered / 16 % 4) }
 
 abbrev pub phaseOf : Stage → Phase
 phaseOf s =
@@ -140,7 +140,7 @@ stateWords m s l =
     ∷ pair (s .kind) (s .detail) ∷ word (s .sector) ∷ s .block ∷ pair (s .left) (s .errors) ∷ pair (s .spent) (s .threshold)
     ∷ bit (s .first) ∷ bit (s .good) ∷ bit (s .spare) ∷ bit (s .crc) ∷ bit (s .timeout) ∷ word (l .count) ∷ word (l .fed)
     ∷ pair (getD (l .command) 0 0) (getD (l .command) 1 0) ∷ pair (getD (l .command) 2 0) (getD (l .command) 3 0)
-    ∷ pair (getD (l .command) 4 0) (getD (l .command) 5 0) ∷ s .memory ∷ l .run % 65536 ∷ l .run / 65536 ∷ []
+    ∷ pair (getD (l .command) 4 0) (getD (l .command) 5 0) ∷ s .remembered ∷ l .run % 65536 ∷ l .run / 65536 ∷ []
 
 unfoldable pub packState : State → List ℕ
 packState l = stateWords (l .marks) (stageOf (l .phase)) l
@@ -164,7 +164,7 @@ stageAt w =
       detail = high (getD w 4 0);
       sector = getD w 5 0;
       block = getD w 6 0;
-      memory = getD w 19 0;
+      remembered = getD w 19 0;
       left = low (getD w 7 0);
       errors = high (getD w 7 0);
       spent = low (getD w 8 0);

@@ -8,7 +8,7 @@ ghost use Prim.Native.Nat.{_+_, _≤_};
 ghost use lib.ListN.{length, take, drop, getD};
 ghost use Rattle.buffer.specs.Runs.{over};
 ghost use Rattle.drive.specs.Words.{response, causeNumber};
-ghost use Rattle.packed.specs.Packing.{bit, flag, pair, low, high, word, long, memory, causeOf, bare, readStage, targetStage, trialStage, accessStage, stageOf};
+ghost use Rattle.packed.specs.Packing.{bit, flag, pair, low, high, word, long, remembered, causeOf, bare, readStage, targetStage, trialStage, accessStage, stageOf};
 ghost use Rattle.packed.specs.Packing.{damaged, offered, seenOf, retryOf, targetOf, trialOf, phaseOf, packState, packTable};
 ghost use Rattle.packed.specs.Packing.{marksAt, stageAt, commandAt, stateAt, sparesAt, badsAt, causesAt, tableAt};
 use drive::Access;
@@ -30,14 +30,14 @@ pub type Words = [u16; 188];
 
 // Holds any phase. kind is 0 idle, 1 offered, 2 command, 3 data, 4 start, 5 store, 6 read, 7 write, 8 verify,
 // 9 trial write, 10 trial read; detail is the offer's response byte, the start's reads, or a trial's
-// rereads; spent is also a trial's failures, first also whether a write is read back; memory holds the
+// rereads; spent is also a trial's failures, first also whether a write is read back; remembered holds the
 // three failures that a trial remembers.
 pub struct Stage {
     pub kind: u8,
     pub detail: u8,
     pub sector: u32,
     pub block: u16,
-    pub memory: u16,
+    pub remembered: u16,
     pub left: u8,
     pub errors: u8,
     pub spent: u8,
@@ -153,8 +153,8 @@ fn cause_of(n: u16) -> Cause
 }
 
 // Returns the three failures that a trial remembers as a word.
-fn memory(r: Trial) -> u16
-    ensures { λ x. ⌜ x ≡ memory r ⌝ }
+fn remembered(r: Trial) -> u16
+    ensures { λ x. ⌜ x ≡ remembered r ⌝ }
 {
     let last = r.last;
     let before = r.before;
@@ -171,7 +171,7 @@ fn bare(kind: u8, detail: u8) -> Stage
         detail: detail,
         sector: 0,
         block: 0,
-        memory: 0,
+        remembered: 0,
         left: 0,
         errors: 0,
         spent: 0,
@@ -193,7 +193,7 @@ fn read_stage(r: Retry) -> Stage
         detail: 0,
         sector: r.sector.0,
         block: r.block.0,
-        memory: 0,
+        remembered: 0,
         left: r.left,
         errors: r.seen.errors,
         spent: r.spent,
@@ -215,7 +215,7 @@ fn target_stage(kind: u8, w: Target) -> Stage
         detail: 0,
         sector: w.sector.0,
         block: w.block.0,
-        memory: 0,
+        remembered: 0,
         left: 0,
         errors: 0,
         spent: 0,
@@ -237,7 +237,7 @@ fn trial_stage(kind: u8, r: Trial) -> Stage
         detail: r.rereads,
         sector: r.sector.0,
         block: r.block.0,
-        memory: memory(r),
+        remembered: remembered(r),
         left: 0,
         errors: r.seen.errors,
         spent: r.failures,
@@ -348,9 +348,9 @@ fn trial_of(s: Stage) -> Trial
         rereads: s.detail,
         failures: s.spent,
         seen: seen_of(s),
-        last: cause_of(s.memory % 4),
-        before: cause_of(s.memory / 4 % 4),
-        present: cause_of(s.memory / 16 % 4),
+        last: cause_of(s.remembered % 4),
+        before: cause_of(s.remembered / 4 % 4),
+        present: cause_of(s.remembered / 16 % 4),
     }
 }
 
@@ -403,7 +403,7 @@ pub fn pack_state(l: State) -> [u16; 22]
         pair(c[0], c[1]),
         pair(c[2], c[3]),
         pair(c[4], c[5]),
-        s.memory,
+        s.remembered,
         (l.run % 65536) as u16,
         (l.run / 65536) as u16,
     ]
@@ -432,7 +432,7 @@ fn stage_at(w: &[u16]) -> Stage
         detail: high(w[4]),
         sector: wide(w[5]),
         block: w[6],
-        memory: w[19],
+        remembered: w[19],
         left: low(w[7]),
         errors: high(w[7]),
         spent: low(w[8]),

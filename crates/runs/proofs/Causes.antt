@@ -79,6 +79,11 @@ pub after-a-write-that-times-out : causes (after ready (writes17 ++ (late ∷ pa
 unfolding computed
 after-a-write-that-times-out = refl
 
+-- So is the write of a trial, on the present sector.
+pub after-a-trial-write-that-times-out : causes (after ready (begins ++ (late ∷ passesWith garbled))) ≡ 2 ∷ []
+unfolding computed
+after-a-trial-write-that-times-out = refl
+
 -- A DEAD SPARE: the last failure on it. The block then moves to spare 1, and that same failure is the last before spare 1 was tried.
 
 abbrev byTrial : Drive
@@ -119,7 +124,20 @@ pub an-old-entry-has-the-last-failure-on-its-spare : (spares movedOn ≡ dead �
 unfolding computed
 an-old-entry-has-the-last-failure-on-its-spare = (refl, refl)
 
--- A trial of the present sector that passes leaves the causes, and so does a command that finds no spare.
+-- With no spare left the block stays where it is, and its entry keeps its cause. The spare that died on the way is noted.
+abbrev lastSpare : Drive
+lastSpare =
+    record {
+      table = record { spares = 17 ∷ (replicate 30 dead ++ (0 ∷ [])); bads = replicate 100 0; nspares = 31; nbads = 0 };
+      causes = 3 ∷ (replicate 30 1 ++ (0 ∷ []));
+      state = ready .state;
+    }
+
+pub with-no-spare-left-its-entry-keeps-its-cause : causes (after lastSpare (begins ++ failsBy late garbled ++ (late ∷ []))) ≡ 3 ∷ (replicate 30 1 ++ (2 ∷ []))
+unfolding computed
+with-no-spare-left-its-entry-keeps-its-cause = refl
+
+-- A trial of the present sector that passes leaves the causes.
 pub a-trial-that-passes-notes-nothing : causes (after moved (begins ++ passesWith late)) ≡ 3 ∷ []
 unfolding computed
 a-trial-that-passes-notes-nothing = refl

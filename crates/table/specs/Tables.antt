@@ -90,7 +90,7 @@ withoutBad t b =
 -- CAUSES, document 02, request 6: each spare entry has one, at its place of an array of their own. "0 unknown, 1 CRC, 2 timeout, 3 no
 -- settle"
 
--- Says whether the causes of the entries in use pass code 1: none is above 3.
+-- Says whether no cause is above 3.
 unfoldable pub causesOk : List ℕ → Bool
 causesOk [] = true
 causesOk (c ∷ cs) = leb c 3 && causesOk cs

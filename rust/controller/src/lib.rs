@@ -189,7 +189,7 @@ pub mod form_b {
     pub const SUM: usize = 530;
 }
 
-/// Why a spare's entry was made.
+/// The cause of a spare entry.
 pub mod cause {
     pub const UNKNOWN: u8 = 0;
     pub const CRC: u8 = 1;
@@ -261,6 +261,12 @@ impl Drive {
     /// Says whether an answer 3 has ended a command since the last start.
     pub fn is_latched(&self) -> bool {
         self.record.words[raw::word::LATCH] != 0
+    }
+
+    /// Returns the table's run number, which goes up with each store that is asked for.
+    pub fn run_number(&self) -> u32 {
+        let [low, high] = [raw::word::RUN, raw::word::RUN + 1].map(|k| self.record.words[k]);
+        u32::from(high) << 16 | u32::from(low)
     }
 
     /// Makes the record anew, whatever it was, zeroes the buffer and asks for the

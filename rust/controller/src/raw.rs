@@ -26,6 +26,8 @@ pub mod word {
     pub const LATCH: usize = 2;
     /// The low byte is the phase, one of `kind`.
     pub const PHASE: usize = 4;
+    /// The run number: its low half, and its high half in the next word.
+    pub const RUN: usize = 20;
 }
 
 /// The phases.

@@ -1,5 +1,5 @@
 //! Call scripts: one call per line is read, one line of transcript per call is
-//! written (REPLAY.md and REPLAY-02.md).
+//! written (docs/REPLAY.md).
 
 use std::fmt;
 use std::io::{self, BufRead, Write};

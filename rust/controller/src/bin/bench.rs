@@ -1,5 +1,5 @@
 //! The library against the baseline, ordinary Rust over a `&mut` record: four
-//! commands, the image call and converts, each with tables of three sizes.
+//! commands, a start, the image call and converts, each with tables of three sizes.
 //! `tools/bench` has the instructions counted too.
 
 use std::env;
@@ -16,7 +16,7 @@ const USAGE: &str = "\
 usage: bench                                    time, and the records' sizes
        bench WHO WHAT SPARES BADS TIMES         one kind of work, to count instructions:
                                                 library or baseline; read, write, table, longest,
-                                                image or convert
+                                                start, image or convert
        bench calls WHAT SPARES                  how many calls the work has
 ";
 
@@ -87,6 +87,8 @@ enum What {
     Table,
     /// The longest read: R is 255 and all fails that may.
     Longest,
+    /// A start whose first read brings an image of form B.
+    Start,
     /// The image call.
     Image,
     /// A convert of form A into form B, and one back.
@@ -100,6 +102,7 @@ impl What {
             "write" => Some(What::Write),
             "table" => Some(What::Table),
             "longest" => Some(What::Longest),
+            "start" => Some(What::Start),
             "image" => Some(What::Image),
             "convert" => Some(What::Convert),
             _ => None,
@@ -113,6 +116,7 @@ impl What {
             What::Write => 8 + 1,
             What::Table => 5,
             What::Longest => 5 + longest(spares),
+            What::Start => 2,
             What::Image => 1,
             What::Convert => 2,
         }
@@ -141,7 +145,8 @@ trait Calls: Clone {
     fn feed(&mut self, buffer: &mut [u8], bytes: &[u8]);
     /// Whether a command is finished by it.
     fn surface(&mut self, buffer: &mut [u8], answer: u8, bytes: &[u8]) -> bool;
-    /// Whether it is answered by wait, as is convert.
+    /// Gives a start its image. Whether it is answered by wait, as is what follows.
+    fn load(&mut self, buffer: &mut [u8], image: &[u8]) -> bool;
     fn image(&self, lent: &mut [u8]) -> bool;
     fn convert(from: &[u8], to: &mut [u8]) -> bool;
 }
@@ -172,6 +177,11 @@ impl Calls for raw::Drive {
         let (buf, len) = (buffer.as_mut_ptr(), buffer.len());
         let (from, n) = (bytes.as_ptr(), bytes.len());
         unsafe { raw::bv_surface(self, buf, len, answer, from, n) }.kind == 5
+    }
+
+    fn load(&mut self, buffer: &mut [u8], image: &[u8]) -> bool {
+        let (buf, len) = (buffer.as_mut_ptr(), buffer.len());
+        unsafe { raw::bv_surface(self, buf, len, 0, image.as_ptr(), image.len()) }.kind == 0
     }
 
     fn image(&self, lent: &mut [u8]) -> bool {
@@ -209,6 +219,10 @@ impl Calls for baseline::Drive {
         baseline::Drive::surface(self, buffer, answer, bytes) == Answer::Finished
     }
 
+    fn load(&mut self, buffer: &mut [u8], image: &[u8]) -> bool {
+        baseline::Drive::surface(self, buffer, 0, image) == Answer::Wait
+    }
+
     fn image(&self, lent: &mut [u8]) -> bool {
         baseline::Drive::image(self, lent) == Answer::Wait
     }
@@ -226,8 +240,9 @@ struct Work<D> {
     drive: D,
     buffer: [u8; BUFFER],
     bytes: [u8; SECTOR_BYTES],
-    /// The table's image in form A, and bytes to write another into.
+    /// The table's image in form A and in form B, and bytes to write another into.
     image: Vec<u8>,
+    stored: [u8; SECTOR_BYTES],
     lent: [u8; SECTOR_BYTES],
     spares: usize,
 }
@@ -241,7 +256,9 @@ impl<D: Calls> Work<D> {
         let mut drive = D::fresh();
         let mut buffer = [0; BUFFER];
         drive.start(&mut buffer);
-        drive.surface(&mut buffer, 0, &image);
+        assert!(drive.load(&mut buffer, &image), "the image is taken");
+        let mut stored = [0; SECTOR_BYTES];
+        assert!(drive.image(&mut stored), "the table is known");
         let began = drive.clone();
         Work {
             what,
@@ -250,6 +267,7 @@ impl<D: Calls> Work<D> {
             buffer,
             bytes: [0x5A; SECTOR_BYTES],
             image,
+            stored,
             lent: [0; SECTOR_BYTES],
             spares,
         }
@@ -296,6 +314,12 @@ impl<D: Calls> Work<D> {
         finished
     }
 
+    /// A start; whether it takes the image.
+    fn start(&mut self) -> bool {
+        self.drive.start(&mut self.buffer);
+        self.drive.load(&mut self.buffer, &self.stored)
+    }
+
     /// Two converts; whether both are taken.
     fn convert(&mut self) -> bool {
         D::convert(&self.image, &mut self.lent) && D::convert(&self.lent, &mut self.bytes)
@@ -312,6 +336,7 @@ impl<D: Calls> Once for Work<D> {
             What::Write => self.write(),
             What::Table => self.begin(0, TABLE_IMAGE),
             What::Longest => self.longest(),
+            What::Start => self.start(),
             What::Image => self.drive.image(&mut self.lent),
             What::Convert => self.convert(),
         };
@@ -321,11 +346,12 @@ impl<D: Calls> Once for Work<D> {
 
 const SIZES: [(usize, usize); 3] = [(0, 0), (10, 10), (32, 100)];
 
-const WORKS: [(&str, What, u32); 6] = [
+const WORKS: [(&str, What, u32); 7] = [
     ("read", What::Read, 2000),
     ("write", What::Write, 1500),
     ("table", What::Table, 1500),
     ("longest", What::Longest, 4),
+    ("start", What::Start, 1500),
     ("image", What::Image, 5000),
     ("convert", What::Convert, 2500),
 ];

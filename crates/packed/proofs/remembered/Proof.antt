@@ -1,9 +1,9 @@
--- `packed::memory` meets its contract.
+-- `packed::remembered` meets its contract.
 use native.Mathlib.Omega.{arith}
 use Rattle.packed.proofs.Round.{cause-small}
 use borrow.Author.Needs.{needs}
-use Rattle.packed.proofs.memory.Statement.{statement}
-use Rattle.packed.proofs.memory.Tie as tie
+use Rattle.packed.proofs.remembered.Statement.{statement}
+use Rattle.packed.proofs.remembered.Tie as tie
 
 cause-number-requires : tie.Need-cause-number-requires
 cause-number-requires c κs = search needs
@@ -31,8 +31,8 @@ add-result-2 c =
 returns : tie.Need-returns
 returns c = search needs
 
-pub memory-spec : {M : Type 1} → statement M
-memory-spec =
+pub remembered-spec : {M : Type 1} → statement M
+remembered-spec =
     tie.close
     (tie.spec
     cause-number-requires
