@@ -17,7 +17,7 @@
 
 static uint8_t disk[BV_SECTORS][BV_SECTOR_BYTES];
 
-/* A planned fault: the accesses of one kind to one sector that it covers, and their answer. */
+/* A planned fault: the accesses of one kind to one sector that it covers, and their answer, or that the power fails. */
 struct fault {
     uint32_t sector;
     int write;
@@ -26,12 +26,15 @@ struct fault {
     uint8_t answer;
 };
 
+enum { POWER_FAILS = 0xFF };
+
 static struct fault faults[] = {
     {BV_TABLE_SECTOR, 0, 0, 1, BV_SURFACE_CRC},     /* the start has to read the table twice */
     {17, 0, 1, -1, BV_SURFACE_CRC},                 /* sector 17 is read once, then never again */
     {BV_FIRST_SPARE, 1, 0, 1, BV_SURFACE_TIMEOUT},  /* spare 0 cannot be written */
     {BV_TABLE_SECTOR, 1, 0, 1, BV_SURFACE_TIMEOUT}, /* the first store does not reach the disk */
     {300, 0, 0, 1, BV_SURFACE_TIMEOUT},             /* sector 300 needs a reread */
+    {300, 1, 0, 1, POWER_FAILS},                    /* and is not written to its end */
 };
 
 /* The planned answer to this access, BV_SURFACE_GOOD if none is. */
@@ -62,11 +65,12 @@ static uint8_t read_sector(uint32_t sector, uint8_t *bytes)
     return answer;
 }
 
-/* Writes 532 bytes to a sector. */
+/* Writes 532 bytes to a sector. What the power leaves of it is the old bytes, the new ones or none that can be read;
+ * here the new ones. */
 static uint8_t write_sector(uint32_t sector, const uint8_t *bytes)
 {
     uint8_t answer = planned(sector, 1);
-    if (answer == BV_SURFACE_GOOD)
+    if (answer == BV_SURFACE_GOOD || answer == POWER_FAILS)
         memcpy(disk[sector], bytes, BV_SECTOR_BYTES);
     return answer;
 }
@@ -103,16 +107,19 @@ static const struct event bus[] = {
     /* A read that needs a reread stays below its threshold. */
     UP, GO, SAY(BV_OP_READ, 300, 2, 1), UP, GO,
     /* Write/verify block 17: its first verify fails, then the trial of its sector; spare 0 cannot be written,
-     * spare 1 takes it. */
+     * spare 1 takes it. The table is stored before the command finishes; the store fails, and so does the command. */
     UP, GO, SAY(BV_OP_WRITE_VERIFY, 17, 0, 0), UP, GO, SEND("SUMMER SALE, part 2"), UP, GO,
-    /* The raise stores the table first; the store fails, so the next raise stores it again. */
+    /* The next command for a block stores it again, and the one after that has nothing to store. */
     UP, GO, SAY(BV_OP_READ, 17, 10, 3), UP, GO,
     UP, GO, SAY(BV_OP_READ, 17, 10, 3), UP, GO,
     /* A host that breaks off, and a reset. */
     UP, {LOWER, 0xAA, {0}, NULL}, {RESET, 0, {0}, NULL},
-    /* The power fails and comes back: the table on the disk knows where block 17 is. */
+    /* The power fails during a write and comes back. The table on the disk knows where block 17 is, and block 300 has
+     * its bytes of before or those of the write. */
+    UP, GO, SAY(BV_OP_WRITE, 300, 0, 0), UP, GO, SEND("AUTUMN FAIR"), UP, GO,
     {POWER, 0, {0}, NULL},
     UP, GO, SAY(BV_OP_READ, 17, 10, 3), UP, GO,
+    UP, GO, SAY(BV_OP_READ, 300, 10, 3), UP, GO,
     /* A monitor reads the health block, with no access of the disk. */
     UP, GO, SAY(BV_OP_READ, BV_NUMBER_HEALTH, 10, 3), UP, GO,
     {END, 0, {0}, NULL},
@@ -151,6 +158,9 @@ static void send_all(const uint8_t *bytes, size_t n)
 static struct bv_drive drive;
 static uint8_t buffer[BV_BUFFER_BYTES];
 
+/* Set while the power is off: a board does not run then, and what it would do next is not done. */
+static int power_is_off;
+
 /* The last access, and how often it was made in a row. */
 static char last[40];
 static unsigned times;
@@ -170,14 +180,14 @@ static void note(const char *done, uint32_t sector, uint8_t answer)
 {
     static const char *const words[] = {"good", "crc", "timeout", "no settle"};
     char text[sizeof last];
-    snprintf(text, sizeof text, "%s %u %s", done, sector, words[answer]);
+    snprintf(text, sizeof text, "%s %u %s", done, sector, answer == POWER_FAILS ? "cut off" : words[answer]);
     if (strcmp(text, last) != 0)
         show_access();
     memcpy(last, text, sizeof last);
     times++;
 }
 
-/* Does the access that a reply asks for, and tells the library how it went. */
+/* Does the access that a reply asks for, and tells the library how it went, unless the power fails. */
 static struct bv_reply access_disk(struct bv_reply reply)
 {
     uint8_t bytes[BV_SECTOR_BYTES];
@@ -201,7 +211,8 @@ static struct bv_reply access_disk(struct bv_reply reply)
         note("store", BV_TABLE_SECTOR, answer);
         break;
     }
-    return bv_surface(&drive, buffer, sizeof buffer, answer, bytes, brought);
+    power_is_off = answer == POWER_FAILS;
+    return power_is_off ? reply : bv_surface(&drive, buffer, sizeof buffer, answer, bytes, brought);
 }
 
 /* Tells the library of an event. */
@@ -209,8 +220,9 @@ static struct bv_reply call(const struct event *event)
 {
     uint8_t bytes[BV_SECTOR_BYTES] = {0};
     switch (event->kind) {
-    case POWER:
+    case POWER: /* whatever the record and the buffer hold */
         printf("power:");
+        power_is_off = 0;
         return bv_start(&drive, buffer, sizeof buffer);
     case RAISE:
         printf("raise:");
@@ -248,6 +260,10 @@ static void show(struct bv_reply reply)
 {
     static uint8_t offered;
     show_access();
+    if (power_is_off) {
+        printf(" the power fails\n");
+        return;
+    }
     switch (reply.kind) {
     case BV_WAIT:
         printf(" wait\n");
@@ -299,7 +315,7 @@ int main(void)
         if (event->kind == END)
             break;
         struct bv_reply reply = call(event);
-        while (reply.kind == BV_READ || reply.kind == BV_WRITE || reply.kind == BV_STORE)
+        while (!power_is_off && (reply.kind == BV_READ || reply.kind == BV_WRITE || reply.kind == BV_STORE))
             reply = access_disk(reply);
         show(reply);
     }

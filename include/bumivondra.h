@@ -8,7 +8,7 @@
  * answers. docs/BOARD.md has the loop, examples/board_loop.c is one. Usable from C11 and from C++11.
  *
  * WHAT IS PROMISED. For every record, every buffer and every argument a call answers as document 01 with
- * requests 1 to 4 and 6 of document 02 defines it, changes the record and the buffer as it defines, reads and
+ * requests 1 to 4, 6 and 7 of document 02 defines it, changes the record and the buffer as it defines, reads and
  * writes nothing else, and ends. A refused call writes nothing at all, so that record and buffer may be
  * write-protected during it. No call waits, allocates, or keeps a pointer. For every byte bv_parity returns
  * what request 5 defines.
@@ -21,8 +21,9 @@
  *   - no pointer is null, not even where its count is 0 (pass the buffer's, say; nothing is read);
  *   - one call at a time on one record.
  * For the promise that each good read gives the right bytes it also hands record and buffer on
- * unaltered from call to call, after a bv_start that was not refused: proved of every such list of calls
- * (crates/bumivondra/specs). */
+ * unaltered from call to call, from a bv_start on that was not refused: proved of every such list of calls
+ * (crates/bumivondra/specs). Further starts may stand anywhere in the list, each given any record and any
+ * buffer, so that the promise outlives a power cut: see bv_start. */
 #ifndef BUMIVONDRA_H
 #define BUMIVONDRA_H
 
@@ -50,7 +51,7 @@ enum {
     BV_SPARES = 32,         /* the most entries of the spare list */
     BV_BADS = 100,          /* the most entries of the bad list */
     BV_TABLE_SECTOR = 4960, /* the sector of the table */
-    BV_MOST_ACCESSES = 3679 /* a command is over after at most so many accesses */
+    BV_MOST_ACCESSES = 3680 /* a command is over after at most so many accesses, its store among them */
 };
 
 /* ON THE HOST'S BUS */
@@ -67,7 +68,8 @@ enum {
     BV_HEALTH_UNUSED = 0,  /* how many spares are unused: a dead one is used */
     BV_HEALTH_BADS = 1,    /* how many entries the bad list has */
     BV_HEALTH_LATCH = 2,   /* 1 under the latch: after a no settle in a command, until the next start; else 0 */
-    BV_HEALTH_UNSTORED = 3 /* 1 while the table has changes that are not stored, else 0 */
+    BV_HEALTH_UNSTORED = 3 /* 1 while the table has changes that are not stored, else 0: a store failed, or the
+                              latch keeps it from being made */
 };
 
 /* The byte with which the host goes on; any other breaks off. */
@@ -89,13 +91,13 @@ enum {
     BV_S1_ABORTED = 0x40,    /* more than 532 data bytes, or a write with no table */
     BV_S1_NO_SETTLE = 0x10,  /* no settle, now or since the last start */
     BV_S1_CRC = 0x08,        /* the command met a CRC error */
-    BV_S1_TIMEOUT = 0x04,    /* the command met a timeout */
-    BV_S1_FAILED = 0x01,     /* the command failed */
+    BV_S1_TIMEOUT = 0x04,    /* the command met a timeout, of its store too */
+    BV_S1_FAILED = 0x01,     /* the command failed, or the table could not be stored */
     /* buf[1] */
     BV_S2_NO_SPARE = 0x40,   /* no spare is unused */
     BV_S2_BADS_FULL = 0x10,  /* the bad list holds 100 */
     BV_S2_NO_TABLE = 0x08,   /* the start found no table */
-    BV_S2_MOVED = 0x04,      /* the block was moved to a spare */
+    BV_S2_MOVED = 0x04,      /* the block was moved to a spare, stored or not */
     /* buf[2] */
     BV_S3_FRESH = 0x80,      /* the first finish after a start or a reset */
     BV_S3_NUMBER = 0x40      /* no such block */
@@ -147,7 +149,8 @@ enum {
     BV_OFFER = 1,    /* put the response byte `value` on the bus and answer the handshake */
     BV_READ = 2,     /* read sector `value`, then call bv_surface with what came */
     BV_WRITE = 3,    /* write the data part, buf + BV_DATA, to sector `value`, then call bv_surface */
-    BV_STORE = 4,    /* write bv_image's 532 bytes to BV_TABLE_SECTOR, then call bv_surface */
+    BV_STORE = 4,    /* write bv_image's 532 bytes to BV_TABLE_SECTOR, then call bv_surface, which finishes the
+                        command; from bv_surface and bv_lower alone */
     BV_FINISHED = 5, /* a command is over: the status bytes are in the buffer */
     BV_REFUSED = 6   /* the call is refused with code `value`; nothing was written */
 };
@@ -169,7 +172,7 @@ enum {
 /* THE RECORD. The board keeps it, aligned for uint16_t, and hands it to the calls. All of it is the library's
  * own: what a board may want to see, the functions below say. */
 
-enum { BV_DRIVE_BYTES = 376, BV_DRIVE_ALIGN = 2 };
+enum { BV_DRIVE_BYTES = 378, BV_DRIVE_ALIGN = 2 };
 
 struct bv_drive {
     uint16_t words[BV_DRIVE_BYTES / 2];
@@ -182,7 +185,7 @@ enum {
     BV_AT_COMMAND = 2,     /* command bytes are taken */
     BV_AT_DATA = 3,        /* data bytes are taken */
     BV_AT_START = 4,       /* the start's read is awaited */
-    BV_AT_STORE = 5,       /* the store is awaited */
+    BV_AT_STORE = 5,       /* the store at the end of a command is awaited */
     BV_AT_READ = 6,        /* a read command's read is awaited */
     BV_AT_WRITE = 7,       /* a write command's write is awaited */
     BV_AT_VERIFY = 8,      /* the read that verifies it is awaited */
@@ -206,6 +209,13 @@ static inline int bv_has_table(const struct bv_drive *drive)
 static inline int bv_has_unstored(const struct bv_drive *drive)
 {
     return drive->words[1] != 0;
+}
+
+/* Returns 1 while the place of a block that was moved is not stored, else 0: under the latch every command for a
+ * block then fails. */
+static inline int bv_has_unstored_place(const struct bv_drive *drive)
+{
+    return drive->words[22] != 0;
 }
 
 /* Returns 1 under the latch, after a no settle in a command and until the next start, else 0. */
@@ -240,28 +250,33 @@ BV_STATIC_ASSERT(sizeof(struct bv_drive) == BV_DRIVE_BYTES, "bv_drive");
 
 /* THE CALLS. In each that has them, `buf` and `len` are the lent buffer. A refused call writes nothing. */
 
-/* Power came on, or the drive is to be made anew. Whatever the record held, it is made anew: no table, no
- * latch, nothing under way. The buffer is zeroed. Answers BV_READ of BV_TABLE_SECTOR, or refuses with
- * BV_BAD_BUFFER. bv_surface then answers BV_READ again until a well-formed table of either form came with
- * answer 0, at most ten times in all, and BV_WAIT at the end of the start: idle, with the table or with none.
- * Form A has run number 0 and unknown causes. Answer 3 ends the start at once and sets no latch. The table's
- * bytes never enter the buffer. */
+/* Power came on, or the drive is to be made anew. In place at any time, with any record and any buffer: whatever
+ * they held, the record is made anew, with no table, no latch and nothing under way, and the buffer is zeroed.
+ * Answers BV_READ of BV_TABLE_SECTOR, or refuses with BV_BAD_BUFFER. bv_surface then answers BV_READ again until a
+ * well-formed table of either form came with answer 0, at most ten times in all, and BV_WAIT at the end of the
+ * start: idle, with the table or with none. Form A has run number 0 and unknown causes. Answer 3 ends the start at
+ * once and sets no latch. The table's bytes never enter the buffer.
+ *
+ * A start while an answer is awaited is a power cut: the command under way is over and was not reported. If that
+ * access was a write or a store, its sector may hold what it held, what was to be written, or nothing that can be read;
+ * all other sectors are as they were. Whichever access it was, each read of a block that is then reported good
+ * gives the bytes of its last write reported good, or of a write after it that was reported failed or was cut
+ * off. If the table's sector cannot be read any more, no command for a block is good. */
 struct bv_reply bv_start(struct bv_drive *drive, uint8_t *buf, size_t len);
 
-/* The host raised CMD. In idle: BV_STORE if there is a table with unstored changes and no latch (the
- * bv_surface that ends it answers the offer), else BV_OFFER of BV_OFFER_COMMAND. BV_STORE raises the table's
- * run number by one, however the store ends. After command bytes: the offer of their opcode, or
- * BV_OFFER_COMMAND with the bytes dropped if they are fewer than 6 for a read or 4 for a write, or the opcode
- * is none. After data bytes: BV_OFFER_ACT, and where fewer than 532 were fed, the rest of the data part is
- * zeroed, whatever number the command has. But for that the buffer stays as it is. Elsewhere BV_BAD_PLACE. */
+/* The host raised CMD. In idle: BV_OFFER of BV_OFFER_COMMAND, never a store. After command bytes: the offer of
+ * their opcode, or BV_OFFER_COMMAND with the bytes dropped if they are fewer than 6 for a read or 4 for a write, or
+ * the opcode is none. After data bytes: BV_OFFER_ACT, and where fewer than 532 were fed, the rest of the data part
+ * is zeroed, whatever number the command has. But for that the buffer stays as it is. Elsewhere BV_BAD_PLACE. */
 struct bv_reply bv_raise(struct bv_drive *drive, uint8_t *buf, size_t len);
 
 /* The host lowered CMD with `byte` on the bus, after an offer. With BV_GO_ON: after offer 01, 03 or 04
  * bytes are taken (BV_WAIT); after 02 or 06 the command is acted on, and the answer is its first BV_READ
- * or BV_WRITE, or BV_FINISHED where it is over without an access. Reads of BV_NUMBER_TABLE and BV_NUMBER_HEALTH
- * are so over, and with a table the data part then has its image of form A, or the health block's bytes, whatever
- * it held. With any other byte the command is broken off: status 80 00 00 00, idle, BV_FINISHED. With no offer
- * made BV_BAD_PLACE. */
+ * or BV_WRITE, or BV_FINISHED where it is over without an access. A write of a block that was fed too much has none
+ * but the store (BV_STORE), if there is something to store. Reads of BV_NUMBER_TABLE and BV_NUMBER_HEALTH have none,
+ * and with a table the data part then has its image of form A, or the health block's bytes, whatever it held. With
+ * any other byte the command is broken off: status 80 00 00 00, idle, BV_FINISHED. With no offer made
+ * BV_BAD_PLACE. */
 struct bv_reply bv_lower(struct bv_drive *drive, uint8_t *buf, size_t len, uint8_t byte);
 
 /* The host sent `n` bytes, any number in a call. Command bytes: the first six are kept, later ones are
@@ -272,10 +287,16 @@ struct bv_reply bv_feed(struct bv_drive *drive, uint8_t *buf, size_t len, const 
 
 /* The access that the last answer asked for is over: `answer` is one of BV_SURFACE_.., and `bytes` are
  * the 532 that a read brought with answer 0 or 1, else none (n is 0). Answers what comes next: another
- * access, BV_OFFER after the store, BV_WAIT at the end of the start, or BV_FINISHED with the status bytes
- * set and, for a good read, the block in the data part. A command is over after at most
- * BV_MOST_ACCESSES. With no access awaited BV_BAD_PLACE. Bytes of a read that is no good are in the data
- * part only until good ones come; bytes of a verify or of a reread of a sector trial never are. */
+ * access, BV_WAIT at the end of the start, or BV_FINISHED with the status bytes set and, for a good read, the block
+ * in the data part. A command is over after at most BV_MOST_ACCESSES. With no access awaited BV_BAD_PLACE. Bytes of
+ * a read that is no good are in the data part only until good ones come; bytes of a verify or of a reread of a
+ * sector trial never are.
+ *
+ * A command for a block that ends with unstored changes of the table, its own or older ones, asks for BV_STORE in
+ * place of BV_FINISHED, which raises the run number by one; the status bytes are set once the store was answered.
+ * Answer 0 stores the changes. Answer 2 makes the command fail, with BV_S1_TIMEOUT, and the next such command asks
+ * again. Answer 3 makes it fail, with BV_S1_NO_SETTLE, and latches. A moved block stays moved all the same. Under
+ * the latch no store is asked for, and every command for a block fails while bv_has_unstored_place. */
 struct bv_reply bv_surface(struct bv_drive *drive, uint8_t *buf, size_t len, uint8_t answer,
                            const uint8_t *bytes, size_t n);
 

@@ -3,10 +3,11 @@
  * Drives in every phase, sound ones and such as differ from them in one word, get calls with arguments of every
  * kind, each first where record and buffer may be written. A refused call is made again with both
  * write-protected: whatever it writes, were it the same bytes, ends the test. A call that is taken must leave
- * what the same call leaves of a record that lies between pages without access. On the way run number, causes and
- * remembered failures must stand in their words. Then bv_convert turns images into their other form and refuses
- * damaged ones, from bytes that are write-protected and, where it refuses, into such bytes too. Last, bv_start
- * must write BV_DRIVE_BYTES bytes: all of them, and not one more.
+ * what the same call leaves of a record that lies between pages without access. On the way run number, causes,
+ * remembered failures, the ending that waits for its store and the place mark must stand in their words. Then
+ * bv_convert turns images into their other form and refuses damaged ones, from bytes that are write-protected and,
+ * where it refuses, into such bytes too. Last, bv_start must write BV_DRIVE_BYTES bytes: all of them, and not one
+ * more.
  *
  * It prints how often each code was met. */
 #define _DEFAULT_SOURCE
@@ -113,7 +114,11 @@ enum { CALLS = sizeof calls / sizeof calls[0] };
 
 /* WORDS OF THE RECORD that no function of the header shows */
 
-enum { REMEMBERED = 19, RUN = 20, SPARE_COUNT = 22, BAD_COUNT = 23, SPARES = 24, BADS = 56, CAUSES = 156 };
+enum { MET_ERRORS = 7, MET_CRC = 12, MET_TIMEOUT = 13, REMEMBERED = 19, RUN = 20, PLACE = 22 };
+enum { SPARE_COUNT = 23, BAD_COUNT = 24, SPARES = 25, BADS = 57, CAUSES = 157 };
+
+/* The endings that wait for a store, by their numbers: some, and how many there are. */
+enum { GOOD = 0, MOVED = 1, FAILED = 2, OVERRUN = 3, ENDINGS = 10 };
 
 /* THE TRIAL */
 
@@ -166,9 +171,9 @@ static void try_calls(const struct bv_drive *drive, const uint8_t *content)
 /* Tries a record with one word changed, to numbers at and beyond every bound. */
 static void try_damaged(const struct bv_drive *drive, const uint8_t *content)
 {
-    static const uint16_t numbers[] = {0,    1,    2,    3,    4,    6,      7,      10,     11,     32,     33,
-                                       63,   90,   100,  101,  255,  256,    533,    534,    1536,   4928,   9727,
-                                       9728, 9791, 9792, 0x0501, 0x0B04, 0x640A, 0x650A, 0x8000, 0xFFFE, 0xFFFF};
+    static const uint16_t numbers[] = {0,    1,    2,    3,      4,      6,      7,      10,     11,     32,     33,     63,
+                                       90,   100,  101,  255,    256,    533,    534,    1536,   4928,   9727,   9728,   9791,
+                                       9792, 0x0501, 0x0905, 0x0A05, 0x0B04, 0x640A, 0x650A, 0x8000, 0xFFFE, 0xFFFF};
     for (size_t word = 0; word < BV_DRIVE_BYTES / 2; word++) {
         for (size_t k = 0; k < sizeof numbers / sizeof numbers[0]; k++) {
             struct bv_drive damaged = *drive;
@@ -179,15 +184,27 @@ static void try_damaged(const struct bv_drive *drive, const uint8_t *content)
     }
 }
 
-/* Every phase and every offer that is none: code 1, but for bv_start. */
+/* Whether a phase with this detail is one. */
+static int is_phase(unsigned phase, unsigned detail)
+{
+    switch (phase) {
+    case BV_AT_OFFER:
+        return (detail >= 1 && detail <= 4) || detail == 6;
+    case BV_AT_STORE:
+        return detail < ENDINGS;
+    default:
+        return phase <= BV_AT_TRIAL_READ;
+    }
+}
+
+/* Every phase, every offer and every ending that is none: code 1, but for bv_start. */
 static void try_phases(const struct bv_drive *drive, const uint8_t *content)
 {
     for (unsigned low = 0; low < 256; low++) {
-        for (unsigned high = 0; high < 256; high += low == BV_AT_OFFER ? 1 : 85) {
-            int offer = (high >= 1 && high <= 4) || high == 6;
+        for (unsigned high = 0; high < 256; high += low == BV_AT_OFFER || low == BV_AT_STORE ? 1 : 85) {
             struct bv_drive damaged = *drive;
             damaged.words[4] = low | high << 8;
-            if (low <= BV_AT_TRIAL_READ && (low != BV_AT_OFFER || offer))
+            if (is_phase(low, high))
                 continue;
             for (size_t k = 0; k < CALLS; k++) {
                 struct bv_reply reply = try_call(&damaged, content, &calls[k]);
@@ -275,6 +292,29 @@ static void remembers(unsigned last, unsigned before, unsigned present)
     EXPECT(drive.words[REMEMBERED] == last + 4 * before + 16 * present);
 }
 
+/* A command waits for its store: it has ended so, with this E and these errors met. */
+static void waits(unsigned ending, unsigned errors, unsigned crc, unsigned timeout)
+{
+    here(BV_AT_STORE);
+    remembers(0, 0, 0);
+    EXPECT(drive.words[4] >> 8 == ending && drive.words[MET_ERRORS] == errors << 8);
+    EXPECT(drive.words[MET_CRC] == crc && drive.words[MET_TIMEOUT] == timeout);
+    EXPECT(bv_has_unstored(&drive) && bv_rereads(&drive) == 0 && bv_failures(&drive) == 0);
+}
+
+/* The status bytes are these. */
+static void status_is(uint8_t one, uint8_t two, uint8_t three, uint8_t four)
+{
+    EXPECT(buffer[0] == one && buffer[1] == two && buffer[2] == three && buffer[3] == four);
+}
+
+/* Some block's place is unstored, or none is. */
+static void place_is(unsigned mark)
+{
+    EXPECT(drive.words[PLACE] == mark);
+    EXPECT((unsigned)bv_has_unstored_place(&drive) == mark);
+}
+
 /* The table has this run number. */
 static void run_is(uint32_t run)
 {
@@ -360,12 +400,62 @@ static void image_is(const uint8_t *wanted)
     EXPECT(memcmp(image, wanted, S) == 0);
 }
 
-/* Goes through every phase. */
-static void travel(void)
+/* From idle to the store of a read of block 17 that is never good; both its rereads time out. */
+static void read_in_vain(void)
 {
     static const uint8_t lost[S] = {0};
+    command(BV_OP_READ, BV_OFFER_READ);
+    go_on(BV_READ);
+    surface(BV_SURFACE_CRC, lost, S, BV_READ);
+    for (unsigned reread = 0; reread < 2; reread++)
+        surface(BV_SURFACE_TIMEOUT, lost, 0, BV_READ);
+    for (unsigned further = 1; further < 10; further++)
+        surface(BV_SURFACE_TIMEOUT, lost, 0, BV_READ);
+    surface(BV_SURFACE_TIMEOUT, lost, 0, BV_STORE);
+}
+
+/* From a block that has moved, its store awaited, through the answers to stores up to the latch. */
+static void store_travel(void)
+{
+    const uint8_t too_much[S + 1] = {0};
+    waits(MOVED, 0, 1, 1);
+    place_is(1);
+    run_is(0x10003);
+    status_is(0, 0, 0, 0);
+    surface(BV_SURFACE_TIMEOUT, bytes, 0, BV_FINISHED);
+    status_is(BV_S1_CRC | BV_S1_TIMEOUT | BV_S1_FAILED, BV_S2_MOVED, 0, 0);
+    place_is(1);
+    here(BV_AT_IDLE);
+    write_block(BV_OP_WRITE, BV_OFFER_WRITE);
+    surface(BV_SURFACE_GOOD, bytes, 0, BV_STORE);
+    waits(GOOD, 0, 0, 0);
+    surface(BV_SURFACE_GOOD, bytes, 0, BV_FINISHED);
+    status_is(0, 0, 0, 0);
+    place_is(0);
+    EXPECT(!bv_has_unstored(&drive));
+    read_in_vain();
+    waits(FAILED, 2, 1, 1);
+    place_is(0);
+    surface(BV_SURFACE_TIMEOUT, bytes, 0, BV_FINISHED);
+    command(BV_OP_WRITE, BV_OFFER_WRITE);
+    go_on(BV_WAIT);
+    EXPECT(bv_feed(&drive, buffer, B, too_much, sizeof too_much).kind == BV_WAIT);
+    up(BV_OFFER_ACT);
+    go_on(BV_STORE);
+    waits(OVERRUN, 0, 0, 0);
+    run_is(0x10006);
+    surface(BV_SURFACE_NO_SETTLE, bytes, 0, BV_FINISHED);
+    status_is(BV_S1_ABORTED | BV_S1_NO_SETTLE | BV_S1_FAILED, 0, 0, 0);
+    EXPECT(bv_is_latched(&drive) && bv_has_unstored(&drive));
+    place_is(0);
+    here(BV_AT_IDLE);
+}
+
+/* From a drive that was never started to one that has started with a table of form B. */
+static void start_travel(void)
+{
     uint8_t image[S];
-    here(BV_AT_IDLE); /* never started */
+    here(BV_AT_IDLE);
     lay_form_a(image);
     start(image);
     run_is(0);
@@ -379,6 +469,12 @@ static void travel(void)
     image_is(image);
     try_causes(&drive, buffer);
     here(BV_AT_IDLE);
+}
+
+/* From idle through a handshake, a read and a write to idle. */
+static void command_travel(void)
+{
+    static const uint8_t lost[S] = {0};
     up(BV_OFFER_COMMAND);
     here(BV_AT_OFFER);
     try_phases(&drive, buffer);
@@ -395,6 +491,12 @@ static void travel(void)
     write_block(BV_OP_WRITE, BV_OFFER_WRITE);
     here(BV_AT_WRITE);
     surface(BV_SURFACE_GOOD, lost, 0, BV_FINISHED);
+}
+
+/* From idle through a write/verify whose block moves, up to its store. */
+static void move_travel(void)
+{
+    static const uint8_t lost[S] = {0};
     command(BV_OP_WRITE_VERIFY, BV_OFFER_VERIFY);
     go_on(BV_WAIT);
     here(BV_AT_DATA);
@@ -411,22 +513,20 @@ static void travel(void)
     trial(31, BV_WRITE);
     here(BV_AT_TRIAL_WRITE); /* on a spare */
     remembers(BV_CAUSE_UNKNOWN, BV_CAUSE_TIMEOUT, BV_CAUSE_TIMEOUT);
-    trial(30, BV_FINISHED);
-    remembers(0, 0, 0);
+    place_is(0);
+    run_is(0x10002);
+    trial(30, BV_STORE);
     EXPECT(drive.words[SPARE_COUNT] == 3 && drive.words[SPARES + 2] == 17);
     EXPECT(drive.words[CAUSES + 2] == BV_CAUSE_TIMEOUT);
-    EXPECT(bv_has_unstored(&drive));
-    run_is(0x10002);
-    EXPECT(bv_raise(&drive, buffer, B).kind == BV_STORE);
-    run_is(0x10003);
-    here(BV_AT_STORE);
-    surface(BV_SURFACE_GOOD, lost, 0, BV_OFFER);
-    EXPECT(!bv_has_unstored(&drive));
-    EXPECT(bv_reset(&drive, buffer, B).kind == BV_WAIT);
-    write_block(BV_OP_WRITE, BV_OFFER_WRITE);
-    surface(BV_SURFACE_NO_SETTLE, lost, 0, BV_FINISHED);
-    EXPECT(bv_is_latched(&drive));
-    here(BV_AT_IDLE);
+}
+
+/* Goes through every phase. */
+static void travel(void)
+{
+    start_travel();
+    command_travel();
+    move_travel();
+    store_travel();
     EXPECT(phases == (1u << (BV_AT_TRIAL_READ + 1)) - 1);
 }
 

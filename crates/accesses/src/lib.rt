@@ -8,17 +8,17 @@ ghost use Rattle.drive.specs.declared.Phase.the-variants as phase;
 ghost use Rattle.drive.specs.declared.Answer.the-variants as answer;
 ghost use Rattle.drive.specs.Records.{accessOk, stateOk};
 ghost use Rattle.drive.specs.Results.{say, inPhase};
-ghost use Rattle.drive.specs.Access.{asksRead, answerFits, bytesFit, isCompared, verifies, withTable, startAnswered, storeAnswered};
+ghost use Rattle.drive.specs.Access.{asksRead, answerFits, bytesFit, isCompared, verifies, withTable, startAnswered, storeMarks, storeAnswered};
 ghost use Rattle.drive.specs.Access.{written, writeAnswered, verifyAnswered, follows, answered};
 ghost use Rattle.records.specs.Turns.{lent};
 use drive::Access;
 use drive::Answer;
 use drive::Cause;
 use drive::Change;
+use drive::Close;
 use drive::Ending;
 use drive::Leaves;
 use drive::Marks;
-use drive::Offer;
 use drive::Part;
 use drive::Phase;
 use drive::Refusal;
@@ -34,7 +34,7 @@ fn asks_read(x: Access) -> bool
 {
     match x {
         Access::Start(_) => true,
-        Access::Store => false,
+        Access::Store(_) => false,
         Access::Read(_) => true,
         Access::Write(_) => false,
         Access::Verify(_) => true,
@@ -49,7 +49,7 @@ fn is_compared(x: Access) -> bool
 {
     match x {
         Access::Start(_) => false,
-        Access::Store => false,
+        Access::Store(_) => false,
         Access::Read(_) => false,
         Access::Write(_) => false,
         Access::Verify(_) => true,
@@ -93,6 +93,7 @@ fn with_table(l: State, run: u32) -> Turn
     let known = Marks {
         known: true,
         changed: m.changed,
+        moved: m.moved,
         latch: m.latch,
         fresh: m.fresh,
     };
@@ -146,18 +147,28 @@ fn start(k: u8, l: State, a: u8, bytes: &[u8]) -> Turn
     with_table(l, run)
 }
 
-// Offers 01 after the store. Answered 0, the table has no changes to store any more.
-fn store(l: State, a: u8) -> Turn
-    ensures { λ x. ⌜ x ≡ storeAnswered l a ⌝ }
+// Returns the marks after answer a to the store: 0 clears those of what is unstored, 3 latches.
+fn store_marks(m: Marks, a: u8) -> Marks
+    ensures { λ r. ⌜ r ≡ storeMarks m a ⌝ }
 {
-    let m = l.marks;
-    let k = Marks {
+    Marks {
         known: m.known,
         changed: m.changed & !(a == 0),
-        latch: m.latch,
+        moved: m.moved & !(a == 0),
+        latch: m.latch | (a == 3),
         fresh: m.fresh,
-    };
-    records::offer(records::with_marks(l, k, Phase::Idle), Offer::Command, 0)
+    }
+}
+
+// Finishes the command whose store was answered: as it ended, with what the store met, and failed unless
+// the store was done.
+fn store(k: Close, l: State, a: u8) -> Turn
+    ensures { λ x. ⌜ x ≡ storeAnswered k l a ⌝ }
+{
+    let m = store_marks(l.marks, a);
+    let e = k.ending;
+    let s = records::met(a, k.seen);
+    records::report(l, m, Change::Keep, e, s, !(a == 0), a == 3, Part::Kept)
 }
 
 // Goes on after a write that was done: a write/verify reads it back.
@@ -227,7 +238,7 @@ fn follow(
 {
     match x {
         Access::Start(k) => start(k, l, a, bytes),
-        Access::Store => store(l, a),
+        Access::Store(k) => store(k, l, a),
         Access::Read(r) => reading::read(l, bads, m, r, a),
         Access::Write(w) => write(l, n, w, a),
         Access::Verify(w) => verify(l, w, a, equal),

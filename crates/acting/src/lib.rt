@@ -1,9 +1,12 @@
-// Acts on a command (document 01, "Acting on a command", with requests 3 and 4 of document 02).
+// Acts on a command (document 01, "Acting on a command", with requests 3, 4 and 7 of document 02).
 ghost use mathlib.Core.Path.{_≡_};
 ghost use Prim.Native.Nat.{_≤_, _<_};
 ghost use lib.ListN.{length};
 ghost use Rattle.drive.specs.Words.{blockOf};
-ghost use Rattle.drive.specs.Handshake.{ends, firstRead, firstWrite, firstTrial, writes, asksBuffer, asksTable, asksHealth, noNumber, health, acted};
+ghost use Rattle.drive.specs.Results.{clean, finish};
+ghost use Rattle.drive.specs.Handshake.{firstRead, firstWrite, firstTrial, writes, asksBuffer, asksTable, asksHealth, noNumber, health, overruns, acted};
+ghost use Rattle.drive.specs.declared.Change.the-variants as change;
+ghost use Rattle.drive.specs.declared.Part.the-variants as part;
 ghost use Rattle.records.specs.Turns.{lent};
 use drive::Access;
 use drive::Answer;
@@ -68,11 +71,21 @@ fn health(n: usize, m: usize, marks: Marks) -> Four
     Four(unused as u8, m as u8, latch, unstored)
 }
 
-// Finishes the command without an access.
-fn end(l: State, e: Ending, p: Part) -> Turn
-    ensures { λ x. ⌜ x ≡ ends l e p ⌝ }
+// Ends a command for a block that fails without an access.
+fn fail(l: State, e: Ending) -> Turn
+    ensures { λ x. ⌜ x ≡ finish l change.Keep e clean part.Kept ⌝ }
 {
-    records::finish(l, Change::Keep, e, records::clean(), p)
+    records::finish(l, Change::Keep, e, records::clean(), Part::Kept)
+}
+
+// Ends a command that was fed too much.
+fn overrun(o: Order, l: State) -> Turn
+    ensures { λ x. ⌜ x ≡ overruns o l ⌝ }
+{
+    if o.number < 9728 {
+        return fail(l, Ending::Overrun);
+    }
+    records::ends(l, Ending::Overrun, Part::Kept)
 }
 
 // Asks for a read command's first read.
@@ -151,28 +164,28 @@ pub fn act<'a>(o: Order, l: State, spares: &'a [u16], n: usize, bads: &'a [u16],
     let marks = l.marks;
     let reads = records::is_read(k);
     if 532 < l.fed {
-        return end(l, Ending::Overrun, Part::Kept);
+        return overrun(o, l);
     }
     if no_number(k, v) {
-        return end(l, Ending::NoNumber, Part::Kept);
+        return records::ends(l, Ending::NoNumber, Part::Kept);
     }
     if asks_buffer(v) {
-        return end(l, Ending::Good, Part::Kept);
+        return records::ends(l, Ending::Good, Part::Kept);
     }
     if !marks.known {
-        return end(l, Ending::NoTable(!reads), Part::Kept);
+        return records::ends(l, Ending::NoTable(!reads), Part::Kept);
     }
     if asks_table(v) {
-        return end(l, Ending::Good, Part::Image);
+        return records::ends(l, Ending::Good, Part::Image);
     }
     if asks_health(v) {
-        return end(l, Ending::Good, Part::Figures(health(n, m, marks)));
+        return records::ends(l, Ending::Good, Part::Figures(health(n, m, marks)));
     }
     if reads {
         return first_read(o, l, lists::cut(spares, n));
     }
     if marks.latch {
-        return end(l, Ending::Latched, Part::Kept);
+        return fail(l, Ending::Latched);
     }
     write(o, l, spares, n, bads, m)
 }

@@ -1,5 +1,5 @@
--- DEMAND 3 FOR C: every list of the library's own calls from bv_start on. Each call gets the words and the buffer that the last one left, and the surface does
--- what its rules permit.
+-- DEMAND 3 FOR C: every list of the library's own calls from bv_start on, further bv_start among them. Each call gets the words and
+-- the buffer that the last one left, each bv_start any words and buffer, and the surface does what its rules permit.
 use mathlib.Core.Path.{_≡_}
 use mathlib.Core.Bool.{Bool, true, false, cond}
 use mathlib.Core.List.{List, [], _∷_}
@@ -13,10 +13,12 @@ use Rattle.drive.specs.declared.Offer.the-variants as offer
 use Rattle.drive.specs.declared.Refusal.{Refusal}
 use Rattle.drive.specs.declared.Refusal.the-variants as refusal
 use Rattle.drive.specs.Results.{Out}
-use Rattle.drive.specs.Views.{Bytes}
+use Rattle.drive.specs.Views.{Bytes, ofAnswer}
 use Rattle.drive.specs.Values.{TypedCall}
-use Rattle.drive.specs.History.{Sectors, Entry, blank, Allows}
-use Rattle.drive.specs.Run.{Event, World, after, Permits, entryOf}
+use Rattle.drive.specs.History.{Sectors, Line, blank, Allows}
+use Rattle.drive.specs.Surface.{Fate}
+use Rattle.drive.specs.Run.{Event, Moment, World, after, Permits, lineOf}
+use Rattle.drive.specs.Run as run
 use Rattle.packed.specs.Packing.{unpackOf}
 use Rattle.crossing.specs.declared.Reply.{Reply}
 use Rattle.crossing.specs.Crossing.{Shown, callShown, startShown}
@@ -55,44 +57,65 @@ pub record Board : Type 0 where
 abbrev pub worldOf : Board → World
 worldOf b = record { drive = unpackOf (b .words); buffer = b .buffer; sectors = b .sectors; asked = b .asked }
 
--- Returns what the library shows of an event's call.
-abbrev pub shownAt : Board → Event → Shown
-shownAt b e = callShown (e .call) (b .words) (b .buffer)
+-- Names what the list may hold: a call, or bv_start given any words as the record and any buffer, with what a pending write leaves if
+-- it is a cut.
+pub data Occasion : Type 0 where
+  call : Event → Occasion
+  power : List ℕ → Bytes → Fate → Occasion
+
+-- Returns the same with the words unpacked.
+abbrev pub momentOf : Occasion → Moment
+momentOf (call e) = run.call e
+momentOf (power w u f) = run.power (unpackOf w) u f
+
+-- Returns what the library shows of it.
+abbrev pub shownAt : Board → Occasion → Shown
+shownAt b (call e) = callShown (e .call) (b .words) (b .buffer)
+shownAt b (power w u f) = startShown w u
 
 -- Returns the same with the words unpacked and the reply read, for the history.
 abbrev pub outOf : Shown → Out
 outOf x = record { step = record { drive = unpackOf (x .words); answer = answerOf (x .reply) }; bytes = x .bytes }
 
--- Returns what the board has after a call that is shown so. "The caller hands buffer and record on unaltered."
-abbrev pub boardAfter : World → Event → Shown → Out → Board
-boardAfter w e x o = record { words = x .words; buffer = x .bytes; sectors = after w e o .sectors; asked = after w e o .asked }
+-- Returns the words that the board has then: "The caller hands buffer and record on unaltered." A bv_start that is refused leaves the
+-- board what it had.
+abbrev pub wordsAfter : List ℕ → Occasion → Shown → List ℕ
+wordsAfter v (call e) x = x .words
+wordsAfter v (power w u f) x = cond (ofAnswer (answerOf (x .reply)) .refused) v (x .words)
 
-abbrev pub next : Board → Event → Board
-next b e = boardAfter (worldOf b) e (shownAt b e) (outOf (shownAt b e))
+-- Returns what the board has after what is shown so; v are its words before.
+abbrev pub boardAfter : List ℕ → World → Occasion → Shown → Out → Board
+boardAfter v w m x o =
+    record { words = wordsAfter v m x; buffer = after w (momentOf m) o .buffer; sectors = after w (momentOf m) o .sectors; asked = after w (momentOf m) o .asked }
 
--- Says that the surface's rules hold at each access of the list.
-abbrev pub LawfulCalls : Board → List Event → Type 0
+abbrev pub next : Board → Occasion → Board
+next b m = boardAfter (b .words) (worldOf b) m (shownAt b m) (outOf (shownAt b m))
+
+-- Says that the surface's rules hold throughout the list.
+abbrev pub LawfulCalls : Board → List Occasion → Type 0
 LawfulCalls b [] = Unit {0}
-LawfulCalls b (e ∷ es) = Permits (worldOf b) e (outOf (shownAt b e)) × LawfulCalls (next b e) es
+LawfulCalls b (m ∷ ms) = Permits (worldOf b) (momentOf m) (outOf (shownAt b m)) × LawfulCalls (next b m) ms
 
 -- Returns what the history is fed.
-abbrev pub entriesOf : Board → List Event → List Entry
-entriesOf b [] = []
-entriesOf b (e ∷ es) = entryOf e (outOf (shownAt b e)) ∷ entriesOf (next b e) es
+abbrev pub linesOf : Board → List Occasion → List Line
+linesOf b [] = []
+linesOf b (m ∷ ms) = lineOf (momentOf m) (outOf (shownAt b m)) ∷ linesOf (next b m) ms
 
 -- Returns what the board has where bv_start returned.
 abbrev pub started : List ℕ → Bytes → Sectors → Board
-started old lent sectors = let x = startShown old lent in record { words = x .words; buffer = x .bytes; sectors = sectors; asked = answerOf (x .reply) }
+started words lent sectors = let x = startShown words lent in record { words = x .words; buffer = x .bytes; sectors = sectors; asked = answerOf (x .reply) }
 
 -- Says that the calls' arguments are bytes, as C passes them.
-abbrev pub TypedEvents : List Event → Type 0
-TypedEvents [] = Unit {0}
-TypedEvents (e ∷ es) = TypedCall (e .call) × TypedEvents es
+abbrev pub TypedCalls : List Occasion → Type 0
+TypedCalls [] = Unit {0}
+TypedCalls (call e ∷ ms) = TypedCall (e .call) × TypedCalls ms
+TypedCalls (power w u f ∷ ms) = TypedCalls ms
 
--- For any words as the record and any buffer of 536 bytes given to bv_start, any sectors, any list of calls with any arguments and any outcome that the
--- surface's rules permit: the history allows the whole list.
+-- For any words as the record and any buffer of 536 bytes given to bv_start, any sectors, any list of calls with any arguments and of
+-- further bv_start given any words and buffer, whatever they cut off, and any outcome that the surface's rules permit: the history
+-- allows the whole list.
 abbrev pub Demand3Calls : Type 0
 Demand3Calls =
-    (old : List ℕ) (lent : Bytes) → length lent ≡ 536
-    → (sectors : Sectors) (es : List Event) → TypedEvents es → LawfulCalls (started old lent sectors) es
-    → Allows sectors blank (entriesOf (started old lent sectors) es)
+    (words : List ℕ) (lent : Bytes) → length lent ≡ 536
+    → (sectors : Sectors) (ms : List Occasion) → TypedCalls ms → LawfulCalls (started words lent sectors) ms
+    → Allows sectors blank (linesOf (started words lent sectors) ms)

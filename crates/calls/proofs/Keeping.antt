@@ -25,8 +25,8 @@ use Rattle.drive.specs.Retries.{afterRead}
 use Rattle.drive.specs.Sparing.{tried, judged, checked, missed, verified}
 use Rattle.drive.specs.Access.{asksRead, fitting, keptPart, writeAnswered, follows, answered}
 use Rattle.records.specs.Turns.{lent}
-use Rattle.records.proofs.Ladders.{raised-idle-cases, acted-cases, lowered-cases, fitting-cases, start-cases}
-use Rattle.records.proofs.Shapes.{no-load}
+use Rattle.records.proofs.Ladders.{acted-cases, lowered-cases, fitting-cases, start-cases}
+use Rattle.records.proofs.Shapes.{finish-change, no-load}
 use Rattle.accesses.proofs.Answers.{read-bads}
 use Rattle.calls.specs.Gives.{Formed}
 
@@ -36,7 +36,7 @@ Keeps x = x .change ≡ change.Keep
 
 pub raise-keeps : (p : Phase) (l : State) → Keeps (raised p l)
 unfolding raised
-raise-keeps phase.Idle l = raised-idle-cases Keeps l (record { stores = λ e. refl; offers = λ e. refl })
+raise-keeps phase.Idle l = refl
 raise-keeps (phase.Offered o) l = refl
 raise-keeps phase.Command l = refl
 raise-keeps phase.Data l = refl
@@ -46,14 +46,14 @@ act-keeps : (o : Order) (l : State) (t : Table) → Keeps (acted o l t)
 act-keeps o l t =
     acted-cases Keeps o l t
     (record {
-      overrun = λ e. refl;
+      overrun = λ e. record { block = λ f. finish-change l change.Keep _ _ _; no-block = λ f. refl };
       no-block = λ e f. refl;
       buffer = λ e f. refl;
       no-table = λ e f. refl;
       table = λ e f. refl;
       health = λ e f. refl;
       read = λ b e. refl;
-      latched = λ b e f. refl;
+      latched = λ b e f. finish-change l change.Keep _ _ _;
       listed = λ b e f g. refl;
       write = λ b e f g. refl;
     })
@@ -111,7 +111,7 @@ module _ (bs : List ℕ) where
   unfolding follows
   follow-formed (access.Start k) l t a q =
       start-cases Loads k l a bs (record { table = λ e. and-right (eqb a 0) (wellFormed bs) e; stops = λ e f. refl; again = λ e f. refl; gives-up = λ e f. refl })
-  follow-formed access.Store l t a q = rw (no-load access.Store l t a bs q refl)
+  follow-formed (access.Store k) l t a q = rw (no-load (access.Store k) l t a bs q refl)
   follow-formed (access.Read r) l t a q = rw (no-load (access.Read r) l t a bs q refl)
   follow-formed (access.Write w) l t a q = rw (no-load (access.Write w) l t a bs q refl)
   follow-formed (access.Verify w) l t a q = rw (no-load (access.Verify w) l t a bs q refl)
@@ -135,7 +135,7 @@ no-spares (phase.Offered o) l s b n m a bs q = refl
 no-spares phase.Command l s b n m a bs q = refl
 no-spares phase.Data l s b n m a bs q = refl
 no-spares (phase.Awaiting (access.Start k)) l s b n m a bs q = refl
-no-spares (phase.Awaiting access.Store) l s b n m a bs q = refl
+no-spares (phase.Awaiting (access.Store k)) l s b n m a bs q = refl
 no-spares (phase.Awaiting (access.Read r)) l s b n m a bs q =
     ap (fitting true l a (length bs)) (sym (read-bads (afterRead r a) l [] b n m (keptPart r a)) ∙ read-bads (afterRead r a) l s b n m (keptPart r a))
 no-spares (phase.Awaiting (access.Write w)) l s b n m a bs q = refl

@@ -198,6 +198,7 @@ fn started() -> Drive
     let m = Marks {
         known: false,
         changed: false,
+        moved: false,
         latch: false,
         fresh: true,
     };

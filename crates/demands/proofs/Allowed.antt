@@ -5,5 +5,5 @@ use Rattle.drive.proofs.Transcripts.{Run, Happens, entered}
 use Rattle.drive.proofs.Statements.{demand-3-of-a-run}
 use Rattle.demands.proofs.Demand3.{demand-3}
 
-pub allowed : (old : Drive) (r : Run) → Happens old r → Allows (r .sectors) blank (entered old r)
+pub allowed : (d : Drive) (r : Run) → Happens d r → Allows (r .sectors) blank (entered d r)
 allowed = demand-3-of-a-run demand-3

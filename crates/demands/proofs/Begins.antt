@@ -1,10 +1,10 @@
--- EVERY TRIAL BEGINS WITH NO REREAD, in every list of calls after a start; and once its write is answered 0, its first reread is
--- awaited. So `trial-100` is said of each of them.
-use mathlib.Core.Path.{_≡_, refl, subst}
-use mathlib.Core.Bool.{Bool, true, _&&_}
+-- EVERY TRIAL BEGINS WITH NO REREAD, and none under the latch, in every list of calls after a start; and once its write is answered
+-- 0, its first reread is awaited. So `trial-100` is said of each of them.
+use mathlib.Core.Path.{_≡_, refl, subst, _∙_}
+use mathlib.Core.Bool.{Bool, true, false, not, _&&_}
 use mathlib.Core.List.{List, [], _∷_}
 use Prim.Native.Nat.{ℕ, _+_}
-use borrow.Author.Tests.{eq-eqb, eqb-true}
+use borrow.Author.Tests.{eq-eqb, eqb-true, not-true}
 use lib.Dec.{eqb}
 use lib.ListN.{length, replicate}
 use Rattle.logic.proofs.Bools.{and-left, and-right}
@@ -16,6 +16,7 @@ use Rattle.drive.specs.declared.Access.the-variants as access
 use Rattle.drive.specs.declared.Change.{Change}
 use Rattle.drive.specs.declared.Change.the-variants as change
 use Rattle.drive.specs.declared.Drive.{Drive}
+use Rattle.drive.specs.declared.Ending.{Ending}
 use Rattle.drive.specs.declared.Offer.{Offer}
 use Rattle.drive.specs.declared.Offer.the-variants as offer
 use Rattle.drive.specs.declared.Order.{Order}
@@ -31,6 +32,7 @@ use Rattle.drive.specs.declared.Turn.{Turn}
 use Rattle.buffer.specs.Runs.{same}
 use Rattle.drive.specs.Words.{dataOf}
 use Rattle.drive.specs.Records.{recordOk}
+use Rattle.drive.specs.Results.{finish}
 use Rattle.drive.specs.Handshake.{raised, acted, goesOn, lowered, fedTo, rested}
 use Rattle.drive.specs.Retries.{afterRead}
 use Rattle.drive.specs.Sparing.{tried, counted}
@@ -38,82 +40,88 @@ use Rattle.drive.specs.Access.{asksRead, keptPart, storeAnswered, reads, fittin
 use Rattle.drive.specs.Calls.{Call, raise, lower, feed, surface, reset, called, raiseOf, lowerOf, feedOf, surfaceOf, resetOf, stepOf, started, startOf}
 use Rattle.drive.specs.Over.{Reply, replied}
 use Rattle.drive.specs.Trials.{AwaitsReread}
-use Rattle.records.proofs.Ladders.{guarded-cases, fitting-cases, raised-idle-cases, acted-cases, lowered-cases, NextSpare, Missed, Stopped, Verified, tried-cases, checked-cases, start-cases, lost-cases, settled-cases, write-cases, verify-cases}
+use Rattle.records.proofs.Ladders.{guarded-cases, fitting-cases, finish-cases, acted-cases, lowered-cases, NextSpare, Missed, Stopped, Verified, tried-cases, checked-cases, start-cases, lost-cases, settled-cases, write-cases, verify-cases}
+use Rattle.demands.proofs.Awaited.{ofPhase}
 
--- Says whether a trial whose write is awaited has no reread yet.
-abbrev pub isFresh : Access → Bool
-isFresh (access.Start k) = true
-isFresh access.Store = true
-isFresh (access.Read r) = true
-isFresh (access.Write w) = true
-isFresh (access.Verify w) = true
-isFresh (access.TrialWrite r) = eqb (r .rereads) 0 && eqb (r .failures) 0
-isFresh (access.TrialRead r) = true
+-- Says whether a trial whose write is awaited has no reread yet, and that no write but the store, and no verify or reread, is awaited
+-- under the latch.
+abbrev pub isFresh : Bool → Access → Bool
+isFresh latch (access.Start k) = true
+isFresh latch (access.Store k) = true
+isFresh latch (access.Read r) = true
+isFresh latch (access.Write w) = not latch
+isFresh latch (access.Verify w) = not latch
+isFresh latch (access.TrialWrite r) = not latch && (eqb (r .rereads) 0 && eqb (r .failures) 0)
+isFresh latch (access.TrialRead r) = not latch
 
-abbrev pub fresh : Phase → Bool
-fresh phase.Idle = true
-fresh (phase.Offered o) = true
-fresh phase.Command = true
-fresh phase.Data = true
-fresh (phase.Awaiting x) = isFresh x
+abbrev pub fresh : State → Bool
+fresh l = ofPhase true (isFresh (l .marks .latch)) (l .phase)
 
 -- Says so of a turn.
 abbrev Leaves : Turn → Type 0
-Leaves x = fresh (x .state .phase) ≡ true
+Leaves x = fresh (x .state) ≡ true
 
 -- WHAT EACH RULE LEAVES
 module _ (l : State) (t : Table) where
-  nexts : (n : ℕ) (c : Change) (b : Block) (s : Seen) {x y : Cause} → NextSpare Leaves n l c b s x y
-  nexts n c b s = record { spare = λ e. refl; no-spare = λ e. refl }
+  ends : (c : Change) (e : Ending) (s : Seen) (p : Part) → Leaves (finish l c e s p)
+  ends c e s p = finish-cases Leaves l c e s p (record { asks = λ q. refl; reports = λ q. refl })
 
-  misses : (r : Trial) (s : Seen) {x : Cause} → Missed Leaves l t r s x
-  misses r s = record { dead = λ e. nexts (t .nspares + 1) _ (r .block) s; left = λ e. nexts (t .nspares) change.Keep (r .block) s }
+  module _ (free : l .marks .latch ≡ false) where
+    nexts : (n : ℕ) (c : Change) (b : Block) (s : Seen) {x y : Cause} → NextSpare Leaves n l c b s x y
+    nexts n c b s = record { spare = λ e. rw free; no-spare = λ e. ends c _ _ _ }
+
+    misses : (r : Trial) (s : Seen) {x : Cause} → Missed Leaves l t r s x
+    misses r s = record { dead = λ e. nexts (t .nspares + 1) _ (r .block) s; left = λ e. nexts (t .nspares) change.Keep (r .block) s }
 
   stops : (r : Trial) → Stopped Leaves l r
-  stops r = record { dead = λ e. refl; present = λ e. refl }
+  stops r = record { dead = λ e. ends _ _ _ _; present = λ e. ends _ _ _ _ }
 
   passes : (r : Trial) → Verified Leaves l t r
-  passes r = record { moved = λ e. refl; listed = λ e f. refl; stays = λ e f. refl }
+  passes r = record { moved = λ e. ends _ _ _ _; listed = λ e f. ends _ _ _ _; stays = λ e f. ends _ _ _ _ }
 
   reads-leave : (o : Outcome) (p : Part) → Leaves (reads o l t p)
   unfolding reads
-  reads-leave (outcome.Done r) p = refl
+  reads-leave (outcome.Done r) p = ends _ _ _ p
   reads-leave (outcome.Again r) p = refl
-  reads-leave (outcome.Settle r) p = settled-cases Leaves l r p (record { below = λ e. refl; latched = λ e f. refl; tries = λ e f. refl })
-  reads-leave (outcome.Lost r) p = lost-cases Leaves l t r p (record { listed = λ e. refl; entered = λ e f. refl; full = λ e f. refl })
-  reads-leave (outcome.Stop r) p = refl
+  reads-leave (outcome.Settle r) p = settled-cases Leaves l r p (record { below = λ e. ends _ _ _ p; latched = λ e f. ends _ _ _ p; tries = λ e f. rw f })
+  reads-leave (outcome.Lost r) p = lost-cases Leaves l t r p (record { listed = λ e. ends _ _ _ p; entered = λ e f. ends _ _ _ p; full = λ e f. ends _ _ _ p })
+  reads-leave (outcome.Stop r) p = ends _ _ _ p
 
-  follows-leave : (x : Access) (a : ℕ) (bs : List ℕ) (q : Bool) → Leaves (follows x l t a bs q)
+  -- An access of the present state leads to such a one.
+  follows-leave : (x : Access) (a : ℕ) (bs : List ℕ) (q : Bool) → isFresh (l .marks .latch) x ≡ true → Leaves (follows x l t a bs q)
   unfolding follows storeAnswered
-  follows-leave (access.Start k) a bs q =
+  follows-leave (access.Start k) a bs q h =
       start-cases Leaves k l a bs (record { table = λ e. refl; stops = λ e f. refl; again = λ e f. refl; gives-up = λ e f. refl })
-  follows-leave access.Store a bs q = refl
-  follows-leave (access.Read r) a bs q = reads-leave (afterRead r a) (keptPart r a)
-  follows-leave (access.Write w) a bs q =
-      write-cases Leaves l t w a (record { verifies = λ e f. refl; done = λ e f. refl; stops = λ e f. refl; moves = λ e f. nexts (t .nspares) change.Keep (w .block) _ })
-  follows-leave (access.Verify w) a bs q = verify-cases Leaves l w a q (record { stops = λ e. refl; done = λ e f. refl; fails = λ e f. refl })
-  follows-leave (access.TrialWrite r) a bs q = tried-cases Leaves l t r a (record { done = λ e. refl; stops = λ e. stops r; fails = λ e f. misses r _ })
-  follows-leave (access.TrialRead r) a bs q =
+  follows-leave (access.Store k) a bs q h = refl
+  follows-leave (access.Read r) a bs q h = reads-leave (afterRead r a) (keptPart r a)
+  follows-leave (access.Write w) a bs q h =
+      let free = not-true (l .marks .latch) h in
+      write-cases Leaves l t w a (record { verifies = λ e f. h; done = λ e f. ends _ _ _ _; stops = λ e f. ends _ _ _ _; moves = λ e f. nexts free (t .nspares) change.Keep (w .block) _ })
+  follows-leave (access.Verify w) a bs q h = verify-cases Leaves l w a q (record { stops = λ e. ends _ _ _ _; done = λ e f. ends _ _ _ _; fails = λ e f. rw (not-true (l .marks .latch) h) })
+  follows-leave (access.TrialWrite r) a bs q h =
+      let free = and-left (not (l .marks .latch)) (eqb (r .rereads) 0 && eqb (r .failures) 0) h in
+      tried-cases Leaves l t r a (record { done = λ e. free; stops = λ e. stops r; fails = λ e f. misses (not-true (l .marks .latch) free) r _ })
+  follows-leave (access.TrialRead r) a bs q h =
       checked-cases Leaves l t r a q
       (record {
         stops = λ e. stops r;
-        counts = λ e. record { again = λ f. refl; passes = λ f g. passes (counted r a q); fails = λ f g. misses (counted r a q) _ };
+        counts = λ e. record { again = λ f. h; passes = λ f g. passes (counted r a q); fails = λ f g. misses (not-true (l .marks .latch) h) (counted r a q) _ };
       })
 
   acted-leaves : (o : Order) → Leaves (acted o l t)
   acted-leaves o =
       acted-cases Leaves o l t
       (record {
-        overrun = λ e. refl;
+        overrun = λ e. record { block = λ i. ends _ _ _ _; no-block = λ i. refl };
         no-block = λ e f. refl;
         buffer = λ e f. refl;
         no-table = λ e f. refl;
         table = λ e f. refl;
         health = λ e f. refl;
         read = λ b e. refl;
-        latched = λ b e f. refl;
-        listed = λ b e f g. refl;
-        write = λ b e f g. refl;
+        latched = λ b e f. ends _ _ _ _;
+        listed = λ b e f g. rw f;
+        write = λ b e f g. rw f;
       })
 
   goes-on-leaves : (o : Offer) → Leaves (goesOn o l t)
@@ -124,11 +132,11 @@ module _ (l : State) (t : Table) where
   goes-on-leaves offer.Verify = refl
   goes-on-leaves offer.Act = acted-leaves _
 
-  -- A refusal leaves the phase.
-  module _ (h : fresh (l .phase) ≡ true) where
+  -- A refusal leaves the state.
+  module _ (h : fresh l ≡ true) where
     raised-leaves : (p : Phase) → Leaves (raised p l)
     unfolding raised
-    raised-leaves phase.Idle = raised-idle-cases Leaves l (record { stores = λ e. refl; offers = λ e. refl })
+    raised-leaves phase.Idle = refl
     raised-leaves (phase.Offered o) = h
     raised-leaves phase.Command = refl
     raised-leaves phase.Data = refl
@@ -158,36 +166,36 @@ module _ (l : State) (t : Table) where
     rested-leaves phase.Data = refl
     rested-leaves (phase.Awaiting x) = h
 
-    answered-leaves : (p : Phase) (a : ℕ) (bs : List ℕ) (q : Bool) → Leaves (answered p l t a bs q)
+    answered-leaves : (p : Phase) (a : ℕ) (bs : List ℕ) (q : Bool) → ofPhase true (isFresh (l .marks .latch)) p ≡ true → Leaves (answered p l t a bs q)
     unfolding answered
-    answered-leaves phase.Idle a bs q = h
-    answered-leaves (phase.Offered o) a bs q = h
-    answered-leaves phase.Command a bs q = h
-    answered-leaves phase.Data a bs q = h
-    answered-leaves (phase.Awaiting x) a bs q =
-        fitting-cases Leaves (asksRead x) l a (length bs) (follows x l t a bs q) (record { answer = λ e. h; bytes = λ e f. h; fits = λ e f. follows-leave x a bs q })
+    answered-leaves phase.Idle a bs q e = h
+    answered-leaves (phase.Offered o) a bs q e = h
+    answered-leaves phase.Command a bs q e = h
+    answered-leaves phase.Data a bs q e = h
+    answered-leaves (phase.Awaiting x) a bs q e =
+        fitting-cases Leaves (asksRead x) l a (length bs) (follows x l t a bs q) (record { answer = λ z. h; bytes = λ z f. h; fits = λ z f. follows-leave x a bs q e })
 
 -- EACH CALL keeps it.
-module _ (d : Drive) (u : List ℕ) (h : fresh (d .state .phase) ≡ true) where
-  called-leaves : (bs : List ℕ) (x : Turn) → Leaves x → fresh (called d u bs x .step .drive .state .phase) ≡ true
+module _ (d : Drive) (u : List ℕ) (h : fresh (d .state) ≡ true) where
+  called-leaves : (bs : List ℕ) (x : Turn) → Leaves x → fresh (called d u bs x .step .drive .state) ≡ true
   called-leaves bs x k = guarded-cases Leaves (recordOk d) (length u) (d .state) x (record { damaged = λ e. h; length = λ e f. h; passes = λ e f. k })
 
-  pub trials-begin : (c : Call) → fresh (stepOf c d u .step .drive .state .phase) ≡ true
+  pub trials-begin : (c : Call) → fresh (stepOf c d u .step .drive .state) ≡ true
   unfolding stepOf raiseOf lowerOf feedOf surfaceOf resetOf
   trials-begin raise = called-leaves [] (raised (d .state .phase) (d .state)) (raised-leaves (d .state) (d .table) h (d .state .phase))
   trials-begin (lower b) = called-leaves [] (lowered (d .state .phase) (d .state) (d .table) b) (lowered-leaves (d .state) (d .table) h (d .state .phase) b)
   trials-begin (feed bs) = called-leaves bs (fedTo (d .state .phase) (d .state) bs) (fed-leaves (d .state) (d .table) h (d .state .phase) bs)
   trials-begin (surface a bs) =
       let q = verifies (d .state .phase) a && same bs (dataOf u) in
-      called-leaves bs (answered (d .state .phase) (d .state) (d .table) a bs q) (answered-leaves (d .state) (d .table) h (d .state .phase) a bs q)
+      called-leaves bs (answered (d .state .phase) (d .state) (d .table) a bs q) (answered-leaves (d .state) (d .table) h (d .state .phase) a bs q h)
   trials-begin reset = called-leaves [] (rested (d .state .phase) (d .state)) (rested-leaves (d .state) (d .table) h (d .state .phase))
 
 -- Says so after each call of a list.
 abbrev pub AllFresh : Drive → List ℕ → List Call → Type 0
-AllFresh d u [] = fresh (d .state .phase) ≡ true
-AllFresh d u (c ∷ cs) = (fresh (d .state .phase) ≡ true) × AllFresh (stepOf c d u .step .drive) (stepOf c d u .bytes) cs
+AllFresh d u [] = fresh (d .state) ≡ true
+AllFresh d u (c ∷ cs) = (fresh (d .state) ≡ true) × AllFresh (stepOf c d u .step .drive) (stepOf c d u .bytes) cs
 
-all-fresh : (d : Drive) (u : List ℕ) (cs : List Call) → fresh (d .state .phase) ≡ true → AllFresh d u cs
+all-fresh : (d : Drive) (u : List ℕ) (cs : List Call) → fresh (d .state) ≡ true → AllFresh d u cs
 all-fresh d u [] h = h
 all-fresh d u (c ∷ cs) h = (h, all-fresh (stepOf c d u .step .drive) (stepOf c d u .bytes) cs (trials-begin d u h c))
 
@@ -206,12 +214,20 @@ rereads-next : (d : Drive) (u : List ℕ) (r : Trial) → recordOk d ≡ true �
 unfolding surfaceOf answered fitting follows tried
 rereads-next d u r v h e = rw (v, eq-eqb (length u) 536 h, e)
 
+rereads-free : (d : Drive) (u : List ℕ) (r : Trial) → recordOk d ≡ true → length u ≡ 536 → d .state .phase ≡ phase.Awaiting (access.TrialWrite r)
+    → replied d u done .step .drive .state .marks .latch ≡ d .state .marks .latch
+unfolding surfaceOf answered fitting follows tried
+rereads-free d u r v h e = rw (v, eq-eqb (length u) 536 h, e)
+
 pub first-reread : (d : Drive) (u : List ℕ) (r : Trial) → recordOk d ≡ true → length u ≡ 536 → d .state .phase ≡ phase.Awaiting (access.TrialWrite r)
-    → fresh (d .state .phase) ≡ true → AwaitsReread (replied d u done .step .drive) r
+    → fresh (d .state) ≡ true → AwaitsReread (replied d u done .step .drive) r
 first-reread d u r v h e f =
-    let both = subst (λ (p : Phase). fresh p ≡ true) e f in
+    let all = subst (λ (p : Phase). ofPhase true (isFresh (d .state .marks .latch)) p ≡ true) e f in
+    let free = and-left (not (d .state .marks .latch)) (eqb (r .rereads) 0 && eqb (r .failures) 0) all in
+    let both = and-right (not (d .state .marks .latch)) (eqb (r .rereads) 0 && eqb (r .failures) 0) all in
     record {
       phase = rereads-next d u r v h e;
+      free = rereads-free d u r v h e ∙ not-true (d .state .marks .latch) free;
       none = eqb-true (r .rereads) 0 (and-left (eqb (r .rereads) 0) (eqb (r .failures) 0) both);
       clean = eqb-true (r .failures) 0 (and-right (eqb (r .rereads) 0) (eqb (r .failures) 0) both);
     }

@@ -1,4 +1,4 @@
--- DEMAND 1's bound: what a command may still cost falls with each access, and is at most 3,679.
+-- DEMAND 1's bound: what a command may still cost falls with each access, and is at most 3,680.
 use mathlib.Core.Path.{_≡_, refl, sym, subst, subst₂, ap}
 use mathlib.Core.Bool.{Bool, true, false, cond, not, _&&_, _||_}
 use mathlib.Core.List.{List, [], _∷_}
@@ -16,6 +16,7 @@ use Rattle.drive.specs.declared.Access.the-variants as access
 use Rattle.drive.specs.declared.Change.{Change}
 use Rattle.drive.specs.declared.Change.the-variants as change
 use Rattle.drive.specs.declared.Drive.{Drive}
+use Rattle.drive.specs.declared.Ending.{Ending}
 use Rattle.drive.specs.declared.Outcome.{Outcome}
 use Rattle.drive.specs.declared.Part.{Part}
 use Rattle.drive.specs.declared.Phase.{Phase}
@@ -26,14 +27,14 @@ use Rattle.drive.specs.declared.State.{State}
 use Rattle.drive.specs.declared.Trial.{Trial}
 use Rattle.drive.specs.declared.Turn.{Turn}
 use Rattle.drive.specs.Records.{retryOk, trialOk, accessOk, phaseOk, stateOk, recordOk}
-use Rattle.drive.specs.Results.{Out, changed}
+use Rattle.drive.specs.Results.{Out, changed, finish}
 use Rattle.drive.specs.Retries.{passed, failed, afterRead}
 use Rattle.drive.specs.Sparing.{tried, counted, checked}
-use Rattle.drive.specs.Access.{reads, follows}
+use Rattle.drive.specs.Access.{storeAnswered, reads, follows}
 use Rattle.drive.specs.Calls.{Call, surfaceOf, stepOf}
 use Rattle.drive.specs.Bound.{ofCommand, isCommand, accesses, most, Demand1Bound}
 use Rattle.drive.specs.Views.{ofAnswer}
-use Rattle.records.proofs.Ladders.{NextSpare, Missed, Stopped, tried-cases, checked-cases, lost-cases, settled-cases, GoesOnReading, after-read-cases, write-cases, verify-cases}
+use Rattle.records.proofs.Ladders.{finish-cases, NextSpare, Missed, Stopped, tried-cases, checked-cases, lost-cases, settled-cases, GoesOnReading, after-read-cases, write-cases, verify-cases}
 use Rattle.records.proofs.Passed.{passed as parts}
 use Rattle.demands.proofs.Awaited.{ofPhase, accepted, by-surface}
 use Rattle.demands.proofs.Busy.{killed-count}
@@ -87,28 +88,32 @@ sparesLeft n = 101 * (32 - n)
 abbrev triesLeft : ℕ → Trial → ℕ
 triesLeft n r = sparesLeft (cond (r .spare) (n + 1) n)
 
--- Returns how many accesses a command may still ask for, the awaited one included, with n spares listed.
+-- Returns how many accesses a command may still ask for, the awaited one and the store included, with n spares listed.
 abbrev owed : ℕ → Access → ℕ
 owed n (access.Start k) = 0
-owed n access.Store = 0
-owed n (access.Read r) = readsLeft r + 101 + sparesLeft n
-owed n (access.Write w) = 2 + 101 + sparesLeft n
-owed n (access.Verify w) = 1 + 101 + sparesLeft n
-owed n (access.TrialWrite r) = 101 + triesLeft n r
-owed n (access.TrialRead r) = rereadsLeft r + triesLeft n r
+owed n (access.Store k) = 1
+owed n (access.Read r) = readsLeft r + 101 + sparesLeft n + 1
+owed n (access.Write w) = 2 + 101 + sparesLeft n + 1
+owed n (access.Verify w) = 1 + 101 + sparesLeft n + 1
+owed n (access.TrialWrite r) = 101 + triesLeft n r + 1
+owed n (access.TrialRead r) = rereadsLeft r + triesLeft n r + 1
 
 abbrev cost : ℕ → Phase → ℕ
 cost n p = ofPhase 0 (owed n) p
 
 -- EACH RUNG lowers it: what the command may still cost is less than the k before.
-module _ (t : Table) (l : State) (bs : List ℕ) (k : ℕ) (pos : 0 < k) where
+module _ (t : Table) (l : State) (bs : List ℕ) (k : ℕ) (pos : 1 < k) where
   abbrev Falls : Turn → Type 0
   Falls x = cost (changed (x .change) t bs .nspares) (x .state .phase) < k
 
-  nexts : (n : ℕ) (c : Change) (b : Block) (s : Seen) → changed c t bs .nspares ≡ n → sparesLeft n < k → {x y : Cause} → NextSpare Falls n l c b s x y
-  nexts n c b s e h = record { spare = λ q. let p = ltb-true n 32 q in omega (arith, p, e, h); no-spare = λ q. pos }
+  -- A command that ends asks for its store at most.
+  ends : (c : Change) (e : Ending) (s : Seen) (p : Part) → Falls (finish l c e s p)
+  ends c e s p = finish-cases Falls l c e s p (record { asks = λ q. pos; reports = λ q. omega (arith, pos) })
 
-  module _ (r : Trial) (room : r .spare ≡ true → t .nspares < 32) (low : triesLeft (t .nspares) r < k) where
+  nexts : (n : ℕ) (c : Change) (b : Block) (s : Seen) → changed c t bs .nspares ≡ n → sparesLeft n + 1 < k → {x y : Cause} → NextSpare Falls n l c b s x y
+  nexts n c b s e h = record { spare = λ q. let p = ltb-true n 32 q in omega (arith, p, e, h); no-spare = λ q. ends c _ _ _ }
+
+  module _ (r : Trial) (room : r .spare ≡ true → t .nspares < 32) (low : triesLeft (t .nspares) r + 1 < k) where
     misses : (s : Seen) {x : Cause} → Missed Falls l t r s x
     misses s =
         record {
@@ -117,38 +122,38 @@ module _ (t : Table) (l : State) (bs : List ℕ) (k : ℕ) (pos : 0 < k) where
         }
 
     stops : Stopped Falls l r
-    stops = record { dead = λ e. pos; present = λ e. pos }
+    stops = record { dead = λ e. ends _ _ _ _; present = λ e. ends _ _ _ _ }
 
   module _ (r : Trial) (w : TrialFacts (t .nspares) r) where
     room : r .spare ≡ true → t .nspares < 32
     room = on-spare (t .nspares) r w
 
     -- A trial's write leaves its rereads, and a reread fewer of them, or either ends the trial.
-    tries : 101 + triesLeft (t .nspares) r ≤ k → (a : ℕ) → Falls (tried l t r a)
+    tries : 101 + triesLeft (t .nspares) r + 1 ≤ k → (a : ℕ) → Falls (tried l t r a)
     tries top a =
-        let low : triesLeft (t .nspares) r < k = omega (arith, top) in
+        let low : triesLeft (t .nspares) r + 1 < k = omega (arith, top) in
         tried-cases Falls l t r a (record { done = λ e. omega (arith, top); stops = λ e. stops r room low; fails = λ e f. misses r room low _ })
 
-    checks : rereadsLeft r + triesLeft (t .nspares) r ≤ k → (a : ℕ) (equal : Bool) → Falls (checked l t r a equal)
+    checks : rereadsLeft r + triesLeft (t .nspares) r + 1 ≤ k → (a : ℕ) (equal : Bool) → Falls (checked l t r a equal)
     checks top a equal =
         let x : Trial = counted r a equal in
-        let low : triesLeft (t .nspares) r < k = omega (arith, top) in
+        let low : triesLeft (t .nspares) r + 1 < k = omega (arith, top) in
         checked-cases Falls l t r a equal
         (record {
           stops = λ e. stops r room low;
           counts = λ e. record {
             again = λ f. omega (arith, top, ltb-true (x .rereads) 100 f);
-            passes = λ f g. record { moved = λ i. pos; listed = λ i j. pos; stays = λ i j. pos };
+            passes = λ f g. record { moved = λ i. ends _ _ _ _; listed = λ i j. ends _ _ _ _; stays = λ i j. ends _ _ _ _ };
             fails = λ f g. misses x room low _;
           };
         })
 
   -- A read leaves fewer reads, or begins the trial of its sector in place of them.
-  module _ (p : Part) (r : Retry) (w : RetryFacts r) (top : readsLeft r + 101 + sparesLeft (t .nspares) ≤ k) where
+  module _ (p : Part) (r : Retry) (w : RetryFacts r) (top : readsLeft r + 101 + sparesLeft (t .nspares) + 1 ≤ k) where
     abbrev Fo : Outcome → Type 0
     Fo x = Falls (reads x l t p)
 
-    begins : 101 + sparesLeft (t .nspares) < k
+    begins : 101 + sparesLeft (t .nspares) + 1 < k
     begins = omega (arith, top, some-left (r .first) (r .left) (r .spent) (w .spent))
 
     goes-on : (x : Retry) → (ltb 0 (x .left) ≡ true → readsLeft x < readsLeft r) → (x .good ≡ false → readsLeft x < readsLeft r) → GoesOnReading Fo x
@@ -156,9 +161,9 @@ module _ (t : Table) (l : State) (bs : List ℕ) (k : ℕ) (pos : 0 < k) where
     goes-on x f g =
         record {
           reread = λ e. let z = f e in omega (arith, z, top);
-          settles = λ e i. settled-cases Falls l x p (record { below = λ b. pos; latched = λ b c. pos; tries = λ b c. begins });
+          settles = λ e i. settled-cases Falls l x p (record { below = λ b. ends _ _ _ p; latched = λ b c. ends _ _ _ p; tries = λ b c. begins });
           further = λ e i j. let z = g i in omega (arith, z, top);
-          loses = λ e i j. lost-cases Falls l t x p (record { listed = λ b. pos; entered = λ b c. pos; full = λ b c. pos });
+          loses = λ e i j. lost-cases Falls l t x p (record { listed = λ b. ends _ _ _ p; entered = λ b c. ends _ _ _ p; full = λ b c. ends _ _ _ p });
         }
 
     reads-on : (a : ℕ) → Fo (afterRead r a)
@@ -166,9 +171,9 @@ module _ (t : Table) (l : State) (bs : List ℕ) (k : ℕ) (pos : 0 < k) where
     reads-on a =
         after-read-cases Fo r a
         (record {
-          done = λ e f. pos;
+          done = λ e f. ends _ _ _ p;
           passes = λ e f. goes-on (passed r) (λ q. rw f (pass-falls (r .left) (r .spent) q)) (λ g. clash refl g);
-          stops = λ e f. pos;
+          stops = λ e f. ends _ _ _ p;
           fails = λ e f. let z = fail-falls (r .first) (r .left) (r .spent) (cond (eqb a 1) 1 9) (w .spent) (costs (eqb a 1)) in goes-on (failed r a) (λ q. z) (λ g. z);
         })
       where
@@ -180,15 +185,15 @@ module _ (t : Table) (l : State) (bs : List ℕ) (k : ℕ) (pos : 0 < k) where
 module _ (t : Table) (l : State) (a : ℕ) (bs : List ℕ) (known : Bool) where
   lowered : (x : Access) → ofCommand x ≡ true → accessOk (t .nspares) known x ≡ true → (equal : Bool)
       → cost (changed (follows x l t a bs equal .change) t bs .nspares) (follows x l t a bs equal .state .phase) < owed (t .nspares) x
-  unfolding follows
+  unfolding follows storeAnswered
   lowered (access.Start k) c h equal = clash c refl
-  lowered access.Store c h equal = clash c refl
+  lowered (access.Store k) c h equal = omega arith
   lowered (access.Read r) c h equal = reads-on t l bs _ (omega arith) _ r (retry-facts r (and-right known (retryOk r) h)) (omega arith) a
   lowered (access.Write w) c h equal =
       write-cases (Falls t l bs (owed (t .nspares) (access.Write w)) (omega arith)) l t w a
-      (record { verifies = λ e f. omega arith; done = λ e f. omega arith; stops = λ e f. omega arith; moves = λ e f. nexts t l bs _ (omega arith) (t .nspares) change.Keep (w .block) _ refl (omega arith) })
+      (record { verifies = λ e f. omega arith; done = λ e f. ends t l bs _ (omega arith) _ _ _ _; stops = λ e f. ends t l bs _ (omega arith) _ _ _ _; moves = λ e f. nexts t l bs _ (omega arith) (t .nspares) change.Keep (w .block) _ refl (omega arith) })
   lowered (access.Verify w) c h equal =
-      verify-cases (Falls t l bs (owed (t .nspares) (access.Verify w)) (omega arith)) l w a equal (record { stops = λ e. omega arith; done = λ e f. omega arith; fails = λ e f. omega arith })
+      verify-cases (Falls t l bs (owed (t .nspares) (access.Verify w)) (omega arith)) l w a equal (record { stops = λ e. ends t l bs _ (omega arith) _ _ _ _; done = λ e f. ends t l bs _ (omega arith) _ _ _ _; fails = λ e f. omega arith })
   lowered (access.TrialWrite r) c h equal = tries t l bs _ (omega arith) r (trial-facts (t .nspares) r (and-right known (trialOk (t .nspares) r) h)) (omega arith) a
   lowered (access.TrialRead r) c h equal = checks t l bs _ (omega arith) r (trial-facts (t .nspares) r (and-right known (trialOk (t .nspares) r) h)) (omega arith) a equal
 
@@ -230,10 +235,10 @@ within (c ∷ cs) d u =
     go true e false r ih = omega (arith, lowers d u e c r, ih)
     go false e q r ih = omega arith
 
--- AND IT IS AT MOST 3,679.
+-- AND IT IS AT MOST 3,680.
 at-most : (n : ℕ) (known : Bool) (x : Access) → accessOk n known x ≡ true → owed n x ≤ most
 at-most n known (access.Start k) h = omega arith
-at-most n known access.Store h = omega arith
+at-most n known (access.Store k) h = omega arith
 at-most n known (access.Read r) h =
     let w = retry-facts r (and-right known (retryOk r) h) in
     omega (arith, w .sum, few (r .first) (ltb 0 (r .left)))

@@ -1,9 +1,10 @@
 -- A WRITE REPORTED GOOD WAS MADE: while a verify or a reread is awaited its write has gone to its sector, and each reread of a
--- trial but its failures brought the command's bytes; a plain write is good by its one write's answer.
+-- trial but its failures brought the command's bytes; a plain write is good by its one write's answer; while the store of a command
+-- that ended well is awaited, its write has gone where its block will be.
 use mathlib.Core.Path.{_≡_, refl, sym, ap, _∙_}
-use mathlib.Core.Bool.{Bool, true, false, cond, not, _&&_}
+use mathlib.Core.Bool.{Bool, true, false, cond, not, _&&_, _||_}
 use mathlib.Core.List.{List, [], _∷_}
-use Prim.Native.Nat.{ℕ, suc, _+_}
+use Prim.Native.Nat.{ℕ, suc, _+_, _≤_}
 use native.Mathlib.Omega.{arith}
 use lib.Dec.{eqb}
 use lib.ListN.{length, getD}
@@ -11,7 +12,7 @@ use borrow.Author.Tests.{eq-eqb, eqb-true, ltb-false, leb-true, not-true}
 use Rattle.geometry.specs.Geometry.{isBlock}
 use Rattle.geometry.specs.declared.Block.{Block}
 use Rattle.geometry.specs.declared.Sector.{Sector}
-use Rattle.logic.proofs.Bools.{clash, and-left, and-right, and-true, and-false}
+use Rattle.logic.proofs.Bools.{branch, clash, and-left, and-right, and-true, and-false}
 use Rattle.table.specs.declared.Table.{Table}
 use Rattle.table.specs.Tables.{spareList}
 use Rattle.table.proofs.Placing.{not-table}
@@ -22,6 +23,9 @@ use Rattle.drive.specs.declared.Access.the-variants as access
 use Rattle.drive.specs.declared.Answer.{Answer}
 use Rattle.drive.specs.declared.Answer.the-variants as answer
 use Rattle.drive.specs.declared.Change.{Change}
+use Rattle.drive.specs.declared.Close.{Close}
+use Rattle.drive.specs.declared.Drive.{Drive}
+use Rattle.drive.specs.declared.Marks.{Marks}
 use Rattle.drive.specs.declared.Change.the-variants as change
 use Rattle.drive.specs.declared.Ending.{Ending}
 use Rattle.drive.specs.declared.Ending.the-variants as ending
@@ -40,27 +44,30 @@ use Rattle.drive.specs.declared.State.{State}
 use Rattle.drive.specs.declared.Target.{Target}
 use Rattle.drive.specs.declared.Trial.{Trial}
 use Rattle.drive.specs.declared.Turn.{Turn}
-use Rattle.drive.specs.Words.{dataOf, kindOf, numberOf, blockOf, isRead, orderOf}
+use Rattle.drive.specs.Words.{dataOf, kindOf, numberOf, blockOf, isRead, orderOf, fails}
 use Rattle.drive.specs.Records.{recordOk}
-use Rattle.drive.specs.Results.{outOf, partLeft, statusLeft, inPhase, refuse, say, finish, clean, guarded}
+use Rattle.drive.specs.Results.{Out, outOf, partLeft, statusLeft, inPhase, refuse, say, ended as at-end, report as tells, asksStore, wantsStore, finish, clean, guarded}
 use Rattle.drive.specs.Handshake.{raised, acted, goesOn, brokenOff, lowered, fedTo, rested}
-use Rattle.drive.specs.Retries.{afterRead}
+use Rattle.drive.specs.Retries.{met, afterRead}
 use Rattle.drive.specs.Sparing.{tried, counted, hasReread, isSound, checked}
-use Rattle.drive.specs.Access.{asksRead, verifies, startAnswered, storeAnswered, reads, writeAnswered, verifyAnswered, follows, answered}
+use Rattle.drive.specs.Access.{asksRead, verifies, startAnswered, isUndone, storeMarks, storeAnswered, reads, writeAnswered, verifyAnswered, follows, answered}
 use Rattle.drive.specs.Calls.{Call, raise, lower, feed, surface, reset, raiseOf, lowerOf, feedOf, surfaceOf, resetOf, stepOf, startOf}
-use Rattle.drive.specs.History.{Sectors, Entry, History, isTableSector, padded, acts, underway, reports, bit, good, moves, heard, next, order}
-use Rattle.drive.specs.Run.{Event, World, made, entryOf, Lawful, entries}
+use Rattle.drive.specs.History.{Sectors, Entry, History, blank, isTableSector, padded, acts, underway, reports, bit, good, moves, heard, next, begun, order}
+use Rattle.drive.specs.Run.{Moment, call, power, World, made, after, Lawful, lines, begins}
+use Rattle.drive.specs.Surface.{Fate}
 use Rattle.drive.specs.Made.{sameSector, Wrote, unwritten, wroteNext, goodWrite, IsMade, Made, WritesMade}
 use Rattle.drive.specs.Views.{Bytes, Where, at, ofCall, ofAnswer}
-use Rattle.records.proofs.Ladders.{guarded-cases, fitting-cases, raised-idle-cases, lowered-cases, tried-cases, checked-cases, start-cases, lost-cases, settled-cases, write-cases, verify-cases}
+use Rattle.records.proofs.Ladders.{finish-cases, guarded-cases, fitting-cases, lowered-cases, tried-cases, checked-cases, start-cases, lost-cases, settled-cases, write-cases, verify-cases}
 use Rattle.demands.proofs.Awaited.{ofPhase}
-use Rattle.demands.proofs.Statuses.{moves-is, data-ended}
-use Rattle.demands.proofs.Sim.{Hs, Blocky, Shake, storing, resting, offer1, heads, offer2, offer3, offer4, takes, offer6, Work, rereads, writing, verifying, trying, checking, Sim, at-start, at-rest, at-work, ev}
+use Rattle.demands.proofs.Statuses.{isMove, good-is, moves-is, data-ended}
+use Rattle.demands.proofs.Sim.{Hs, Blocky, Shake, resting, offer1, heads, offer2, offer3, offer4, takes, offer6, Work, rereads, writing, verifying, trying, checking, Sim, at-start, at-rest, at-work, at-store, entryOf, ev}
 use Rattle.demands.proofs.Books.{same-block}
-use Rattle.demands.proofs.Entries.{no-learn, place-kept, place-moved}
+use Rattle.demands.proofs.Entries.{no-learn, place-kept, place-moved, places-kept}
 use Rattle.demands.proofs.Rest.{ruled, loads}
-use Rattle.demands.proofs.Demand3.{off-table, not-at-table, step}
-use Rattle.demands.proofs.ShutOut.{unread, Bad, acts-first, Fails, ended as ends, nexts, misses, stops}
+use Rattle.demands.proofs.Steps.{off-table, not-at-table, step}
+use Rattle.demands.proofs.Restart.{began}
+use Rattle.demands.proofs.Demand3.{sim-begins}
+use Rattle.demands.proofs.ShutOut.{endsWell, unread, Bad, acts-first, Fails, ended as ends, nexts, misses, stops}
 
 -- THE INVARIANT
 
@@ -69,10 +76,21 @@ record Confirmed (r : Trial) (wrote : Wrote) : Type 0 where
   there : wrote .went ≡ at (r .sector)
   count : wrote .same + r .failures ≡ r .rereads
 
+-- Returns where a block will be once the finish is told: at the sector of the last read, if it moved.
+abbrev placeThen : Bool → History → Where
+placeThen moved H = cond moved (H .lastRead) (H .place (blockOf (order H)))
+
+-- Says that the write of a command that ended so went where its block will be, and that a move's rereads were equal.
+record Settled (k : Close) (H : History) (wrote : Wrote) : Type 0 where
+  sector : Sector
+  there : wrote .went ≡ at sector
+  place : placeThen (isMove (k .ending)) H ≡ at sector
+  reread : isMove (k .ending) ≡ true → 70 ≤ wrote .same
+
 -- Says so of what is awaited. A trial's write comes before its first reread. A read's trial is of no command's bytes.
 abbrev ReadyAccess : Access → History → Wrote → Type 0
 ReadyAccess (access.Start k) H wrote = Unit {0}
-ReadyAccess access.Store H wrote = Unit {0}
+ReadyAccess (access.Store k) H wrote = fails (k .ending) ≡ false → isRead (order H .kind) ≡ false → Settled k H wrote
 ReadyAccess (access.Read r) H wrote = Unit {0}
 ReadyAccess (access.Write x) H wrote = Unit {0}
 ReadyAccess (access.Verify x) H wrote = wrote .went ≡ at (x .sector)
@@ -89,7 +107,7 @@ still-ready (phase.Offered o) H wrote e = tt
 still-ready phase.Command H wrote e = tt
 still-ready phase.Data H wrote e = tt
 still-ready (phase.Awaiting (access.Start k)) H wrote e = tt
-still-ready (phase.Awaiting access.Store) H wrote e = tt
+still-ready (phase.Awaiting (access.Store k)) H wrote e = λ f i. clash e f
 still-ready (phase.Awaiting (access.Read r)) H wrote e = tt
 still-ready (phase.Awaiting (access.Write x)) H wrote e = tt
 still-ready (phase.Awaiting (access.Verify x)) H wrote e = clash e refl
@@ -134,7 +152,7 @@ record Checking (r : Trial) (u : Bytes) (H : History) : Type 0 where
 
 abbrev KnownAccess : Access → Bytes → History → Type 0
 KnownAccess (access.Start k) u H = Unit {0}
-KnownAccess access.Store u H = Unit {0}
+KnownAccess (access.Store k) u H = H .last ≡ answer.Store
 KnownAccess (access.Read r) u H = isRead (order H .kind) ≡ true
 KnownAccess (access.Write x) u H = Writing x u H
 KnownAccess (access.Verify x) u H = Verifying x H
@@ -148,10 +166,9 @@ Known phase.Command c u H = Unit {0}
 Known phase.Data c u H = Unit {0}
 Known (phase.Awaiting x) c u H = KnownAccess x u H
 
-module _ (pl : Block → Where) (ca : Block → List Bytes) (wr : Bool) (lr : Where) where
-  shake-known : (to : Bool) {u : Bytes} {p : Phase} {c : Bytes} {n f : ℕ} {a : Answer} {h fd : Bytes} → Shake u p c n f a h fd → Known p c u (Hs pl ca a h fd false to wr lr)
-  shake-known to storing = tt
-  shake-known to resting = tt
+module _ (pl : Block → Where) (ca : Block → List Bytes) (wr : Bool) (lr : Where) (ln fn : Bool) where
+  shake-known : (to : Bool) {u : Bytes} {p : Phase} {c : Bytes} {n f : ℕ} {a : Answer} {h fd : Bytes} → Shake u p c n f a h fd → Known p c u (Hs pl ca a h fd false to wr lr ln fn)
+  shake-known to (resting e g) = tt
   shake-known to offer1 = record { resting = refl; number = tt }
   shake-known to (heads k) = tt
   shake-known to (offer2 k o) = record { resting = refl; number = k .number }
@@ -160,8 +177,8 @@ module _ (pl : Block → Where) (ca : Block → List Bytes) (wr : Bool) (lr : Wh
   shake-known to (takes k o d) = tt
   shake-known to (offer6 k o d) = record { resting = refl; number = k .number }
 
-  work-known : (h fd : Bytes) {t : Table} {σ : Sectors} {b : Block} {rd : Bool} {u : Bytes} {x : Access} {a : Answer} → Blocky b → numberOf h ≡ b .0 → isRead (kindOf h) ≡ rd
-      → Work t σ pl ca b rd u (padded fd) x a wr lr → KnownAccess x u (Hs pl ca a h fd true true wr lr)
+  work-known : (h fd : Bytes) {t : Table} {σ : Sectors} {mv : Bool} {b : Block} {rd : Bool} {u : Bytes} {x : Access} {a : Answer} → Blocky b → numberOf h ≡ b .0 → isRead (kindOf h) ≡ rd
+      → Work t σ pl ca mv b rd u (padded fd) x a wr lr → KnownAccess x u (Hs pl ca a h fd true true wr lr ln fn)
   work-known h fd i num isr (rereads eb er es op g k) = isr ∙ op
   work-known h fd {b = b} i num isr (writing wt eb er es op ed k) =
       record { asked = ap answer.Write (sym er); place = ap pl (same-block (blockOf (orderOf h)) b num) ∙ (k .where-is b i ∙ ap at (sym (er ∙ es))); bytes = ed }
@@ -182,9 +199,10 @@ module _ (pl : Block → Where) (ca : Block → List Bytes) (wr : Bool) (lr : Wh
       }
 
 sim-known : {start : Sectors} {w : World} {H : History} → Sim start w H → Known (w .drive .state .phase) (w .drive .state .command) (w .buffer) H
-sim-known (at-start l k h) = tt
-sim-known (at-rest {pl = pl} {ca = ca} {to = to} {wr = wr} {lr = lr} l g m) = shake-known pl ca wr lr to m
-sim-known (at-work {pl = pl} {ca = ca} {h = h} {fd = fd} {wr = wr} {lr = lr} l k i num isr m) = work-known pl ca wr lr h fd i num isr m
+sim-known (at-start l k e h) = tt
+sim-known (at-rest {pl = pl} {ca = ca} {to = to} {wr = wr} {lr = lr} {ln = ln} {fn = fn} l so g m) = shake-known pl ca wr lr ln fn to m
+sim-known (at-work {pl = pl} {ca = ca} {h = h} {fd = fd} {wr = wr} {lr = lr} {ln = ln} {fn = fn} l k so el ef i num isr m) = work-known pl ca wr lr ln fn h fd i num isr m
+sim-known (at-store l k so el ef i num isr ok pa cl) = refl
 
 -- WHAT A REPORT OF A GOOD WRITE SAYS
 record Report (H : History) (o : Entry) : Type 0 where
@@ -238,21 +256,25 @@ module _ (start : Sectors) (H : History) (wrote : Wrote) (c : Call) (sp : Bool) 
   unfinished : (x : Turn) → ofAnswer (x .answer) .finished ≡ false → unread (x .state .phase) ≡ true → P x
   unfinished x f q = record { written = λ h. clash (report H (entry c sp t bs u x) h .finished) f; ready = still-ready (x .state .phase) _ _ q }
 
+  ends-well : (x : Turn) → ofAnswer (x .answer) .finished ≡ true → good (entry c sp t bs u x) ≡ true → endsWell (outOf t [] bs u x) ≡ true
+  unfolding good
+  ends-well x f g = rw f g
+
   unfine : (x : Turn) → (isBlock (order H .number) ≡ true → Bad t [] bs u x) → unread (x .state .phase) ≡ true → P x
   unfolding good
   unfine x f q =
       record {
-        written = λ h. let r = report H (entry c sp t bs u x) h in absurd (f (r .block) (and-true (ofAnswer (x .answer) .finished) (not (bit 1 (getD (outOf t [] bs u x .bytes) 0 0))) (r .finished) (r .good)));
+        written = λ h. let r = report H (entry c sp t bs u x) h in absurd (f (r .block) (ends-well x (r .finished) (r .good)));
         ready = still-ready (x .state .phase) _ _ q;
       }
 
-  of-a-read : (x : Turn) → isRead (order H .kind) ≡ true → unread (x .state .phase) ≡ true → P x
-  of-a-read x e q = record { written = λ h. clash e (report H (entry c sp t bs u x) h .write); ready = still-ready (x .state .phase) _ _ q }
+  of-a-read : (x : Turn) → isRead (order H .kind) ≡ true → Ready (x .state .phase) (next start H (entry c sp t bs u x)) (wroteNext H wrote (entry c sp t bs u x)) → P x
+  of-a-read x e q = record { written = λ h. clash e (report H (entry c sp t bs u x) h .write); ready = q }
 
   module _ (l : State) (k : Ready (l .phase) H wrote) where
     raises : (p : Phase) → P (raised p l)
     unfolding raised
-    raises phase.Idle = raised-idle-cases P l (record { stores = λ e. unfinished _ refl refl; offers = λ e. unfinished _ refl refl })
+    raises phase.Idle = unfinished _ refl refl
     raises (phase.Offered o) = refuses l _ k
     raises phase.Command = unfinished _ refl refl
     raises phase.Data = unfinished _ refl refl
@@ -328,24 +350,23 @@ module _ (start : Sectors) (H : History) (wrote : Wrote) (a : ℕ) (bs : Bytes) 
       start-cases S j l a bs
       (record { table = λ e. goes-on _ refl refl; stops = λ e f. goes-on _ refl refl; again = λ e f. goes-on _ refl refl; gives-up = λ e f. goes-on _ refl refl })
 
-  stores : S (storeAnswered l a)
-  unfolding storeAnswered
-  stores = goes-on _ refl refl
-
   -- A read owes nothing more: it is no write.
   reads-owe : (x : Outcome) (p : Part) → isRead (order H .kind) ≡ true → S (reads x l t p)
-  unfolding reads
-  reads-owe x p e = of-a-read start H wrote (surface a bs) sp t bs u (reads x l t p) e (read-unread x)
+  unfolding reads next heard
+  reads-owe x p e = go x
     where
-      N : Turn → Type 0
-      N y = unread (y .state .phase) ≡ true
+      owes-none : (y : Turn) → Ready (y .state .phase) (next start H (at-entry y)) (next-wrote y) → S y
+      owes-none y q = of-a-read start H wrote (surface a bs) sp t bs u y e q
 
-      read-unread : (x : Outcome) → N (reads x l t p)
-      read-unread (outcome.Done r) = refl
-      read-unread (outcome.Again r) = refl
-      read-unread (outcome.Settle r) = settled-cases N l r p (record { below = λ e. refl; latched = λ e f. refl; tries = λ e f. refl })
-      read-unread (outcome.Lost r) = lost-cases N l t r p (record { listed = λ e. refl; entered = λ e f. refl; full = λ e f. refl })
-      read-unread (outcome.Stop r) = refl
+      ended : (c : Change) (n : Ending) (s : Seen) → S (finish l c n s p)
+      ended c n s = finish-cases S l c n s p (record { asks = λ q. owes-none _ (λ f i. clash e i); reports = λ q. owes-none _ tt })
+
+      go : (x : Outcome) → S (reads x l t p)
+      go (outcome.Done r) = ended _ _ _
+      go (outcome.Again r) = owes-none _ tt
+      go (outcome.Settle r) = settled-cases S l r p (record { below = λ z. ended _ _ _; latched = λ z y. ended _ _ _; tries = λ z y. owes-none _ (refl, refl) })
+      go (outcome.Lost r) = lost-cases S l t r p (record { listed = λ z. ended _ _ _; entered = λ z y. ended _ _ _; full = λ z y. ended _ _ _ })
+      go (outcome.Stop r) = ended _ _ _
 
   -- THE LAST WRITE: answer 0 to a write s of the command's bytes is one,
   landed : (s : Sector) (x : Turn) → ofAnswer (x .answer) .refused ≡ false → eqb a 0 ≡ true → H .last ≡ answer.Write s → dataOf (at-entry x .buffer) ≡ padded (H .fed)
@@ -384,33 +405,104 @@ module _ (start : Sectors) (H : History) (wrote : Wrote) (a : ℕ) (bs : Bytes) 
       either true false = omega arith
       either false q = omega arith
 
-  -- WHERE THE BLOCK IS after the command: where it was, or, if it moved, at the sector of the last read.
-  abbrev ended : Change → Ending → Seen → Turn
-  ended ch e s = finish l ch e s part.Kept
+  -- A store's answer leaves it too.
+  after-store : (x : Turn) → ofAnswer (x .answer) .refused ≡ false → H .last ≡ answer.Store → next-wrote x ≡ wrote
+  unfolding wroteNext acts
+  after-store x f w = rw (f, w) (branch (λ (z : Wrote). z ≡ wrote) (eqb a 0) (λ e. refl) (λ e. refl))
 
-  unmoved : (ch : Change) (s : Seen) → moves (at-entry (ended ch ending.Good s)) ≡ false
+  -- WHERE THE BLOCK IS after a report: where it was, or, if it moved, at the sector of the last read.
+  abbrev told : Marks → Change → Ending → Seen → Bool → Bool → Turn
+  told m ch e s v w = tells l m ch e s v w part.Kept
+
+  moves-told : (m : Marks) (ch : Change) (e : Ending) (s : Seen) (v w : Bool) → moves (at-entry (told m ch e s v w)) ≡ isMove e
   unfolding partLeft statusLeft
-  unmoved ch s = moves-is (surface a bs) answer.Finished ending.Good s (l .marks .fresh) u
+  moves-told m ch e s v w = moves-is (surface a bs) answer.Finished e s v w (m .fresh) u
 
-  here : (ch : Change) (s : Seen) → isTableSector (ofAnswer (H .last) .read) ≡ false → next start H (at-entry (ended ch ending.Good s)) .place (blockOf (order H)) ≡ H .place (blockOf (order H))
+  place-told : (m : Marks) (ch : Change) (e : Ending) (s : Seen) (v w : Bool) → isTableSector (ofAnswer (H .last) .read) ≡ false → reports H (at-entry (told m ch e s v w)) ≡ true
+      → next start H (at-entry (told m ch e s v w)) .place (blockOf (order H)) ≡ placeThen (isMove e) H
   unfolding next heard
-  here ch s n =
-      let o = at-entry (ended ch ending.Good s) in
-      ap (λ (f : Block → Where). f (blockOf (order H))) (place-kept H o (no-learn H o n) (and-false (reports H o) (moves o) (unmoved ch s)))
+  place-told m ch e s v w n r = go (isMove e) refl
+    where
+      o : Entry
+      o = at-entry (told m ch e s v w)
 
-  place-read : (ch : Change) (s : Seen) → isTableSector (ofAnswer (H .last) .read) ≡ false → reports H (at-entry (ended ch ending.Moved s)) ≡ true
-      → next start H (at-entry (ended ch ending.Moved s)) .place (blockOf (order H)) ≡ H .lastRead
+      b : Block
+      b = blockOf (order H)
+
+      go : (q : Bool) → isMove e ≡ q → next start H (at-entry (told m ch e s v w)) .place (blockOf (order H)) ≡ placeThen q H
+      go true q = ap (λ (f : Block → Where). f b) (place-moved H o (no-learn H o n) (and-true (reports H o) (moves o) r (moves-told m ch e s v w ∙ q))) ∙ rw (eq-eqb (b .0) (b .0) refl)
+      go false q = ap (λ (f : Block → Where). f b) (place-kept H o (no-learn H o n) (and-false (reports H o) (moves o) (moves-told m ch e s v w ∙ q)))
+
+  -- Asking for the store leaves it to be there.
+  place-asked : (m : Marks) (ch : Change) (e : Ending) (s : Seen) (q : Bool) → isTableSector (ofAnswer (H .last) .read) ≡ false
+      → placeThen q (next start H (at-entry (asksStore l m ch e s part.Kept))) ≡ placeThen q H
+  unfolding next heard acts reports
+  place-asked m ch e s true n = refl
+  place-asked m ch e s false n =
+      let o = at-entry (asksStore l m ch e s part.Kept) in
+      ap (λ (f : Block → Where). f (blockOf (order H))) (places-kept H o (no-learn H o n) (rw (and-false (underway H o) false refl)))
+
+  -- Says that a command's write is at the sector s, whatever turn is taken that leaves the data part.
+  abbrev Went : Sector → ℕ → Type 0
+  Went s n = (x : Turn) → ofAnswer (x .answer) .refused ≡ false → dataOf (at-entry x .buffer) ≡ dataOf u → isRead (order H .kind) ≡ false → (next-wrote x .went ≡ at s) × (n ≤ next-wrote x .same)
+
+  -- A command that ends well owes that its write went where its block then is: at its finish, or while its store is awaited.
+  settles : (s : Sector) (n : ℕ) (ch : Change) (e : Ending) (x : Seen) → isTableSector (ofAnswer (H .last) .read) ≡ false → placeThen (isMove e) H ≡ at s → (isMove e ≡ true → 70 ≤ n) → Went s n → S (finish l ch e x part.Kept)
   unfolding next heard partLeft statusLeft
-  place-read ch s n r =
-      let o = at-entry (ended ch ending.Moved s) in
-      let b = blockOf (order H) in
-      ap (λ (f : Block → Where). f b) (place-moved H o (no-learn H o n) (and-true (reports H o) (moves o) r (moves-is (surface a bs) answer.Finished ending.Moved s (l .marks .fresh) u)))
-      ∙ rw (eq-eqb (b .0) (b .0) refl)
+  settles s n ch e x off p many w =
+      finish-cases S l ch e x part.Kept
+      (record {
+        asks = λ q. record {
+          written = λ h. clash (report H (at-entry first) h .finished) refl;
+          ready = λ f i. let z = w first refl refl i in record { sector = s; there = z .0; place = place-asked m₁ ch e x (isMove e) off ∙ p; reread = λ m. let y = many m in omega (arith, y, z .1) };
+        };
+        reports = λ q. record {
+          written = λ h.
+              let y = report H (at-entry last) h in
+              let z = w last refl (data-ended (surface a bs) answer.Finished e x (wantsStore m₁) false (m₁ .fresh) u) (y .write) in
+              record { sector = s; written = z .0; place = place-told m₁ ch e x (wantsStore m₁) false off (y .reported) ∙ p; reread = λ m. let y' = many (sym (moves-told m₁ ch e x (wantsStore m₁) false) ∙ m) in omega (arith, y', z .1) };
+          ready = tt;
+        };
+      })
+    where
+      m₁ : Marks
+      m₁ = at-end (l .marks) ch e
 
-  -- A command that ends good on its block's sector owes that its write went there.
-  stays : (s : Sector) (ch : Change) (x : Seen) → isTableSector (ofAnswer (H .last) .read) ≡ false → H .place (blockOf (order H)) ≡ at s
-      → (goodWrite H (at-entry (ended ch ending.Good x)) ≡ true → next-wrote (ended ch ending.Good x) .went ≡ at s) → S (ended ch ending.Good x)
-  stays s ch x off p w = record { written = λ h. record { sector = s; written = w h; place = here ch x off ∙ p; reread = λ m. clash m (unmoved ch x) }; ready = tt }
+      first : Turn
+      first = asksStore l m₁ ch e x part.Kept
+
+      last : Turn
+      last = told m₁ ch e x (wantsStore m₁) false
+
+  -- One whose store is answered owes it as it was.
+  stores : (k : Close) → H .last ≡ answer.Store → (fails (k .ending) ≡ false → isRead (order H .kind) ≡ false → Settled k H wrote) → S (storeAnswered k l a)
+  unfolding storeAnswered partLeft statusLeft
+  stores k w h = record { written = λ g. go (report H (at-entry x) g); ready = tt }
+    where
+      m₁ : Marks
+      m₁ = storeMarks (l .marks) a
+
+      x : Turn
+      x = told m₁ change.Keep (k .ending) (met a (k .seen)) (isUndone a) (eqb a 3)
+
+      sound : good (at-entry x) ≡ true → fails (k .ending) ≡ false
+      sound g = both (fails (k .ending)) (isUndone a) (sym (good-is (surface a bs) answer.Finished (k .ending) (met a (k .seen)) (isUndone a) (eqb a 3) (m₁ .fresh) u) ∙ g)
+        where
+          both : (p q : Bool) → not (p || q) ≡ true → p ≡ false
+          both true q z = clash z refl
+          both false q z = refl
+
+      go : Report H (at-entry x) → IsMade start H wrote (at-entry x)
+      go y =
+          let z = h (sound (y .good)) (y .write) in
+          let e = after-store x refl w in
+          let off = ap (λ (v : Answer). isTableSector (ofAnswer v .read)) w in
+          record {
+            sector = z .sector;
+            written = ap (λ (v : Wrote). v .went) e ∙ z .there;
+            place = place-told m₁ change.Keep (k .ending) (met a (k .seen)) (isUndone a) (eqb a 3) off (y .reported) ∙ z .place;
+            reread = λ m. let n = z .reread (sym (moves-told m₁ change.Keep (k .ending) (met a (k .seen)) (isUndone a) (eqb a 3)) ∙ m) in let c = ap (λ (v : Wrote). v .same) e in omega arith;
+          }
 
   -- A plain write pays by its one write, and a write/verify
   writes : (x : Target) → Writing x u H → S (writeAnswered l t x a)
@@ -419,8 +511,8 @@ module _ (start : Sectors) (H : History) (wrote : Wrote) (a : ℕ) (bs : Bytes) 
       write-cases S l t x a
       (record {
         verifies = λ e f. record { written = λ h. clash (report H (at-entry back) h .finished) refl; ready = ap (λ (w : Wrote). w .went) (landed (x .sector) back refl e (n .asked) (n .bytes)) };
-        done = λ e f. stays (x .sector) change.Keep clean (ap (λ (y : Answer). isTableSector (ofAnswer y .read)) (n .asked)) (n .place)
-            (λ h. ap (λ (w : Wrote). w .went) (landed (x .sector) (ended change.Keep ending.Good clean) refl e (n .asked) (kept ∙ n .bytes)));
+        done = λ e f. settles (x .sector) 0 change.Keep ending.Good clean (ap (λ (y : Answer). isTableSector (ofAnswer y .read)) (n .asked)) (n .place) (λ m. clash m refl)
+            (λ y q d i. (ap (λ (w : Wrote). w .went) (landed (x .sector) y q e (n .asked) (d ∙ n .bytes)), omega arith));
         stops = λ e f. ends t [] bs u S failing l change.Keep _ _ refl;
         moves = λ e f. nexts t [] bs u S failing l _ _ (x .block) _;
       })
@@ -428,16 +520,14 @@ module _ (start : Sectors) (H : History) (wrote : Wrote) (a : ℕ) (bs : Bytes) 
       back : Turn
       back = say (inPhase l (phase.Awaiting (access.Verify x))) (answer.Read (x .sector))
 
-      kept : dataOf (at-entry (ended change.Keep ending.Good clean) .buffer) ≡ dataOf u
-      kept = data-ended (surface a bs) answer.Finished ending.Good clean (l .marks .fresh) u
-
   -- by what its verify leaves where it went;
   verifies-owe : (x : Target) → Verifying x H → wrote .went ≡ at (x .sector) → (q : Bool) → S (verifyAnswered l x a q)
   verifies-owe x n there q =
       verify-cases S l x a q
       (record {
         stops = λ e. ends t [] bs u S failing l change.Keep _ _ refl;
-        done = λ e f. stays (x .sector) change.Keep clean (ap (λ (y : Answer). isTableSector (ofAnswer y .read)) (n .asked) ∙ n .sector) (n .place) (λ h. stays-there (x .sector) (ended change.Keep ending.Good clean) refl (n .asked) ∙ there);
+        done = λ e f. settles (x .sector) 0 change.Keep ending.Good clean (ap (λ (y : Answer). isTableSector (ofAnswer y .read)) (n .asked) ∙ n .sector) (n .place) (λ m. clash m refl)
+            (λ y q d i. (stays-there (x .sector) y q (n .asked) ∙ there, omega arith));
         fails = λ e f. goes-on _ refl refl;
       })
 
@@ -486,26 +576,15 @@ module _ (start : Sectors) (H : History) (wrote : Wrote) (a : ℕ) (bs : Bytes) 
         let x : Turn = say (inPhase l (phase.Awaiting (access.TrialRead r'))) (answer.Read (r .sector)) in
         record { written = λ h. clash (report H (at-entry x) h .finished) refl; ready = λ i. confirmed i x refl }
 
-    in-place : r .spare ≡ false → (ch : Change) → S (ended ch ending.Good (r' .seen))
-    in-place z ch =
-        let x : Turn = ended ch ending.Good (r' .seen) in
-        stays (r .sector) ch (r' .seen) off (n .place z) (λ h. confirmed (report H (at-entry x) h .write) x refl .there)
+    went : (n : ℕ) → n + r' .failures ≤ r' .rereads → Went (r .sector) n
+    went n h y q d i = let c = confirmed i y q in (c .there, omega (arith, h, c .count))
 
-    moved : hasReread r' ≡ false → isSound r' ≡ true → (ch : Change) → S (ended ch ending.Moved (r' .seen))
+    in-place : r .spare ≡ false → (ch : Change) → S (finish l ch ending.Good (r' .seen) part.Kept)
+    in-place z ch = settles (r .sector) 0 ch ending.Good (r' .seen) off (n .place z) (λ m. clash m refl) (λ y q d i. (confirmed i y q .there, omega arith))
+
+    moved : hasReread r' ≡ false → isSound r' ≡ true → (ch : Change) → S (finish l ch ending.Moved (r' .seen) part.Kept)
     moved f g ch =
-        let x : Turn = ended ch ending.Moved (r' .seen) in
-        record {
-          written = λ h.
-              let p = report H (at-entry x) h in
-              let c = confirmed (p .write) x refl in
-              record {
-                sector = r .sector;
-                written = c .there;
-                place = place-read ch (r' .seen) off (p .reported) ∙ n .read;
-                reread = λ m. omega (arith, c .count, ltb-false (r' .rereads) 100 f, leb-true (r' .failures) 30 g);
-              };
-          ready = tt;
-        }
+        settles (r .sector) 70 ch ending.Moved (r' .seen) off (n .read) (λ m. omega arith) (went 70 (omega (arith, ltb-false (r' .rereads) 100 f, leb-true (r' .failures) 30 g)))
 
     checks : S (checked l t r a equal)
     checks =
@@ -522,7 +601,7 @@ module _ (start : Sectors) (H : History) (wrote : Wrote) (a : ℕ) (bs : Bytes) 
   follow : (x : Access) → ReadyAccess x H wrote → KnownAccess x u H → S (follows x l t a bs (verifies (phase.Awaiting x) a && same bs (dataOf u)))
   unfolding follows
   follow (access.Start j) q n = starts j
-  follow access.Store q n = stores
+  follow (access.Store k) q n = stores k n q
   follow (access.Read r) q n = reads-owe (afterRead r a) _ n
   follow (access.Write x) q n = writes x n
   follow (access.Verify x) q n = verifies-owe x n q _
@@ -567,9 +646,9 @@ module _ (start : Sectors) (H : History) (wrote : Wrote) (sp : Bool) (w : World)
       none r = refuses start H wrote c sp t₁ (loads c) u₁ l₁ r k
 
   abbrev o₁ : Call → Entry
-  o₁ c = entryOf (ev c sp) (made w (ev c sp))
+  o₁ c = entryOf (ev c sp) (made w (call (ev c sp)))
 
-  owes : (c : Call) → (goodWrite H (o₁ c) ≡ true → IsMade start H wrote (o₁ c)) × Ready (made w (ev c sp) .step .drive .state .phase) (next start H (o₁ c)) (wroteNext H wrote (o₁ c))
+  owes : (c : Call) → (goodWrite H (o₁ c) ≡ true → IsMade start H wrote (o₁ c)) × Ready (made w (call (ev c sp)) .step .drive .state .phase) (next start H (o₁ c)) (wroteNext H wrote (o₁ c))
   unfolding stepOf raiseOf lowerOf feedOf surfaceOf resetOf
   owes raise = (guards raise .written, guards raise .ready)
   owes (lower b) = (guards (lower b) .written, guards (lower b) .ready)
@@ -577,13 +656,23 @@ module _ (start : Sectors) (H : History) (wrote : Wrote) (sp : Bool) (w : World)
   owes (surface a bs) = (guards (surface a bs) .written, guards (surface a bs) .ready)
   owes reset = (guards reset .written, guards reset .ready)
 
+-- A START owes nothing: it awaits its own read, or is refused.
+restarted : (w : World) (H : History) (wrote : Wrote) → Ready (w .drive .state .phase) H wrote → (d : Drive) (v : Bytes) (x : Fate) → Ready (after w (power d v x) (startOf d v) .drive .state .phase) (begun H (startOf d v .step .answer)) wrote
+unfolding startOf begun
+restarted w H wrote k d v x =
+    branch (λ (y : Out). Ready (after w (power d v x) y .drive .state .phase) (begun H (y .step .answer)) wrote) (eqb (length v) 536) (λ q. tt) (λ q. k)
+
 -- THE WHOLE LIST
-all : {start : Sectors} {w : World} {H : History} (wrote : Wrote) → Sim start w H → Ready (w .drive .state .phase) H wrote → (es : List Event) → Lawful w es → Made start H wrote (entries w es)
+all : {start : Sectors} {w : World} {H : History} (wrote : Wrote) → Sim start w H → Ready (w .drive .state .phase) H wrote → (ms : List Moment) → Lawful w ms → Made start H wrote (lines w ms)
 all wrote m k [] ok = tt
-all {start} {w} {H} wrote m k (e ∷ es) ok =
+all {start} {w} {H} wrote m k (call e ∷ ms) ok =
     let r = owes start H wrote (e .spoils) w k (sim-known m) (e .call) in
-    (r .0, all _ (step m (e .call) (e .spoils) (ok .0) .1) (r .1) es (ok .1))
+    (r .0, all _ (step m (e .call) (e .spoils) (ok .0) .1) (r .1) ms (ok .1))
+all {start} {w} {H} wrote m k (power d v x ∷ ms) ok = all wrote (began m d v x) (restarted w H wrote k d v x) ms (ok .1)
 
 pub writes-made : WritesMade
 unfolding startOf
-writes-made old lent h sectors es = rw (eq-eqb (length lent) 536 h) (λ ok. all unwritten (at-start refl refl (λ b. refl)) tt es ok)
+writes-made given lent h sectors ms ok = all unwritten (sim-begins given lent h sectors) (first-ready given lent h) ms ok
+  where
+    first-ready : (d : Drive) (v : Bytes) → length v ≡ 536 → Ready (startOf d v .step .drive .state .phase) blank unwritten
+    first-ready d v h = rw (eq-eqb (length v) 536 h) tt

@@ -1,4 +1,4 @@
--- A COMMAND IS OVER BY FINISHED, after at most 3,679 answers that suit; a start after at most ten; a store after one.
+-- A COMMAND IS OVER BY FINISHED, after at most 3,680 answers that suit; a start after at most ten; a store after one.
 use mathlib.Core.Path.{_≡_, refl, sym, ap, subst, _∙_}
 use mathlib.Core.Bool.{Bool, true, false, not, _&&_}
 use mathlib.Core.Logic.{_⊎_, inl, inr}
@@ -52,7 +52,7 @@ module _ (l : State) (t : Table) (a : ℕ) (bs : List ℕ) (equal : Bool) where
   store-next : (x : Access) (cs u : List ℕ) → ofStore x ≡ true → Ends store (outOf t cs bs u (follows x l t a bs equal))
   unfolding follows storeAnswered
   store-next (access.Start k) cs u c = clash c refl
-  store-next access.Store cs u c = record { answer = refl; phase = refl }
+  store-next (access.Store k) cs u c = record { answer = refl; phase = refl }
   store-next (access.Read r) cs u c = clash c refl
   store-next (access.Write w) cs u c = clash c refl
   store-next (access.Verify w) cs u c = clash c refl
@@ -62,7 +62,7 @@ module _ (l : State) (t : Table) (a : ℕ) (bs : List ℕ) (equal : Bool) where
   -- No access is followed by a refusal.
   not-refused : (x : Access) → ofAnswer (follows x l t a bs equal .answer) .refused ≡ false
   not-refused x =
-      follows-shape (λ (y : Turn). ofAnswer (y .answer) .refused ≡ false) l (record { ends = λ c e s p k. refl; tries = λ c r p k. refl; says = λ k b p n w. n }) t x a bs equal (λ e. refl)
+      follows-shape (λ (y : Turn). ofAnswer (y .answer) .refused ≡ false) l (record { reports = λ m c e s v w p k. refl; asks = λ m c e s p k. refl; tries = λ c r p k. refl; says = λ k b p n w. n }) t x a bs equal (λ e. refl)
 
 -- THE CODES 4 AND 5 refuse exactly what does not suit.
 exactly : (x : Turn) (l : State) (read : Bool) (a n : ℕ) → ofAnswer (x .answer) .refused ≡ false

@@ -27,7 +27,7 @@ use Rattle.drive.specs.Access.{asksRead, answered}
 use Rattle.drive.specs.Calls.{Call, raise, lower, feed, surface, reset, raiseOf, lowerOf, feedOf, surfaceOf, resetOf, stepOf, startOf, imageOutOf}
 use Rattle.drive.specs.Values.{Code1If, Code1Exactly}
 use Rattle.drive.specs.Views.{ofAnswer}
-use Rattle.records.proofs.Ladders.{guarded-cases, fitting-cases, raised-idle-cases, lowered-cases, image-cases}
+use Rattle.records.proofs.Ladders.{guarded-cases, fitting-cases, lowered-cases, image-cases}
 use Rattle.records.proofs.Shapes.{Shapes, follows-shape, acted-shape}
 
 -- Says whether an answer is code 1.
@@ -48,14 +48,14 @@ module _ (l : State) where
 
   raises : (p : Phase) → Is (raised p l)
   unfolding raised
-  raises phase.Idle = raised-idle-cases Is l (record { stores = λ e. accepts refl; offers = λ e. accepts refl })
+  raises phase.Idle = accepts refl
   raises (phase.Offered o) = no
   raises phase.Command = accepts refl
   raises phase.Data = accepts refl
   raises (phase.Awaiting x) = no
 
   shapes : Shapes Is l
-  shapes = record { ends = λ c e s p k. accepts refl; tries = λ c r p k. accepts refl; says = λ k a p n r. accepts n }
+  shapes = record { reports = λ m c e s v w p k. accepts refl; asks = λ m c e s p k. accepts refl; tries = λ c r p k. accepts refl; says = λ k a p n r. accepts n }
 
   going : (o : Offer) (t : Table) → Is (goesOn o l t)
   unfolding goesOn

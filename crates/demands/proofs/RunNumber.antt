@@ -1,5 +1,5 @@
--- The run number of a record stays a number of four bytes: a raise adds one below its top, an image brings one of four bytes, and
--- every other rule keeps it.
+-- The run number of a record stays a number of four bytes: a store asked for adds one below its top, an image brings one of four
+-- bytes, and every other rule keeps it.
 use mathlib.Core.Path.{_≡_, refl}
 use mathlib.Core.Bool.{Bool, true, false, cond}
 use mathlib.Core.List.{List, []}
@@ -24,12 +24,12 @@ use Rattle.drive.specs.declared.Access.the-variants as access
 use Rattle.table.specs.declared.Table.{Table}
 use Rattle.drive.specs.Words.{orderOf, kindOf}
 use Rattle.drive.specs.Records.{recordOk}
-use Rattle.drive.specs.Results.{guarded}
-use Rattle.drive.specs.Handshake.{numbered, offers, offerFor, raised, goesOn, lowered, fedTo, rested}
+use Rattle.drive.specs.Results.{numbered, guarded}
+use Rattle.drive.specs.Handshake.{offers, offerFor, raised, goesOn, lowered, fedTo, rested}
 use Rattle.drive.specs.Access.{asksRead, follows, answered}
 use Rattle.drive.specs.Calls.{Call, raise, lower, feed, surface, reset, raiseOf, lowerOf, feedOf, surfaceOf, resetOf, stepOf}
 use Rattle.drive.specs.Values.{Bytewise, TypedCall}
-use Rattle.records.proofs.Ladders.{guarded-cases, fitting-cases, raised-idle-cases, lowered-cases}
+use Rattle.records.proofs.Ladders.{guarded-cases, fitting-cases, lowered-cases}
 use Rattle.records.proofs.Shapes.{Shapes, acted-shape, follows-shape}
 
 abbrev Small : ℕ → Type 0
@@ -47,11 +47,11 @@ module _ (l : State) (t : Table) (h : Small (l .run)) where
   Ok x = Small (x .state .run)
 
   shapes : Shapes Ok l
-  shapes = record { ends = λ c e s p k. h; tries = λ c r p k. h; says = λ k a p n r. rw r h }
+  shapes = record { reports = λ m c e s v w p k. h; asks = λ m c e s p k. next-small l h; tries = λ c r p k. h; says = λ k a p n r. rw r h }
 
   raises : (p : Phase) → Ok (raised p l)
   unfolding raised
-  raises phase.Idle = raised-idle-cases Ok l (record { stores = λ e. next-small l h; offers = λ e. h })
+  raises phase.Idle = h
   raises (phase.Offered o) = h
   raises phase.Command = h
   raises phase.Data = h

@@ -1,8 +1,9 @@
 -- WHAT DEMAND 2 SHUTS OUT, of the definitions: the controller that fails all commands, that answers from its buffer, that reports
 -- writes good that were never made, "no spare" while one is unused, one that obeys an earlier command. A status 4 that is not E
--- is shut out by Status4.
+-- is shut out by Status4. A command that stores has ended where it asks for the store: what is said of an ending is said of one that
+-- waits too.
 use mathlib.Core.Path.{_≡_, refl, sym, ap, subst, _∙_}
-use mathlib.Core.Bool.{Bool, true, false, cond, not, _&&_}
+use mathlib.Core.Bool.{Bool, true, false, cond, not, _&&_, _||_}
 use mathlib.Core.List.{List, [], _∷_, _++_}
 use Prim.Native.Nat.{ℕ, _+_, _≤_}
 use native.Mathlib.Omega.{arith}
@@ -20,7 +21,9 @@ use Rattle.buffer.proofs.Compare.{same-equal}
 use Rattle.drive.specs.declared.Cause.{Cause}
 use Rattle.drive.specs.declared.Access.{Access}
 use Rattle.drive.specs.declared.Access.the-variants as access
+use Rattle.drive.specs.declared.Answer.{Answer}
 use Rattle.drive.specs.declared.Answer.the-variants as answer
+use Rattle.drive.specs.declared.Close.{Close}
 use Rattle.drive.specs.declared.Change.{Change}
 use Rattle.drive.specs.declared.Change.the-variants as change
 use Rattle.drive.specs.declared.Drive.{Drive}
@@ -40,38 +43,63 @@ use Rattle.drive.specs.declared.State.{State}
 use Rattle.drive.specs.declared.Target.{Target}
 use Rattle.drive.specs.declared.Trial.{Trial}
 use Rattle.drive.specs.declared.Turn.{Turn}
-use Rattle.drive.specs.Words.{dataOf, rowOf, statusOf, isRead, orderOf}
+use Rattle.drive.specs.Words.{dataOf, withData, rowOf, fails, statusOf, isRead, orderOf}
 use Rattle.drive.specs.Records.{recordOk, awaits}
 use Rattle.drive.specs.Values.{Typed}
-use Rattle.drive.specs.Results.{Out, four, partLeft, statusLeft, outOf, withMarks, finished, finish, clean}
-use Rattle.drive.specs.Handshake.{firstRead, noNumber, writes, acted}
-use Rattle.drive.specs.Retries.{afterRead}
+use Rattle.drive.specs.Results.{Out, changed, four, partLeft, statusLeft, outOf, withMarks, numbered, ended as at-end, reported, report, ends, stores, wantsStore, finish, clean}
+use Rattle.drive.specs.Handshake.{firstRead, noNumber, writes, overruns, acted}
+use Rattle.drive.specs.Retries.{met, afterRead}
 use Rattle.drive.specs.Sparing.{tried, counted, checked}
-use Rattle.drive.specs.Access.{isCompared, fitting, keptPart, reads, writeAnswered, verifyAnswered, follows, answered}
+use Rattle.drive.specs.Access.{isCompared, fitting, keptPart, isUndone, storeMarks, storeAnswered, reads, writeAnswered, verifyAnswered, follows, answered}
 use Rattle.drive.specs.Calls.{lower, surface, lowerOf, surfaceOf, stepOf}
 use Rattle.drive.specs.History.{bit, good}
 use Rattle.drive.specs.Over.{Reply, command, Completes}
 use Rattle.drive.specs.Status4.{failures, numbers, leftBy}
 use Rattle.drive.specs.TableRead.{OffersRead}
 use Rattle.drive.specs.Views.{ofAnswer}
-use Rattle.records.proofs.Ladders.{acted-cases, NextSpare, Missed, Stopped, tried-cases, checked-cases, lost-cases, settled-cases, write-cases, verify-cases}
+use Rattle.records.proofs.Ladders.{finish-cases, acted-cases, NextSpare, Missed, Stopped, tried-cases, checked-cases, lost-cases, settled-cases, write-cases, verify-cases}
 use Rattle.demands.proofs.Parts.{data-put, data-with}
 use Rattle.demands.proofs.Numbers.{acts-on}
 use Rattle.demands.proofs.Awaited.{ofPhase}
-use Rattle.demands.proofs.Statuses.{fails, good-is}
+use Rattle.demands.proofs.Statuses.{good-is}
 use Rattle.demands.proofs.Sim.{Ln}
 use Rattle.demands.proofs.Valid.{step-valid}
 use Rattle.demands.proofs.Status4.{status-4}
 
--- Says whether a call finished, good by its status 1.
-abbrev pub endsWell : Out → Bool
-endsWell y = ofAnswer (y .step .answer) .finished && not (bit 1 (getD (y .bytes) 0 0))
+-- Says whether an answer asks for the store.
+abbrev pub isStore : Answer → Bool
+isStore answer.Wait = false
+isStore (answer.Offer o) = false
+isStore (answer.Read s) = false
+isStore (answer.Write s) = false
+isStore answer.Store = true
+isStore answer.Finished = false
+isStore (answer.Refused r) = false
 
--- Says whether an access comes before any verify of what it writes: it is no verify and no reread, and a trial's write comes
--- before the trial's first reread.
+-- Says of the ending that waits for the store what f says of it, and false where none does.
+abbrev closing : (Ending → Bool) → Access → Bool
+closing f (access.Start k) = false
+closing f (access.Store k) = f (k .ending)
+closing f (access.Read r) = false
+closing f (access.Write w) = false
+closing f (access.Verify w) = false
+closing f (access.TrialWrite r) = false
+closing f (access.TrialRead r) = false
+
+abbrev waiting : (Ending → Bool) → Phase → Bool
+waiting f p = ofPhase false (closing f) p
+
+-- Says whether a call ended a command well: it finished, good by its status 1, or asks for the store with an ending that is good.
+abbrev pub endsWell : Out → Bool
+endsWell y =
+    cond (ofAnswer (y .step .answer) .finished) (not (bit 1 (getD (y .bytes) 0 0)))
+    (isStore (y .step .answer) && waiting (λ e. not (fails e)) (y .step .drive .state .phase))
+
+-- Says whether an access comes before any verify of what it writes: it is no verify and no reread, a trial's write comes before the
+-- trial's first reread, and the store is that of a command which failed.
 abbrev pub isUnread : Access → Bool
 isUnread (access.Start k) = true
-isUnread access.Store = true
+isUnread (access.Store k) = fails (k .ending)
 isUnread (access.Read r) = true
 isUnread (access.Write w) = true
 isUnread (access.Verify w) = false
@@ -87,7 +115,7 @@ not-compared (phase.Offered o) h = refl
 not-compared phase.Command h = refl
 not-compared phase.Data h = refl
 not-compared (phase.Awaiting (access.Start k)) h = refl
-not-compared (phase.Awaiting access.Store) h = refl
+not-compared (phase.Awaiting (access.Store k)) h = refl
 not-compared (phase.Awaiting (access.Read r)) h = refl
 not-compared (phase.Awaiting (access.Write w)) h = refl
 not-compared (phase.Awaiting (access.Verify w)) h = sym h
@@ -99,24 +127,38 @@ module _ (t : Table) (cs bs u : List ℕ) where
   abbrev pub Bad : Turn → Type 0
   Bad x = endsWell (outOf t cs bs u x) ≡ true → ⊥
 
-  -- A failure is one, whatever becomes of the table.
-  pub bad-finish : (l : State) (e : Ending) (s : Seen) (p : Part) → fails e ≡ true → Bad (finish l change.Keep e s p)
+  -- A failure is one, whatever becomes of the table, reported at once or after the store.
+  pub bad-report : (l : State) (m : Marks) (c : Change) (e : Ending) (s : Seen) (unstored unsettled : Bool) (p : Part) → (fails e || unstored) ≡ true → Bad (report l m c e s unstored unsettled p)
   unfolding statusLeft good
-  bad-finish l e s p f h = clash h (good-is (surface 0 []) answer.Finished e s (l .marks .fresh) (partLeft p t bs u) ∙ ap not f)
+  bad-report l m c e s unstored unsettled p f h = clash h (good-is (surface 0 []) answer.Finished e s unstored unsettled (m .fresh) (partLeft p t bs u) ∙ ap not f)
+
+  pub bad-finish : (l : State) (c : Change) (e : Ending) (s : Seen) (p : Part) → fails e ≡ true → Bad (finish l c e s p)
+  bad-finish l c e s p f =
+      finish-cases Bad l c e s p (record { asks = λ q h. clash h (ap not f); reports = λ q. bad-report l (at-end (l .marks) c e) c e s _ _ p (rw f) })
+
+  bad-end : (l : State) (e : Ending) (p : Part) → fails e ≡ true → Bad (ends l e p)
+  bad-end l e p f = bad-report l (at-end (l .marks) change.Keep e) change.Keep e clean false false p (rw f)
+
+  -- It asks for no verify.
+  unread-finish : (l : State) (c : Change) (e : Ending) (s : Seen) (p : Part) → fails e ≡ true → unread (finish l c e s p .state .phase) ≡ true
+  unread-finish l c e s p f = finish-cases (λ (x : Turn). unread (x .state .phase) ≡ true) l c e s p (record { asks = λ q. f; reports = λ q. refl })
 
   -- NO COMMAND FOR A BLOCK ENDS WELL WITHOUT AN ACCESS OF ITS OWN: acting on it does not end it well. Nor does it ask for a verify.
   pub acts-first : (o : Order) (l : State) → (isBlock (o .number) ≡ true → Bad (acted o l t)) × (unread (acted o l t .state .phase) ≡ true)
   acts-first o l =
       acted-cases (λ (x : Turn). (isBlock (o .number) ≡ true → Bad x) × (unread (x .state .phase) ≡ true)) o l t
       (record {
-        overrun = λ e. (λ i. bad-finish l _ _ _ refl, refl);
-        no-block = λ e f. (λ i. bad-finish l _ _ _ refl, refl);
+        overrun = λ e. record {
+          block = λ j. (λ i. bad-finish l _ ending.Overrun _ _ refl, unread-finish l _ ending.Overrun _ _ refl);
+          no-block = λ j. (λ i. bad-end l _ _ refl, refl);
+        };
+        no-block = λ e f. (λ i. bad-end l _ _ refl, refl);
         buffer = λ e f. (λ i h. not-block 0xFFFFFE refl f i, refl);
-        no-table = λ e f. (λ i. bad-finish l (ending.NoTable (not (isRead (o .kind)))) _ _ refl, refl);
+        no-table = λ e f. (λ i. bad-end l (ending.NoTable (not (isRead (o .kind)))) _ refl, refl);
         table = λ e f. (λ i h. not-block 0xFFFFFF refl f i, refl);
         health = λ e f. (λ i h. not-block 0xFFFFFD refl f i, refl);
         read = λ b e. (λ i h. clash h refl, refl);
-        latched = λ b e f. (λ i. bad-finish l _ _ _ refl, refl);
+        latched = λ b e f. (λ i. bad-finish l _ ending.Latched _ _ refl, unread-finish l _ ending.Latched _ _ refl);
         listed = λ b e f g. (λ i h. clash h refl, refl);
         write = λ b e f g. (λ i h. clash h refl, refl);
       })
@@ -135,7 +177,7 @@ module _ (t : Table) (cs bs u : List ℕ) where
   -- A sector that failed is left by such a turn, and a trial is stopped by one.
   module _ (P : Turn → Type 0) (h : (x : Turn) → Fails x → P x) (l : State) where
     pub ended : (c : Change) (e : Ending) (s : Seen) → fails e ≡ true → P (finish l c e s part.Kept)
-    ended c e s f = h _ (record { bad = bad-finish l e s part.Kept f; unread = refl })
+    ended c e s f = h _ (record { bad = bad-finish l c e s part.Kept f; unread = unread-finish l c e s part.Kept f })
 
     pub nexts : (n : ℕ) (c : Change) (b : Block) (s : Seen) {x y : Cause} → NextSpare P n l c b s x y
     nexts n c b s = record { spare = λ e. h _ (record { bad = λ z. clash z refl; unread = refl }); no-spare = λ e. ended c _ s refl }
@@ -164,7 +206,7 @@ module _ (t : Table) (cs bs u : List ℕ) where
     verify-made =
         verify-cases N l w a (eqb a 0 && same bs (dataOf u))
         (record {
-          stops = λ e h. absurd (bad-finish l _ _ _ refl h);
+          stops = λ e h. absurd (bad-finish l _ ending.Latched _ _ refl h);
           done = λ e f h. (eqb-true a 0 (and-left (eqb a 0) (same bs (dataOf u)) f), same-equal bs (dataOf u) (and-right (eqb a 0) (same bs (dataOf u)) f));
           fails = λ e f h. clash h refl;
         })
@@ -172,8 +214,21 @@ module _ (t : Table) (cs bs u : List ℕ) where
         N : Turn → Type 0
         N x = endsWell (outOf t cs bs u x) ≡ true → (a ≡ 0) × (bs ≡ dataOf u)
 
+  -- by its store only if that is answered 0, and the ending that waits is good.
+  pub store-made : (k : Close) (l : State) (a : ℕ) → endsWell (outOf t cs bs u (storeAnswered k l a)) ≡ true → (a ≡ 0) × (fails (k .ending) ≡ false)
+  unfolding storeAnswered
+  store-made k l a h = go (fails (k .ending)) refl (eqb a 0) refl
+    where
+      bad : (fails (k .ending) || isUndone a) ≡ true → ⊥
+      bad f = bad-report l (storeMarks (l .marks) a) change.Keep (k .ending) (met a (k .seen)) (isUndone a) (eqb a 3) part.Kept f h
+
+      go : (p : Bool) → fails (k .ending) ≡ p → (q : Bool) → eqb a 0 ≡ q → (a ≡ 0) × (fails (k .ending) ≡ false)
+      go true p q' q = absurd (bad (rw p))
+      go false p true q = (eqb-true a 0 q, p)
+      go false p false q = absurd (bad (rw (p, q)))
+
   module _ (l : State) (r : Trial) (a : ℕ) where
-    -- a trial's first reread is asked for only after its write was answered 0,
+    -- A trial's first reread is asked for only after its write was answered 0,
     pub trial-made : awaits isCompared (tried l t r a .state .phase) ≡ true → a ≡ 0
     trial-made = tried-cases N l t r a (record { done = λ e h. eqb-true a 0 e; stops = λ e. stops N not-read l r; fails = λ e f. misses N not-read l r _ })
       where
@@ -203,36 +258,40 @@ module _ (t : Table) (cs bs u : List ℕ) where
         not-well : (x : Turn) → Fails x → N x
         not-well x f h = absurd (f .bad h)
 
--- Says whether a call finished with "no spare".
+-- Says whether a call finished with "no spare", or asks for the store with that ending.
 abbrev pub saysNoSpare : Out → Bool
-saysNoSpare y = ofAnswer (y .step .answer) .finished && bit 64 (getD (y .bytes) 1 0)
+saysNoSpare y =
+    cond (ofAnswer (y .step .answer) .finished) (bit 64 (getD (y .bytes) 1 0)) (isStore (y .step .answer) && waiting (λ e. bit 64 (rowOf e .1)) (y .step .drive .state .phase))
 
 -- "NO SPARE" ONLY WITH 32 ENTRIES LISTED: the table as the call leaves it has no unused spare.
 module _ (l : State) (t : Table) (cs bs u : List ℕ) where
   abbrev pub Full : Turn → Type 0
   Full x = saysNoSpare (outOf t cs bs u x) ≡ true → 32 ≤ outOf t cs bs u x .step .drive .table .nspares
 
-  quiet : {A : Type 0} (e : Ending) (s : Seen) (p : Part) → bit 64 (rowOf e .1) ≡ false → saysNoSpare (outOf t cs bs u (finish l change.Keep e s p)) ≡ true → A
+  quiet : (c : Change) (e : Ending) (s : Seen) (p : Part) → bit 64 (rowOf e .1) ≡ false → Full (finish l c e s p)
   unfolding statusLeft statusOf
-  quiet e s p h z = clash z h
+  quiet c e s p h = finish-cases Full l c e s p (record { asks = λ q z. clash z h; reports = λ q z. clash z h })
+
+  spent : (c : Change) (s : Seen) (p : Part) → 32 ≤ changed c t bs .nspares → Full (finish l c ending.NoSpare s p)
+  spent c s p h = finish-cases Full l c ending.NoSpare s p (record { asks = λ q z. h; reports = λ q z. h })
 
   killed-most : 32 ≤ t .nspares + 1 → 32 ≤ killedNext t .nspares
   unfolding killedNext
   killed-most h = branch (λ (x : Table). 32 ≤ x .nspares) (ltb (t .nspares) 32) (λ e. h) (λ e. ltb-false (t .nspares) 32 e)
 
   left-full : (b : Block) (s : Seen) {x y : Cause} → NextSpare Full (t .nspares) l change.Keep b s x y
-  left-full b s = record { spare = λ g z. clash z refl; no-spare = λ g z. ltb-false (t .nspares) 32 g }
+  left-full b s = record { spare = λ g z. clash z refl; no-spare = λ g. spent change.Keep s part.Kept (ltb-false (t .nspares) 32 g) }
 
   misses-full : (r : Trial) (s : Seen) {x : Cause} → Missed Full l t r s x
   misses-full r s =
       record {
-        dead = λ e. record { spare = λ g z. clash z refl; no-spare = λ g z. killed-most (ltb-false (t .nspares + 1) 32 g) };
+        dead = λ e. record { spare = λ g z. clash z refl; no-spare = λ g. spent (change.Kill _) s part.Kept (killed-most (ltb-false (t .nspares + 1) 32 g)) };
         left = λ e. left-full (r .block) s;
       }
 
   stops-full : (r : Trial) → Stopped Full l r
   unfolding bit
-  stops-full r = record { dead = λ e. quiet ending.Latched _ _ refl; present = λ e. quiet ending.Latched _ _ refl }
+  stops-full r = record { dead = λ e. quiet _ ending.Latched _ _ refl; present = λ e. quiet _ ending.Latched _ _ refl }
 
   pub no-spare-tried : (r : Trial) (a : ℕ) → Full (tried l t r a)
   no-spare-tried r a = tried-cases Full l t r a (record { done = λ e z. clash z refl; stops = λ e. stops-full r; fails = λ e f. misses-full r _ })
@@ -245,7 +304,7 @@ module _ (l : State) (t : Table) (cs bs u : List ℕ) where
         stops = λ e. stops-full r;
         counts = λ e. record {
           again = λ f z. clash z refl;
-          passes = λ f g. record { moved = λ i. quiet ending.Moved _ _ refl; listed = λ i j. quiet ending.Good _ _ refl; stays = λ i j. quiet ending.Good _ _ refl };
+          passes = λ f g. record { moved = λ i. quiet _ ending.Moved _ _ refl; listed = λ i j. quiet _ ending.Good _ _ refl; stays = λ i j. quiet _ ending.Good _ _ refl };
           fails = λ f g. misses-full (counted r a equal) _;
         };
       })
@@ -254,33 +313,56 @@ module _ (l : State) (t : Table) (cs bs u : List ℕ) where
   unfolding bit
   no-spare-written w a =
       write-cases Full l t w a
-      (record { verifies = λ e f z. clash z refl; done = λ e f. quiet ending.Good _ _ refl; stops = λ e f. quiet ending.Latched _ _ refl; moves = λ e f. left-full (w .block) _ })
+      (record { verifies = λ e f z. clash z refl; done = λ e f. quiet _ ending.Good _ _ refl; stops = λ e f. quiet _ ending.Latched _ _ refl; moves = λ e f. left-full (w .block) _ })
 
   -- A first verify and a read do not say so at all.
   pub no-spare-verified : (w : Target) (a : ℕ) (equal : Bool) → Full (verifyAnswered l w a equal)
   unfolding bit
   no-spare-verified w a equal =
-      verify-cases Full l w a equal (record { stops = λ e. quiet ending.Latched _ _ refl; done = λ e f. quiet ending.Good _ _ refl; fails = λ e f z. clash z refl })
+      verify-cases Full l w a equal (record { stops = λ e. quiet _ ending.Latched _ _ refl; done = λ e f. quiet _ ending.Good _ _ refl; fails = λ e f z. clash z refl })
+
+  -- The finish after the store says what the ending that waited says.
+  pub no-spare-stored : (k : Close) (a : ℕ) → saysNoSpare (outOf t cs bs u (storeAnswered k l a)) ≡ bit 64 (rowOf (k .ending) .1)
+  unfolding storeAnswered statusLeft statusOf
+  no-spare-stored k a = refl
 
   pub no-spare-read : (x : Outcome) (p : Part) → Full (reads x l t p)
   unfolding reads bit
-  no-spare-read (outcome.Done r) p = quiet ending.Good _ p refl
+  no-spare-read (outcome.Done r) p = quiet _ ending.Good _ p refl
   no-spare-read (outcome.Again r) p = λ z. clash z refl
-  no-spare-read (outcome.Settle r) p = settled-cases Full l r p (record { below = λ e. quiet ending.Good _ p refl; latched = λ e f. quiet ending.Latched _ p refl; tries = λ e f z. clash z refl })
+  no-spare-read (outcome.Settle r) p = settled-cases Full l r p (record { below = λ e. quiet _ ending.Good _ p refl; latched = λ e f. quiet _ ending.Latched _ p refl; tries = λ e f z. clash z refl })
   no-spare-read (outcome.Lost r) p =
-      lost-cases Full l t r p (record { listed = λ e. quiet ending.Failed _ p refl; entered = λ e f. quiet ending.Failed _ p refl; full = λ e f. quiet ending.BadFull _ p refl })
-  no-spare-read (outcome.Stop r) p = quiet ending.Latched _ p refl
+      lost-cases Full l t r p (record { listed = λ e. quiet _ ending.Failed _ p refl; entered = λ e f. quiet _ ending.Failed _ p refl; full = λ e f. quiet _ ending.BadFull _ p refl })
+  no-spare-read (outcome.Stop r) p = quiet _ ending.Latched _ p refl
 
--- Returns the result of a command that ended well, with these bytes in the data part.
-abbrev pub goodWith : Table → List ℕ → State → Seen → List ℕ → Out
-goodWith t cs l s bs =
-    record { step = record { drive = record { table = t; causes = cs; state = withMarks l (finished (l .marks) change.Keep ending.Good) phase.Idle }; answer = answer.Finished }; bytes = four (statusOf ending.Good s (l .marks .fresh)) ++ bs }
+-- Returns the result of a command that finished well, with these bytes in the data part; and of one that asks for the store first.
+abbrev pub goodWith : Table → List ℕ → State → Marks → Seen → List ℕ → Out
+goodWith t cs l m s bs =
+    record { step = record { drive = record { table = t; causes = cs; state = withMarks l (reported m) phase.Idle }; answer = answer.Finished }; bytes = four (statusOf ending.Good s false false (m .fresh)) ++ bs }
 
--- A FIRST GOOD READ IS GOOD, with those bytes.
-pub first-good : (r : Retry) (l : State) (t : Table) (cs u bs : List ℕ) (equal : Bool) → r .first ≡ true → r .good ≡ false → length u ≡ 536 → length bs ≡ 532
-    → outOf t cs bs u (answered (phase.Awaiting (access.Read r)) l t 0 bs equal) ≡ goodWith t cs l (r .seen) bs
-unfolding answered fitting follows afterRead reads keptPart partLeft statusLeft
-first-good r l t cs u bs equal f g lu lb = rw (eq-eqb (length bs) 532 lb, f, g, take-all 532 bs (omega arith), data-put u bs lu lb, data-with u bs lu)
+abbrev pub goodFirst : Seen → Close
+goodFirst s = record { ending = ending.Good; seen = s }
+
+abbrev pub storesWith : Table → List ℕ → State → Seen → List ℕ → List ℕ → Out
+storesWith t cs l s u bs =
+    record { step = record { drive = record { table = t; causes = cs; state = withMarks (numbered l) (l .marks) (phase.Awaiting (access.Store (goodFirst s))) }; answer = answer.Store }; bytes = withData u bs }
+
+-- A FIRST GOOD READ IS GOOD, with those bytes, if nothing is to be stored, and under the latch no place is unstored.
+module _ (r : Retry) (l : State) (t : Table) (cs u bs : List ℕ) (equal : Bool) (f : r .first ≡ true) (g : r .good ≡ false) (lu : length u ≡ 536) (lb : length bs ≡ 532) where
+  pub first-good : stores (l .marks) ≡ false → wantsStore (l .marks) ≡ false → outOf t cs bs u (answered (phase.Awaiting (access.Read r)) l t 0 bs equal) ≡ goodWith t cs l (l .marks) (r .seen) bs
+  unfolding answered fitting follows afterRead reads keptPart partLeft statusLeft finish
+  first-good e h = rw (eq-eqb (length bs) 532 lb, f, g, e, h, take-all 532 bs (omega arith), data-put u bs lu lb, data-with u bs lu)
+
+  -- With something to store the store comes first,
+  pub first-stores : stores (l .marks) ≡ true → outOf t cs bs u (answered (phase.Awaiting (access.Read r)) l t 0 bs equal) ≡ storesWith t cs l (r .seen) u bs
+  unfolding answered fitting follows afterRead reads keptPart partLeft statusLeft finish
+  first-stores e = rw (eq-eqb (length bs) 532 lb, f, g, e, take-all 532 bs (omega arith), data-put u bs lu lb)
+
+-- and if that is done, the read is good with those bytes.
+pub then-good : (s : Seen) (l : State) (t : Table) (cs u bs : List ℕ) (equal : Bool) → length u ≡ 536
+    → outOf t cs [] (withData u bs) (answered (phase.Awaiting (access.Store (goodFirst s))) l t 0 [] equal) ≡ goodWith t cs l (storeMarks (l .marks) 0) (met 0 s) bs
+unfolding answered fitting follows storeAnswered partLeft statusLeft
+then-good s l t cs u bs equal lu = rw (data-with u bs lu)
 
 -- A READ OF A BLOCK WHOSE FIRST ANSWER IS 0 FINISHES GOOD WITH THOSE BYTES.
 module _ (v : ℕ) (d : Drive) (u bs : List ℕ) (o : OffersRead v d) (ty : Typed d) (lu : length u ≡ 536) (lb : length bs ≡ 532) (i : isBlock v ≡ true) where
@@ -310,14 +392,19 @@ module _ (v : ℕ) (d : Drive) (u bs : List ℕ) (o : OffersRead v d) (ty : Type
   unfolding stepOf
   asked-ok = subst (λ (x : Out). recordOk (x .step .drive) ≡ true) asks-for-it (step-valid (lower 0x55) d u (omega arith) ty (o .valid))
 
-  -- and its answer 0 ends the command, good, with the bytes that it brought.
-  pub gives-it : surfaceOf (asked .step .drive) u 0 bs ≡ goodWith (d .table) (d .causes) (asked .step .drive .state) clean bs
+  -- and its answer 0 ends the command, good, with the bytes that it brought, at once
+  pub gives-it : stores (d .state .marks) ≡ false → wantsStore (d .state .marks) ≡ false → surfaceOf (asked .step .drive) u 0 bs ≡ goodWith (d .table) (d .causes) (asked .step .drive .state) (d .state .marks) clean bs
   unfolding surfaceOf
-  gives-it = rw (asked-ok, eq-eqb (length u) 536 lu) (first-good _ (asked .step .drive .state) (d .table) (d .causes) u bs _ refl refl lu lb)
+  gives-it e h = rw (asked-ok, eq-eqb (length u) 536 lu) (first-good _ (asked .step .drive .state) (d .table) (d .causes) u bs _ refl refl lu lb e h)
+
+  -- or with the store.
+  pub stores-it : stores (d .state .marks) ≡ true → surfaceOf (asked .step .drive) u 0 bs ≡ storesWith (d .table) (d .causes) (asked .step .drive .state) clean u bs
+  unfolding surfaceOf
+  stores-it e = rw (asked-ok, eq-eqb (length u) 536 lu) (first-stores _ (asked .step .drive .state) (d .table) (d .causes) u bs _ refl refl lu lb e)
 
   -- However it ends, its status 4 is the number of the R rereads answered 1 or 2, R being the fifth byte of the command.
   pub status-4-of-it : (x : Reply) (xs : List Reply) → Completes command (asked .step .drive) u (x ∷ xs)
-      → getD (leftBy (asked .step .drive) u (x ∷ xs)) 3 0 ≡ failures (take (getD (d .state .command) 4 0) (numbers xs))
+      → getD (leftBy (asked .step .drive) u (x ∷ xs)) 3 0 ≡ cond (eqb (x .number) 0) 0 (failures (take (getD (d .state .command) 4 0) (numbers xs)))
   status-4-of-it x xs h = status-4 (asked .step .drive) u _ x xs (record { phase = refl; first = refl; clean = refl }) h
 
 -- Says that two turns agree in all but the command bytes and counts that they keep.
@@ -335,7 +422,7 @@ over-cond f false x y = refl
 -- ACTING ON A COMMAND DEPENDS ON ITS OWN OPCODE, NUMBER, R, T AND COUNT OF DATA BYTES, ON TABLE AND MARKS, and on nothing else: two
 -- states that differ in all else give the same answer, change of the table, phase and marks, and leave the same in the buffer.
 pub acts-alike : (o : Order) (p p' : Phase) (m : Marks) (c c' : List ℕ) (n n' f k k' : ℕ) (t : Table) → Alike (acted o (Ln p m c n f k) t) (acted o (Ln p' m c' n' f k') t)
-unfolding acted writes
+unfolding acted writes overruns finish
 acts-alike o p p' m c c' n n' f k k' t =
     record {
       answer = simp (over-cond (λ (x : Turn). x .answer));

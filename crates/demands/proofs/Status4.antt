@@ -20,6 +20,7 @@ use Rattle.drive.specs.declared.Change.{Change}
 use Rattle.drive.specs.declared.Change.the-variants as change
 use Rattle.drive.specs.declared.Drive.{Drive}
 use Rattle.drive.specs.declared.Ending.{Ending}
+use Rattle.drive.specs.declared.Ending.the-variants as ending
 use Rattle.drive.specs.declared.Outcome.the-variants as outcome
 use Rattle.drive.specs.declared.Part.{Part}
 use Rattle.drive.specs.declared.Phase.{Phase}
@@ -34,19 +35,25 @@ use Rattle.drive.specs.Words.{statusOf}
 use Rattle.drive.specs.Results.{Out, finish, leave, statusLeft}
 use Rattle.drive.specs.Retries.{passed, failed, afterRead}
 use Rattle.drive.specs.Sparing.{tried, counted as reread, checked}
-use Rattle.drive.specs.Access.{reads, writeAnswered, verifyAnswered, follows}
+use Rattle.drive.specs.Access.{storeAnswered, reads, writeAnswered, verifyAnswered, follows}
 use Rattle.drive.specs.Bound.{ofCommand, isCommand}
 use Rattle.drive.specs.Over.{Reply, replied, command, Completes}
 use Rattle.drive.specs.Status4.{failures, numbers, leftBy, Status4}
 use Rattle.drive.specs.Views.{ofAnswer}
-use Rattle.records.proofs.Ladders.{NextSpare, Missed, Stopped, tried-cases, checked-cases, lost-cases, settled-cases, GoesOnReading, after-read-cases, write-cases, verify-cases}
+use Rattle.records.proofs.Ladders.{finish-cases, NextSpare, Missed, Stopped, tried-cases, checked-cases, lost-cases, settled-cases, GoesOnReading, after-read-cases, write-cases, verify-cases}
+use Rattle.demands.proofs.Endings.{latched-reports}
 use Rattle.demands.proofs.Awaited.{ofPhase, accepted}
+
+-- Returns what is counted of n rereads once the first read is answered: nothing, if that is good.
+abbrev pub afterFirst : ℕ → List ℕ → ℕ
+afterFirst n [] = 0
+afterFirst n (a ∷ ys) = cond (eqb a 0) 0 (failures (take n ys))
 
 -- Returns E at the finish, given the answers that are still to come, the awaited one first.
 abbrev pub counted : List ℕ → Access → ℕ
 counted ys (access.Start k) = 0
-counted ys access.Store = 0
-counted ys (access.Read r) = r .seen .errors + failures (take (r .left) (cond (r .first) (drop 1 ys) ys))
+counted ys (access.Store k) = k .seen .errors
+counted ys (access.Read r) = r .seen .errors + cond (r .first) (afterFirst (r .left) ys) (failures (take (r .left) ys))
 counted ys (access.Write w) = 0
 counted ys (access.Verify w) = 0
 counted ys (access.TrialWrite r) = r .seen .errors
@@ -87,20 +94,24 @@ module _ (t : Table) (l : State) (bs u : List ℕ) (F : List ℕ → ℕ) where
   abbrev K : Turn → Type 0
   K x = Counts F (x .answer) (x .state .phase) (leave (x .leaves) t bs u)
 
-  -- So does an ending, whatever becomes of the table,
-  ended : (e : Ending) (s : Seen) (p : Part) → s .errors ≡ F [] → K (finish l change.Keep e s p)
+  -- So does an ending, whatever becomes of the table, and whether it stores or not,
+  ended : (c : Change) (e : Ending) (s : Seen) (p : Part) → ((ys : List ℕ) → s .errors ≡ F ys) → K (finish l c e s p)
   unfolding statusLeft statusOf
-  ended e s p h = inl (refl, refl, h)
+  ended c e s p h = finish-cases K l c e s p (record { asks = λ q. inr (refl, refl, refl, h); reports = λ q. inl (refl, refl, h []) })
+
+  stopped : (c : Change) (s : Seen) (p : Part) → s .errors ≡ F [] → K (finish l c ending.Latched s p)
+  unfolding statusLeft statusOf
+  stopped c s p h = latched-reports K l c s p (λ u. inl (refl, refl, h))
 
   -- sparing,
   nexts : (n : ℕ) (c : Change) (b : Block) (s : Seen) → ((ys : List ℕ) → s .errors ≡ F ys) → {x y : Cause} → NextSpare K n l c b s x y
-  nexts n c b s h = record { spare = λ e. inr (refl, refl, refl, h); no-spare = λ e. ended _ _ _ (h []) }
+  nexts n c b s h = record { spare = λ e. inr (refl, refl, refl, h); no-spare = λ e. ended _ _ _ _ h }
 
   misses : (r : Trial) (s : Seen) → ((ys : List ℕ) → s .errors ≡ F ys) → {x : Cause} → Missed K l t r s x
   misses r s h = record { dead = λ e. nexts _ _ (r .block) s h; left = λ e. nexts _ _ (r .block) s h }
 
   stops : (r : Trial) → r .seen .errors ≡ F [] → Stopped K l r
-  stops r h = record { dead = λ e. ended _ _ _ h; present = λ e. ended _ _ _ h }
+  stops r h = record { dead = λ e. stopped _ _ _ h; present = λ e. stopped _ _ _ h }
 
   tries : (r : Trial) (a : ℕ) → ((ys : List ℕ) → r .seen .errors ≡ F ys) → K (tried l t r a)
   tries r a h = tried-cases K l t r a (record { done = λ e. inr (refl, refl, refl, h); stops = λ e. stops r (h []); fails = λ e f. misses r _ h })
@@ -112,7 +123,7 @@ module _ (t : Table) (l : State) (bs u : List ℕ) (F : List ℕ → ℕ) where
         stops = λ e. stops r (h []);
         counts = λ e. record {
           again = λ f. inr (refl, refl, refl, h);
-          passes = λ f g. record { moved = λ i. ended _ _ _ (h []); listed = λ i j. ended _ _ _ (h []); stays = λ i j. ended _ _ _ (h []) };
+          passes = λ f g. record { moved = λ i. ended _ _ _ _ h; listed = λ i j. ended _ _ _ _ h; stays = λ i j. ended _ _ _ _ h };
           fails = λ f g. misses (reread r a equal) _ h;
         };
       })
@@ -121,17 +132,14 @@ module _ (t : Table) (l : State) (bs u : List ℕ) (F : List ℕ → ℕ) where
   writes : (w : Target) (a : ℕ) → ((ys : List ℕ) → 0 ≡ F ys) → K (writeAnswered l t w a)
   writes w a h =
       write-cases K l t w a
-      (record { verifies = λ e f. inr (refl, refl, refl, h); done = λ e f. ended _ _ _ (h []); stops = λ e f. ended _ _ _ (h []); moves = λ e f. nexts _ _ (w .block) _ h })
+      (record { verifies = λ e f. inr (refl, refl, refl, h); done = λ e f. ended _ _ _ _ h; stops = λ e f. ended _ _ _ _ h; moves = λ e f. nexts _ _ (w .block) _ h })
 
   verifies : (w : Target) (a : ℕ) (equal : Bool) → ((ys : List ℕ) → 0 ≡ F ys) → K (verifyAnswered l w a equal)
-  verifies w a equal h = verify-cases K l w a equal (record { stops = λ e. ended _ _ _ (h []); done = λ e f. ended _ _ _ (h []); fails = λ e f. inr (refl, refl, refl, h) })
+  verifies w a equal h = verify-cases K l w a equal (record { stops = λ e. ended _ _ _ _ h; done = λ e f. ended _ _ _ _ h; fails = λ e f. inr (refl, refl, refl, h) })
 
   -- and a read that goes on, with the failures of the rereads that are left.
   module _ (q : Part) (r : Retry) (f : r .first ≡ false) (h : (ys : List ℕ) → r .seen .errors + failures (take (r .left) ys) ≡ F ys) where
-    -- None is to come if no answer is, or if no reread is left.
-    now : r .seen .errors ≡ F []
-    now = let z = none-failed (r .left) in let y = h [] in omega arith
-
+    -- None is to come if no reread is left.
     spent : ltb 0 (r .left) ≡ false → (ys : List ℕ) → r .seen .errors ≡ F ys
     spent e ys = let z : r .left ≡ 0 = omega (arith, ltb-false 0 (r .left) e) in let y = rw z at (h ys) in omega arith
 
@@ -144,33 +152,41 @@ module _ (t : Table) (l : State) (bs u : List ℕ) (F : List ℕ → ℕ) where
     goes-on =
         record {
           reread = λ e. again;
-          settles = λ e g. settled-cases K l r q (record { below = λ b. ended _ _ _ now; latched = λ b c. ended _ _ _ now; tries = λ b c. inr (refl, refl, refl, spent e) });
+          settles = λ e g. settled-cases K l r q (record { below = λ b. ended _ _ _ _ (spent e); latched = λ b c. ended _ _ _ _ (spent e); tries = λ b c. inr (refl, refl, refl, spent e) });
           further = λ e g i. again;
-          loses = λ e g i. lost-cases K l t r q (record { listed = λ b. ended _ _ _ now; entered = λ b c. ended _ _ _ now; full = λ b c. ended _ _ _ now });
+          loses = λ e g i. lost-cases K l t r q (record { listed = λ b. ended _ _ _ _ (spent e); entered = λ b c. ended _ _ _ _ (spent e); full = λ b c. ended _ _ _ _ (spent e) });
         }
 
 -- WHAT AN ANSWER TO A READ COUNTS
 
 -- The first read's failure is not counted; another is one of the R rereads, or none of them is left.
-bad-counted : (r : Retry) (a : ℕ) (xs : List ℕ) → (eqb a 1 || eqb a 2) ≡ true → failed r a .seen .errors + failures (take (failed r a .left) xs) ≡ counted (a ∷ xs) (access.Read r)
+bad-counted : (r : Retry) (a : ℕ) (xs : List ℕ) → eqb a 0 ≡ false → (eqb a 1 || eqb a 2) ≡ true → failed r a .seen .errors + failures (take (failed r a .left) xs) ≡ counted (a ∷ xs) (access.Read r)
 unfolding failed
-bad-counted r a xs h = go (r .first) (ltb 0 (r .left)) refl
+bad-counted r a xs z h = go (r .first) (ltb 0 (r .left)) refl
   where
     go : (f q : Bool) → ltb 0 (r .left) ≡ q
-        → cond (not f && q) (r .seen .errors + 1) (r .seen .errors) + failures (take (cond (not f && q) (r .left - 1) (r .left)) xs) ≡ r .seen .errors + failures (take (r .left) (cond f xs (a ∷ xs)))
-    go true q e = refl
+        → cond (not f && q) (r .seen .errors + 1) (r .seen .errors) + failures (take (cond (not f && q) (r .left - 1) (r .left)) xs) ≡ r .seen .errors + cond f (cond (eqb a 0) 0 (failures (take (r .left) xs))) (failures (take (r .left) (a ∷ xs)))
+    go true q e = rw z
     go false true e = rw (count-bad (r .left) a xs h (ltb-true 0 (r .left) e)) (omega arith)
-    go false false e = let z : r .left ≡ 0 = omega (arith, ltb-false 0 (r .left) e) in rw z
+    go false false e = let y : r .left ≡ 0 = omega (arith, ltb-false 0 (r .left) e) in rw y
 
 good-counted : (r : Retry) (a : ℕ) (xs : List ℕ) → eqb a 0 ≡ true → r .first ≡ false → r .seen .errors + failures (take (r .left - 1) xs) ≡ counted (a ∷ xs) (access.Read r)
 good-counted r a xs e f = rw (f, eqb-true a 0 e, count-good (r .left) xs)
 
--- An answer that ends the command is no failure of a reread.
+-- A first read that is good leaves no reread to count.
+done-counted : (r : Retry) (a : ℕ) (xs : List ℕ) → eqb a 0 ≡ true → r .first ≡ true → r .seen .errors ≡ counted (a ∷ xs) (access.Read r)
+done-counted r a xs e f = rw (f, e) (omega arith)
+
+either : (q : Bool) → _≡_ {A = ℕ} (cond q 0 0) 0
+either true = refl
+either false = refl
+
+-- An answer that stops the command is no failure of a reread.
 at-end : (r : Retry) (a : ℕ) → (eqb a 1 || eqb a 2) ≡ false → r .seen .errors ≡ counted (a ∷ []) (access.Read r)
 at-end r a h = go (r .first) (r .left)
   where
-    go : (f : Bool) (n : ℕ) → r .seen .errors ≡ r .seen .errors + failures (take n (cond f [] (a ∷ [])))
-    go true n = rw (none-failed n) (omega arith)
+    go : (f : Bool) (n : ℕ) → r .seen .errors ≡ r .seen .errors + cond f (cond (eqb a 0) 0 (failures (take n []))) (failures (take n (a ∷ [])))
+    go true n = rw (none-failed n, either (eqb a 0)) (omega arith)
     go false zero = omega arith
     go false (suc n) = rw (h, none-failed n) (omega arith)
 
@@ -184,10 +200,10 @@ module _ (t : Table) (l : State) (bs u : List ℕ) (a : ℕ) where
   reads-on r q small =
       after-read-cases (λ x. After (access.Read r) (reads x l t q)) r a
       (record {
-        done = λ e f. ended t l bs u F _ _ _ (at-end r a (rw (eqb-true a 0 e)));
+        done = λ e f. ended t l bs u F _ _ _ _ (λ ys. done-counted r a ys e f);
         passes = λ e f. goes-on t l bs u F q (passed r) f (λ ys. good-counted r a ys e f);
-        stops = λ e f. ended t l bs u F _ _ _ (at-end r a (rw (eqb-true a 3 f)));
-        fails = λ e f. goes-on t l bs u F q (failed r a) refl (λ ys. bad-counted r a ys (one-or-two a small e f));
+        stops = λ e f. stopped t l bs u F _ _ _ (at-end r a (rw (eqb-true a 3 f)));
+        fails = λ e f. goes-on t l bs u F q (failed r a) refl (λ ys. bad-counted r a ys e (one-or-two a small e f));
       })
     where
       F : List ℕ → ℕ
@@ -195,9 +211,9 @@ module _ (t : Table) (l : State) (bs u : List ℕ) (a : ℕ) where
 
   -- EVERY ANSWER to an access of a command is counted.
   counts : (x : Access) → ofCommand x ≡ true → a ≤ 3 → (equal : Bool) → After x (follows x l t a bs equal)
-  unfolding follows
+  unfolding follows storeAnswered statusLeft statusOf
   counts (access.Start k) c h equal = clash c refl
-  counts access.Store c h equal = clash c refl
+  counts (access.Store k) c h equal = inl (refl, refl, refl)
   counts (access.Read r) c h equal = reads-on r _ h
   counts (access.Write w) c h equal = writes t l bs u _ w a (λ ys. refl)
   counts (access.Verify w) c h equal = verifies t l bs u _ w a equal (λ ys. refl)

@@ -27,58 +27,65 @@ use Rattle.drive.specs.declared.Seen.{Seen}
 use Rattle.drive.specs.declared.State.{State}
 use Rattle.drive.specs.declared.Trial.{Trial}
 use Rattle.drive.specs.declared.Turn.{Turn}
-use Rattle.drive.specs.Words.{dataOf}
+use Rattle.drive.specs.Words.{dataOf, fails, latches}
 use Rattle.drive.specs.Records.{trialOk, stateOk, recordOk}
-use Rattle.drive.specs.Results.{Out, outOf, inPhase, finish, partLeft, statusLeft}
+use Rattle.drive.specs.Results.{Out, outOf, inPhase, ended, finish, partLeft, statusLeft}
 use Rattle.drive.specs.Sparing.{counted, judged, checked}
 use Rattle.drive.specs.Access.{bytesFit, fitting, follows, answered}
 use Rattle.drive.specs.Calls.{raise, surfaceOf}
 use Rattle.drive.specs.History.{good}
 use Rattle.drive.specs.Over.{Reply, replied}
-use Rattle.drive.specs.Trials.{counts, AllCount, failing, through, listedThen, Decided, Rereads, Trial100}
-use Rattle.records.proofs.Ladders.{NextSpare, judged-cases}
-use Rattle.demands.proofs.Statuses.{fails, good-is, data-ended}
+use Rattle.drive.specs.Trials.{counts, AllCount, failing, through, listedThen, finished, storing, Decided, Rereads, Trial100}
+use Rattle.records.proofs.Ladders.{finish-cases, NextSpare, judged-cases}
+use Rattle.demands.proofs.Statuses.{good-is, data-ended}
 
 -- WHAT THE LAST ANSWER DECIDES, with n spares listed if the sector failed, and f failures
 module _ (t : Table) (cs : List ℕ) (l : State) (u bs : List ℕ) (n f : ℕ) where
   abbrev Decides : Turn → Type 0
   Decides x = Decided n f (dataOf u) (outOf t cs bs u x)
 
-  passed : leb f 30 ≡ true → (c : Change) (e : Ending) (s : Seen) → fails e ≡ false → Decides (finish l c e s part.Kept)
+  passed : l .marks .latch ≡ false → leb f 30 ≡ true → (c : Change) (e : Ending) (s : Seen) → fails e ≡ false → latches e ≡ false → Decides (finish l c e s part.Kept)
   unfolding good partLeft statusLeft
-  passed h c e s q =
-      record {
-        passes = λ g. (refl, not-true _ (good-is raise answer.Finished e s (l .marks .fresh) u ∙ ap not q));
-        moves = λ g i. clash h g;
-        ends = λ g i. clash h g;
-        stays = data-ended raise answer.Finished e s (l .marks .fresh) u;
-      }
+  passed free h c e s q z =
+      finish-cases Decides l c e s part.Kept
+      (record {
+        asks = λ y. record { passes = λ g. storing _ refl refl q; moves = λ g i. clash h g; ends = λ g i. clash h g; stays = refl };
+        reports = λ y. record {
+          passes = λ g. finished refl (not-true _ (good-is raise answer.Finished e s _ _ (l .marks .fresh) u ∙ rw (q, z, free)));
+          moves = λ g i. clash h g;
+          ends = λ g i. clash h g;
+          stays = data-ended raise answer.Finished e s _ _ (l .marks .fresh) u;
+        };
+      })
 
   missed : leb f 30 ≡ false → (c : Change) (b : Block) (s : Seen) {x y : Cause} → NextSpare Decides n l c b s x y
   unfolding good partLeft statusLeft
   missed h c b s =
       record {
         spare = λ q. record { passes = λ g. clash g h; moves = λ g i. refl; ends = λ g i. clash q i; stays = refl };
-        no-spare = λ q.
-            record {
-              passes = λ g. clash g h;
-              moves = λ g i. clash i q;
-              ends = λ g i. (refl, not-false _ (good-is raise answer.Finished ending.NoSpare s (l .marks .fresh) u));
-              stays = data-ended raise answer.Finished ending.NoSpare s (l .marks .fresh) u;
-            };
+        no-spare = λ q. finish-cases Decides l c ending.NoSpare s part.Kept
+            (record {
+              asks = λ y. record { passes = λ g. clash g h; moves = λ g i. clash i q; ends = λ g i. storing _ refl refl refl; stays = refl };
+              reports = λ y. record {
+                passes = λ g. clash g h;
+                moves = λ g i. clash i q;
+                ends = λ g i. finished refl (not-false _ (good-is raise answer.Finished ending.NoSpare s _ _ (l .marks .fresh) u));
+                stays = data-ended raise answer.Finished ending.NoSpare s _ _ (l .marks .fresh) u;
+              };
+            });
       }
 
-decides : (t : Table) (cs : List ℕ) (l : State) (u bs : List ℕ) (r : Trial) → 100 ≤ r .rereads → Decides t cs l u bs (listedThen t r) (r .failures) (judged l t r)
-decides t cs l u bs r h =
+decides : (t : Table) (cs : List ℕ) (l : State) (u bs : List ℕ) (r : Trial) → l .marks .latch ≡ false → 100 ≤ r .rereads → Decides t cs l u bs (listedThen t r) (r .failures) (judged l t r)
+decides t cs l u bs r free h =
     judged-cases (Decides t cs l u bs (listedThen t r) (r .failures)) l t r
     (record {
       again = λ e. clash e (le-ltb (r .rereads) 100 h);
       passes = λ e p.
-          let good-end = passed t cs l u bs (listedThen t r) (r .failures) p in
+          let good-end = passed t cs l u bs (listedThen t r) (r .failures) free p in
           record {
-            moved = λ g. good-end (change.Move (r .block) (r .before) (r .present)) ending.Moved (r .seen) refl;
-            listed = λ g i. good-end (change.Remove (r .block)) ending.Good (r .seen) refl;
-            stays = λ g i. good-end change.Keep ending.Good (r .seen) refl;
+            moved = λ g. good-end (change.Move (r .block) (r .before) (r .present)) ending.Moved (r .seen) refl refl;
+            listed = λ g i. good-end (change.Remove (r .block)) ending.Good (r .seen) refl refl;
+            stays = λ g i. good-end change.Keep ending.Good (r .seen) refl refl;
           };
       fails = λ e p.
           record {
@@ -141,14 +148,14 @@ module _ (t : Table) (cs : List ℕ) (l : State) (u : List ℕ) (long : length u
       subst (λ (x : Out). Rereads r u (through x (take (suc j) ys))) (sym (asks-again r y v (c .0) (omega arith))) (record { asks = rest .asks; stays = rest .stays })
 
   -- The last one decides, by the failures of all.
-  last : (ys : List Reply) (r : Trial) (a : Answer) → recordOk (awaiting r) ≡ true → r .failures ≤ r .rereads → AllCount ys
+  last : l .marks .latch ≡ false → (ys : List Reply) (r : Trial) (a : Answer) → recordOk (awaiting r) ≡ true → r .failures ≤ r .rereads → AllCount ys
       → r .rereads < 100 → r .rereads + length ys ≡ 100 → Decided (listedThen t r) (r .failures + failing (dataOf u) ys) (dataOf u) (through (asked r a) ys)
-  last [] r a v f c h n = absurd (omega arith)
-  last (y ∷ []) r a v f c h n =
-      subst (Decided (listedThen t r) (r .failures + cond (isSame y) 0 1) (dataOf u)) (sym (judges r y v (c .0))) (decides t cs (awaiting r .state) u (y .bytes) (after r y) (omega arith))
-  last (y ∷ z ∷ zs) r a v f c h n =
+  last free [] r a v f c h n = absurd (omega arith)
+  last free (y ∷ []) r a v f c h n =
+      subst (Decided (listedThen t r) (r .failures + cond (isSame y) 0 1) (dataOf u)) (sym (judges r y v (c .0))) (decides t cs (awaiting r .state) u (y .bytes) (after r y) free (omega arith))
+  last free (y ∷ z ∷ zs) r a v f c h n =
       subst₂ (λ (m : ℕ) (x : Out). Decided (listedThen t r) m (dataOf u) (through x (z ∷ zs))) (one-more (isSame y) (r .failures) (failing (dataOf u) (z ∷ zs))) (sym (asks-again r y v (c .0) (omega arith)))
-      (last (z ∷ zs) (after r y) (answer.Read (r .sector)) (valid-again r y v f (omega arith)) (few (isSame y) f) (c .1) (omega arith) (omega arith))
+      (last free (z ∷ zs) (after r y) (answer.Read (r .sector)) (valid-again r y v f (omega arith)) (few (isSame y) f) (c .1) (omega arith) (omega arith))
 
 -- THE WHOLE TRIAL, from any valid record that awaits its first reread
 pub trial-100 : Trial100
@@ -163,7 +170,7 @@ trial-100 x r ys v h w c n =
           subst (λ (z : Out). Rereads r (x .bytes) (through z (take k ys))) (sym there)
           (rereads (d .table) (d .causes) (d .state) (x .bytes) h k ys r (x .step .answer) valid none c p (omega arith) (omega (arith, w .none))),
       subst₂ (λ (m : ℕ) (z : Out). Decided (listedThen (d .table) r) m (dataOf (x .bytes)) (through z ys)) all (sym there)
-          (last (d .table) (d .causes) (d .state) (x .bytes) h ys r (x .step .answer) valid none c (omega (arith, w .none)) (omega (arith, w .none))),
+          (last (d .table) (d .causes) (d .state) (x .bytes) h (w .free) ys r (x .step .answer) valid none c (omega (arith, w .none)) (omega (arith, w .none))),
     )
 
 -- Its premise on the answers can be met, by timeouts alone.

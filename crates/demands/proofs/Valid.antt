@@ -28,6 +28,8 @@ use Rattle.drive.specs.declared.Drive.{Drive}
 use Rattle.drive.specs.declared.State.{State}
 use Rattle.drive.specs.declared.Marks.{Marks}
 use Rattle.drive.specs.declared.Seen.{Seen}
+use Rattle.drive.specs.declared.Close.{Close}
+use Rattle.drive.specs.declared.Ending.{Ending}
 use Rattle.drive.specs.declared.Retry.{Retry}
 use Rattle.drive.specs.declared.Trial.{Trial}
 use Rattle.drive.specs.declared.Offer.{Offer}
@@ -46,15 +48,15 @@ use Rattle.drive.specs.declared.Change.{Change}
 use Rattle.drive.specs.declared.Change.the-variants as change
 use Rattle.drive.specs.declared.Outcome.{Outcome}
 use Rattle.drive.specs.Records.{retryOk, targetOk, trialOk, accessOk, phaseOk, stateOk, recordOk}
-use Rattle.drive.specs.Results.{changed, noted, inPhase, withMarks, say, onPresent, guarded}
+use Rattle.drive.specs.Results.{changed, noted, inPhase, withMarks, say, ended, numbered, stores, finish, onPresent, guarded}
 use Rattle.drive.specs.Words.{causeNumber, kindOf, orderOf, blockOf}
-use Rattle.drive.specs.Handshake.{numbered, offerFor, offers, raised, acted, goesOn, lowered, fedTo, rested}
+use Rattle.drive.specs.Handshake.{offerFor, offers, raised, acted, goesOn, lowered, fedTo, rested}
 use Rattle.drive.specs.Retries.{met, passed, failed, isReread, afterRead}
 use Rattle.drive.specs.Sparing.{onSpare, tried, counted, checked}
 use Rattle.drive.specs.Access.{asksRead, startAnswered, storeAnswered, reads, follows, answered}
 use Rattle.drive.specs.Calls.{Call, raise, lower, feed, surface, reset, raiseOf, lowerOf, feedOf, surfaceOf, resetOf, stepOf, started, startOf}
 use Rattle.drive.specs.Values.{Bytewise, Typed, TypedCall, TypedCalls, NoCode1, Code1Never}
-use Rattle.records.proofs.Ladders.{OnBlock, acted-cases, guarded-cases, fitting-cases, raised-idle-cases, lowered-cases, NextSpare, Missed, Stopped, Verified, tried-cases, checked-cases, start-cases, Lost, lost-cases, settled-cases, GoesOnReading, after-read-cases, write-cases, verify-cases}
+use Rattle.records.proofs.Ladders.{finish-cases, OnBlock, acted-cases, guarded-cases, fitting-cases, lowered-cases, NextSpare, Missed, Stopped, Verified, tried-cases, checked-cases, start-cases, Lost, lost-cases, settled-cases, GoesOnReading, after-read-cases, write-cases, verify-cases}
 use Rattle.records.proofs.Passed.{passed as parts}
 use Rattle.demands.proofs.Numbers.{on-block}
 use Rattle.demands.proofs.RunNumber.{step-run}
@@ -244,10 +246,17 @@ module _ (t : Table) (cs : List ℕ) (l : State) (f : Fine t cs l) where
     abbrev Ok : Turn → Type 0
     Ok x = Fine (changed (x .change) t bs) (noted (x .change) t cs bs) (x .state)
 
-    -- RAISE
-    counts-up : l .marks .known ≡ true → Fine t cs (inPhase (numbered l) (phase.Awaiting access.Store))
-    counts-up h = record { table = f .table; shaped = f .shaped; noted = f .noted; causes = f .causes; count = f .count; fed = f .fed; phase = h; full = f .full; bytes = f .bytes }
+    -- THE END OF A COMMAND: the store is asked for with a table known, or it is idle.
+    stored : {t' : Table} {cs' : List ℕ} → Beside t' cs' → (m : Marks) (k : Close) → m .known ≡ true → Fine t' cs' (withMarks (numbered l) m (phase.Awaiting (access.Store k)))
+    stored z m k h = record { table = z .table; shaped = z .shaped; noted = z .noted; causes = z .causes; count = f .count; fed = f .fed; phase = h; full = f .full; bytes = f .bytes }
 
+    closes : (ch : Change) (e : Ending) (s : Seen) (v : Part) → Beside (changed ch t bs) (noted ch t cs bs) → Ok (finish l ch e s v)
+    closes ch e s v k =
+        let m = ended (l .marks) ch e in
+        finish-cases Ok l ch e s v
+        (record { asks = λ q. stored k m _ (and-left (m .known) (m .changed) (and-left (m .known && m .changed) (not (m .latch)) q)); reports = λ q. onto k _ phase.Idle refl })
+
+    -- RAISE
     opens : (o : Offer) (n : ℕ) → n ≤ 6 → Fine t cs (record { phase = phase.Offered o; marks = l .marks; command = l .command; count = n; fed = 0; run = l .run })
     opens o n h = record { table = f .table; shaped = f .shaped; noted = f .noted; causes = f .causes; count = h; fed = omega arith; phase = refl; full = f .full; bytes = f .bytes }
 
@@ -260,12 +269,7 @@ module _ (t : Table) (cs : List ℕ) (l : State) (f : Fine t cs l) where
 
     raises : (p : Phase) → Ok (raised p l)
     unfolding raised
-    raises phase.Idle =
-        raised-idle-cases Ok l
-        (record {
-          stores = λ e. counts-up (and-left (l .marks .known) (l .marks .changed) (and-left (l .marks .known && l .marks .changed) (not (l .marks .latch)) e));
-          offers = λ e. opens offer.Command 0 (omega arith);
-        })
+    raises phase.Idle = opens offer.Command 0 (omega arith)
     raises (phase.Offered o) = f
     raises phase.Command = kept-few (offerFor (kindOf (l .command)) (l .count))
     raises phase.Data = to (l .marks) (phase.Offered offer.Act) refl
@@ -293,14 +297,14 @@ module _ (t : Table) (cs : List ℕ) (l : State) (f : Fine t cs l) where
     acts =
         acted-cases Ok o l t
         (record {
-          overrun = λ e. idle-again _;
+          overrun = λ e. record { block = λ i. closes change.Keep _ _ _ as-it-is; no-block = λ i. idle-again _ };
           no-block = λ e f. idle-again _;
           buffer = λ e f. idle-again _;
           no-table = λ e f. idle-again _;
           table = λ e f. idle-again _;
           health = λ e f. idle-again _;
           read = λ b e. to (l .marks) _ (and-true (l .marks .known) _ (known b) (retry-ok _ (record { block = on-block b; sector = at-sector b; sum = omega (arith, f .bytes 4); spent = omega arith })));
-          latched = λ b e f. idle-again _;
+          latched = λ b e f. closes change.Keep _ _ _ as-it-is;
           listed = λ b e f g. to _ _ (and-true (l .marks .known) _ (known b) (on-present _ _ _ (on-block b) (at-sector b)));
           write = λ b e f g. to (l .marks) _ (and-true (l .marks .known) _ (known b) (and-true (isBlock (blockOf o .0)) _ (on-block b) (at-sector b)));
         })
@@ -369,9 +373,9 @@ module _ (t : Table) (cs : List ℕ) (l : State) (f : Fine t cs l) where
           gives-up = λ e y. idle-again _;
         })
 
-    stores : (a : ℕ) → Ok (storeAnswered l a)
+    store-told : (k : Close) (a : ℕ) → Ok (storeAnswered k l a)
     unfolding storeAnswered
-    stores a = record { table = f .table; shaped = f .shaped; noted = f .noted; causes = f .causes; count = omega arith; fed = omega arith; phase = refl; full = f .full; bytes = f .bytes }
+    store-told k a = idle-again _
 
     -- SPARING: a turn may try spare m of the table as it is by then.
     next-spare : (ch : Change) (m : ℕ) (b : Block) (s : Seen) {x y : Cause} → l .marks .known ≡ true → isBlock (b .0) ≡ true → Beside (changed ch t bs) (noted ch t cs bs) → changed ch t bs .nspares ≡ m
@@ -381,7 +385,7 @@ module _ (t : Table) (cs : List ℕ) (l : State) (f : Fine t cs l) where
           spare = λ e. onto k _ _ (and-true (l .marks .known) _ kn
               (trial-ok (changed ch t bs .nspares) (onSpare m b s x y)
               (record { block = i; sector = spare-sector m (ltb-true m 32 e); few = omega arith; fewer = omega arith; spot = rw (em, e) (eq-eqb (spareOf m .0) (spareOf m .0) refl) })));
-          no-spare = λ e. onto k _ phase.Idle refl;
+          no-spare = λ e. closes ch _ _ _ k;
         }
 
     module _ (kn : l .marks .known ≡ true) (r : Trial) (i : isBlock (r .block .0) ≡ true) (room : r .spare ≡ true → t .nspares < 32) where
@@ -393,14 +397,14 @@ module _ (t : Table) (cs : List ℕ) (l : State) (f : Fine t cs l) where
           }
 
       stops : Stopped Ok l r
-      stops = record { dead = λ z. onto (killed cause.NoSettle (room z)) _ phase.Idle refl; present = λ z. idle-again _ }
+      stops = record { dead = λ z. closes (change.Kill cause.NoSettle) _ _ _ (killed cause.NoSettle (room z)); present = λ z. closes change.Keep _ _ _ as-it-is }
 
       verifies : Verified Ok l t r
       verifies =
           record {
-            moved = λ z. onto (moved-on (r .block) (r .before) (r .present) i (room z)) _ phase.Idle refl;
-            listed = λ z y. onto (removed-from (r .block)) _ phase.Idle refl;
-            stays = λ z y. idle-again _;
+            moved = λ z. closes (change.Move (r .block) (r .before) (r .present)) _ _ _ (moved-on (r .block) (r .before) (r .present) i (room z));
+            listed = λ z y. closes (change.Remove (r .block)) _ _ _ (removed-from (r .block));
+            stays = λ z y. closes change.Keep _ _ _ as-it-is;
           }
 
     module _ (kn : l .marks .known ≡ true) (r : Trial) (w : TrialFacts (t .nspares) r) where
@@ -434,9 +438,9 @@ module _ (t : Table) (cs : List ℕ) (l : State) (f : Fine t cs l) where
       loses : (r : Retry) → isBlock (r .block .0) ≡ true → Lost Ok l t r v
       loses r i =
           record {
-            listed = λ q. idle-again _;
-            entered = λ q z. onto (entered-in (r .block) i q) _ phase.Idle refl;
-            full = λ q z. idle-again _;
+            listed = λ q. closes change.Keep _ _ _ as-it-is;
+            entered = λ q z. closes (change.Enter (r .block)) _ _ _ (entered-in (r .block) i q);
+            full = λ q z. closes change.Keep _ _ _ as-it-is;
           }
 
       -- Of a retry that goes on, its sum is left to show, and its cost where a reread is left.
@@ -447,8 +451,8 @@ module _ (t : Table) (cs : List ℕ) (l : State) (f : Fine t cs l) where
             reread = λ e. again (c (ltb-true 0 (r .left) e));
             settles = λ e z. settled-cases Ok l r v
                 (record {
-                  below = λ e. idle-again _;
-                  latched = λ e z. idle-again _;
+                  below = λ e. closes change.Keep _ _ _ as-it-is;
+                  latched = λ e z. closes change.Keep _ _ _ as-it-is;
                   tries = λ e z. to _ _ (and-true (l .marks .known) _ kn (on-present _ _ _ i s));
                 });
             further = λ e z y. again (omega (arith, ltb-true (r .spent) 90 y));
@@ -481,16 +485,16 @@ module _ (t : Table) (cs : List ℕ) (l : State) (f : Fine t cs l) where
     reads-on kn r w a v =
         after-read-cases (OkRead kn v) r a
         (record {
-          done = λ e z. idle-again _;
+          done = λ e z. closes change.Keep _ _ _ as-it-is;
           passes = λ e z. goes-on kn v (passed r) (w .block) (w .sector) (omega (arith, w .sum)) (λ y. w .spent);
-          stops = λ e z. idle-again _;
+          stops = λ e z. closes change.Keep _ _ _ as-it-is;
           fails = λ e z. goes-on kn v (failed r a) (w .block) (w .sector) (fails-sum r a w) (fails-cost r a w);
         })
 
     follow : (x : Access) → accessOk (t .nspares) (l .marks .known) x ≡ true → (a : ℕ) (q : Bool) → Ok (follows x l t a bs q)
     unfolding follows
     follow (access.Start k) h a q = starts k a
-    follow access.Store h a q = stores a
+    follow (access.Store k) h a q = store-told k a
     follow (access.Read r) h a q = reads-on (and-left (l .marks .known) (retryOk r) h) r (retry-facts r (and-right (l .marks .known) (retryOk r) h)) a _
     follow (access.Write w) h a q =
         let k = and-left (l .marks .known) (targetOk w) h in
@@ -498,8 +502,8 @@ module _ (t : Table) (cs : List ℕ) (l : State) (f : Fine t cs l) where
         write-cases Ok l t w a
         (record {
           verifies = λ e z. to (l .marks) (phase.Awaiting (access.Verify w)) h;
-          done = λ e z. idle-again _;
-          stops = λ e z. idle-again _;
+          done = λ e z. closes change.Keep _ _ _ as-it-is;
+          stops = λ e z. closes change.Keep _ _ _ as-it-is;
           moves = λ e z. next-spare change.Keep (t .nspares) (w .block) _ k (and-left (isBlock (w .block .0)) (isSector (w .sector .0)) x) as-it-is refl;
         })
     follow (access.Verify w) h a q =
@@ -507,7 +511,7 @@ module _ (t : Table) (cs : List ℕ) (l : State) (f : Fine t cs l) where
         let x = and-right (l .marks .known) (targetOk w) h in
         let i = isBlock (w .block .0) in
         let j = isSector (w .sector .0) in
-        verify-cases Ok l w a q (record { stops = λ e. idle-again _; done = λ e z. idle-again _; fails = λ e z. to _ _ (and-true (l .marks .known) _ k (on-present _ _ _ (and-left i j x) (and-right i j x))) })
+        verify-cases Ok l w a q (record { stops = λ e. closes change.Keep _ _ _ as-it-is; done = λ e z. closes change.Keep _ _ _ as-it-is; fails = λ e z. to _ _ (and-true (l .marks .known) _ k (on-present _ _ _ (and-left i j x) (and-right i j x))) })
     follow (access.TrialWrite r) h a q = tries (and-left (l .marks .known) (trialOk (t .nspares) r) h) r (trial-facts (t .nspares) r (and-right (l .marks .known) (trialOk (t .nspares) r) h)) a
     follow (access.TrialRead r) h a q = checks (and-left (l .marks .known) (trialOk (t .nspares) r) h) r (trial-facts (t .nspares) r (and-right (l .marks .known) (trialOk (t .nspares) r) h)) a q
 

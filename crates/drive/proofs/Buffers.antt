@@ -9,7 +9,7 @@ use Rattle.drive.specs.declared.Drive.{Drive}
 use Rattle.drive.specs.declared.Answer.the-variants as answer
 use Rattle.drive.specs.Calls.{Call, raise, lower, feed, surface, reset, startOf, imageOutOf}
 use Rattle.drive.proofs.Computing.{computed}
-use Rattle.drive.proofs.Examples.{ready, run, asks, crc, good, timeout}
+use Rattle.drive.proofs.Examples.{ready, run, asks, crc, good, timeout, done}
 
 -- Lends a buffer of a status 1, 2, 3, 4 and fives.
 abbrev lent : List ℕ
@@ -33,9 +33,6 @@ short = 9 ∷ 8 ∷ replicate 530 0
 abbrev readsNumber : ℕ → List Call
 readsNumber n = raise ∷ lower 0x55 ∷ feed (0 ∷ 255 ∷ 255 ∷ n ∷ 0 ∷ 0 ∷ []) ∷ raise ∷ lower 0x55 ∷ []
 
-abbrev done : Call
-done = surface 0 []
-
 -- "The four status bytes are written at the finish and not before."
 pub record StatusKept : Type 0 where
   pub asked : after (asks 2 1 []) ≡ lent
@@ -52,6 +49,7 @@ pub record StatusKept : Type 0 where
   pub to-verify : after (writes 2 (done ∷ [])) ≡ 1 ∷ 2 ∷ 3 ∷ 4 ∷ short
   pub verify-failed : after (writes 2 (done ∷ crc ∷ [])) ≡ 1 ∷ 2 ∷ 3 ∷ 4 ∷ short
   pub to-a-spare : after (writes 2 (done ∷ crc ∷ timeout ∷ [])) ≡ 1 ∷ 2 ∷ 3 ∷ 4 ∷ short
+  pub to-store : after (asks 0 0 (replicate 11 timeout)) ≡ lent
   pub at-rest : after (raise ∷ lower 0x55 ∷ feed (1 ∷ []) ∷ reset ∷ []) ≡ lent
 
 pub status-kept : StatusKept
@@ -71,13 +69,14 @@ status-kept =
       to-verify = refl;
       verify-failed = refl;
       to-a-spare = refl;
+      to-store = refl;
       at-rest = refl;
     }
 
 -- A finish writes the status, and the data part as its rule says.
 pub record StatusWritten : Type 0 where
   pub read : after (asks 0 0 (good ∷ [])) ≡ 0 ∷ 0 ∷ 0 ∷ 0 ∷ replicate 532 7
-  pub lost : after (asks 0 0 (replicate 11 timeout)) ≡ 5 ∷ 0 ∷ 0 ∷ 0 ∷ replicate 532 5
+  pub lost : after (asks 0 0 (replicate 11 timeout ++ (done ∷ []))) ≡ 5 ∷ 0 ∷ 0 ∷ 0 ∷ replicate 532 5
   pub written : after (writes 1 (done ∷ [])) ≡ 0 ∷ 0 ∷ 0 ∷ 0 ∷ short
   pub verified : after (writes 2 (done ∷ surface 0 short ∷ [])) ≡ 0 ∷ 0 ∷ 0 ∷ 0 ∷ short
   pub broken-off : after (raise ∷ lower 0xAA ∷ []) ≡ 0x80 ∷ 0 ∷ 0 ∷ 0 ∷ replicate 532 5
@@ -85,14 +84,15 @@ pub record StatusWritten : Type 0 where
   pub of-FFFFFF : after (readsNumber 0xFF) ≡ 0 ∷ 0 ∷ 0 ∷ 0 ∷ formA [] []
   pub of-FFFFFD : after (readsNumber 0xFD) ≡ 0 ∷ 0 ∷ 0 ∷ 0 ∷ 32 ∷ 0 ∷ 0 ∷ 0 ∷ replicate 528 0
   pub of-no-number : after (readsNumber 0xFC) ≡ 1 ∷ 0 ∷ 0x40 ∷ 0 ∷ replicate 532 5
-  -- the store leaves the buffer of the read that was lost
-  pub stored : after (asks 0 0 (replicate 11 timeout ++ (raise ∷ done ∷ []))) ≡ 5 ∷ 0 ∷ 0 ∷ 0 ∷ replicate 532 5
+  -- the store's answer leaves the data part, whatever it is
+  pub unstored : after (asks 0 0 (replicate 11 timeout ++ (timeout ∷ []))) ≡ 0x05 ∷ 0 ∷ 0 ∷ 0 ∷ replicate 532 5
+  pub unsettled : after (asks 0 0 (replicate 11 timeout ++ (surface 3 [] ∷ []))) ≡ 0x15 ∷ 0 ∷ 0 ∷ 0 ∷ replicate 532 5
 
 pub status-written : StatusWritten
 unfolding computed
-status-written = record { read = refl; lost = refl; written = refl; verified = refl; broken-off = refl; of-FFFFFE = refl; of-FFFFFF = refl; of-FFFFFD = refl; of-no-number = refl; stored = refl }
+status-written = record { read = refl; lost = refl; written = refl; verified = refl; broken-off = refl; of-FFFFFE = refl; of-FFFFFF = refl; of-FFFFFD = refl; of-no-number = refl; unstored = refl; unsettled = refl }
 
--- Holds a drive whose read of block 0 was lost: the block is in the bad list.
+-- Holds a drive whose read of block 0 was lost: the block is in the bad list, and the store is awaited.
 abbrev lostBlock : Drive
 lostBlock = run ready lent (asks 0 0 (replicate 11 timeout)) .step .drive
 
@@ -101,7 +101,7 @@ pub record OtherCalls : Type 0 where
   pub start : (d : Drive) → startOf d lent .bytes ≡ replicate 536 0
   pub start-refused : (d : Drive) → startOf d (replicate 535 5) .bytes ≡ replicate 535 5
   pub image : imageOutOf ready (replicate 532 5) .bytes ≡ formB 0 [] [] []
-  pub image-of-a-bad-list : imageOutOf lostBlock (replicate 532 5) .bytes ≡ formB 0 [] [] (0 ∷ [])
+  pub image-for-the-store : imageOutOf lostBlock (replicate 532 5) .bytes ≡ formB 1 [] [] (0 ∷ [])
   pub image-keeps-the-record : imageOutOf ready (replicate 532 5) .step .drive ≡ ready
   -- "in any phase, a busy one included"
   pub image-while-busy : imageOutOf (run ready lent (asks 2 1 []) .step .drive) (replicate 532 5) .step .answer ≡ answer.Wait
@@ -118,7 +118,7 @@ other-calls =
       start = λ d. refl;
       start-refused = λ d. refl;
       image = refl;
-      image-of-a-bad-list = refl;
+      image-for-the-store = refl;
       image-keeps-the-record = refl;
       image-while-busy = refl;
       image-refused = refl;

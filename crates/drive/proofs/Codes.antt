@@ -10,12 +10,15 @@ use Rattle.drive.specs.declared.Cause.the-variants as cause
 use Rattle.drive.specs.declared.Drive.{Drive}
 use Rattle.drive.specs.declared.Target.{Target}
 use Rattle.drive.specs.declared.Trial.{Trial}
+use Rattle.drive.specs.declared.Close.{Close}
+use Rattle.drive.specs.declared.Ending.the-variants as ending
 use Rattle.drive.specs.declared.Offer.the-variants as offer
 use Rattle.drive.specs.declared.Access.{Access}
 use Rattle.drive.specs.declared.Access.the-variants as access
 use Rattle.drive.specs.declared.Phase.{Phase}
 use Rattle.drive.specs.declared.Phase.the-variants as phase
 use Rattle.drive.specs.Records.{recordOk}
+use Rattle.drive.specs.Results.{clean}
 use Rattle.drive.specs.Calls.{Call, raise, lower, feed, surface, reset, stepOf, imageOutOf}
 use Rattle.drive.specs.Views.{ofAnswer}
 use Rattle.drive.proofs.Computing.{computed}
@@ -33,7 +36,7 @@ with t known n f p =
     record {
       table = t;
       causes = replicate 32 0;
-      state = record { phase = p; marks = record { known = known; changed = false; latch = false; fresh = false }; command = replicate 6 0; count = n; fed = f; run = 0 };
+      state = record { phase = p; marks = record { known = known; changed = false; moved = false; latch = false; fresh = false }; command = replicate 6 0; count = n; fed = f; run = 0 };
     }
 
 -- Returns one with empty lists and the most bytes that code 1 lets pass.
@@ -76,6 +79,10 @@ trialOf b s spare n k =
       present = cause.Unknown;
     }
 
+-- Holds the end of a command that was good.
+abbrev pub close : Close
+close = record { ending = ending.Good; seen = clean }
+
 abbrev Passes : Drive → Type 0
 Passes d = recordOk d ≡ true
 
@@ -94,7 +101,7 @@ pub record Code1 : Type 0 where
   -- "start reads above 10"; a start has no table
   pub start-reads : Passes (awaiting false (access.Start 10)) × Fails (awaiting false (access.Start 11))
   -- "any access but the start's awaited with no table"
-  pub store : Passes (awaiting true access.Store) × Fails (awaiting false access.Store)
+  pub store : Passes (awaiting true (access.Store close)) × Fails (awaiting false (access.Store close))
   pub read : Passes (awaiting true (retry 9727 9791 100 155 89)) × Fails (awaiting false (retry 9727 9791 100 155 89))
   pub write : Passes (awaiting true (access.Write (target 9727 9791))) × Fails (awaiting false (access.Write (target 9727 9791)))
   pub verify : Passes (awaiting true (access.Verify (target 9727 9791))) × Fails (awaiting false (access.Verify (target 9727 9791)))
@@ -189,7 +196,7 @@ unstored =
     record {
       table = table [] 0 [] 0;
       causes = replicate 32 0;
-      state = record { phase = phase.Idle; marks = record { known = true; changed = true; latch = false; fresh = false }; command = replicate 6 0; count = 0; fed = 0; run = 0 };
+      state = record { phase = phase.Idle; marks = record { known = true; changed = true; moved = false; latch = false; fresh = false }; command = replicate 6 0; count = 0; fed = 0; run = 0 };
     }
 
 pub record InOrder : Type 0 where
@@ -215,8 +222,8 @@ pub record InOrder : Type 0 where
   -- Tests 4 before 5, for a read and for a write.
   pub then-4 :
       (codeOfCall (surface 4 (7 ∷ [])) starting 536 ≡ 4)
-      × (codeOfCall (surface 1 (7 ∷ [])) (awaiting true access.Store) 536 ≡ 4)
-  pub then-5 : (codeOfCall (surface 3 (7 ∷ [])) starting 536 ≡ 5) × (codeOfCall (surface 0 (7 ∷ [])) (awaiting true access.Store) 536 ≡ 5)
+      × (codeOfCall (surface 1 (7 ∷ [])) (awaiting true (access.Store close)) 536 ≡ 4)
+  pub then-5 : (codeOfCall (surface 3 (7 ∷ [])) starting 536 ≡ 5) × (codeOfCall (surface 0 (7 ∷ [])) (awaiting true (access.Store close)) 536 ≡ 5)
   -- Gives none where a call is taken, whatever it answers.
   pub none :
       (codeOfCall (surface 3 []) starting 536 ≡ 0)

@@ -1,4 +1,4 @@
--- The pieces of forged lists of entries, what the rules of the history cannot be met with, and a test that they are met. Blocks
+-- The pieces of forged lists of lines, what the rules of the history cannot be met with, and a test that they are met. Blocks
 -- are one byte and zeros here.
 use mathlib.Core.Path.{_≡_, refl, ap, sym}
 use mathlib.Core.Logic.{inl, inr}
@@ -18,17 +18,17 @@ use Rattle.drive.specs.declared.Answer.{Answer}
 use Rattle.drive.specs.declared.Answer.the-variants as answer
 use Rattle.drive.specs.Words.{dataOf, blockOf}
 use Rattle.drive.specs.Calls.{Call, raise, feed, surface}
-use Rattle.drive.specs.History.{held, Sectors, Entry, History, isAt, orElse, In, next, order, goodRead, firstAccess, Fits, Apart, Allows}
+use Rattle.drive.specs.History.{held, Sectors, Entry, Line, entry, restart, History, isAt, orElse, In, past, order, goodRead, firstAccess, Fits, FitsLine, Apart, Allows}
 use Rattle.drive.specs.Views.{Bytes, Where, nowhere, at, ofAnswer}
 use Rattle.drive.proofs.Lasts.{AtLast, at-last, differ}
 use Rattle.drive.proofs.Transcripts.{sameWhere, same-where, sector, go, done, timesOut, command}
 
--- Says what the rules ask at an entry, and at the last one of a list.
-abbrev pub Asks : Sectors → History → Entry → Type 0
-Asks start H o = Fits H o × Apart (next start H o .place)
+-- Says what the rules ask at a line, and at the last one of a list.
+abbrev pub Asks : Sectors → History → Line → Type 0
+Asks start H x = FitsLine H x × Apart (past start H x .place)
 
-pub last-asks : (start : Sectors) (H : History) (os : List Entry) → Allows start H os → AtLast (next start) (Asks start) H os
-last-asks start H os a = at-last (next start) (Asks start) (Allows start) (λ H o os a. (a .0, a .1)) (λ H o os a. a .2) H os a
+pub last-asks : (start : Sectors) (H : History) (xs : List Line) → Allows start H xs → AtLast (past start) (Asks start) H xs
+last-asks start H xs a = at-last (past start) (Asks start) (Allows start) (λ H x xs a. (a .0, a .1)) (λ H x xs a. a .2) H xs a
 
 -- Returns a block of one byte and zeros.
 abbrev pub block : ℕ → Bytes
@@ -63,17 +63,17 @@ abbrev pub sevens : Sectors
 sevens = λ s. held (block 7)
 
 -- Returns an entry with zeros in its buffer, and a finish with status 1, status 2 and the first data byte.
-abbrev pub says : Call → Answer → Entry
-says c a = record { call = c; answer = a; buffer = replicate 536 0 }
+abbrev pub says : Call → Answer → Line
+says c a = entry (record { call = c; answer = a; buffer = replicate 536 0 })
 
-abbrev pub ends : Call → ℕ → ℕ → ℕ → Entry
-ends c s t v = record { call = c; answer = answer.Finished; buffer = s ∷ t ∷ 0 ∷ 0 ∷ block v }
+abbrev pub ends : Call → ℕ → ℕ → ℕ → Line
+ends c s t v = entry (record { call = c; answer = answer.Finished; buffer = s ∷ t ∷ 0 ∷ 0 ∷ block v })
 
 -- Returns an entry that leaves these bytes in the data part.
-abbrev pub shows : Bytes → Call → Answer → Entry
-shows x c a = record { call = c; answer = a; buffer = 0 ∷ 0 ∷ 0 ∷ 0 ∷ x }
+abbrev pub shows : Bytes → Call → Answer → Line
+shows x c a = entry (record { call = c; answer = a; buffer = 0 ∷ 0 ∷ 0 ∷ 0 ∷ x })
 
-abbrev pub offers : Offer → Entry
+abbrev pub offers : Offer → Line
 offers o = says raise (answer.Offer o)
 
 abbrev pub reads : ℕ → Answer
@@ -90,36 +90,36 @@ abbrev pub garbles : ℕ → Call
 garbles v = surface 1 (block v)
 
 -- Finds a table with these spares at the start; or none, with an image that came with answer 1 and bytes that are no image.
-abbrev pub found : List ℕ → List Entry
+abbrev pub found : List ℕ → List Line
 found spares = says (surface 0 (formA spares [])) answer.Wait ∷ []
 
-abbrev pub foundNone : List Entry
+abbrev pub foundNone : List Line
 foundNone = says (surface 1 (formA [] [])) (reads 4960) ∷ says (gives 9) answer.Wait ∷ []
 
 -- Asks for a read of block n, up to the offer after which it is acted on.
-abbrev pub asksRead : ℕ → List Entry
+abbrev pub asksRead : ℕ → List Line
 asksRead n = offers offer.Command ∷ says go answer.Wait ∷ says (feed (command 0 n (2 ∷ 2 ∷ []))) answer.Wait ∷ offers offer.Read ∷ []
 
 -- Asks for a write to block n, up to offer 03.
-abbrev pub opensWrite : ℕ → List Entry
+abbrev pub opensWrite : ℕ → List Line
 opensWrite n = offers offer.Command ∷ says go answer.Wait ∷ says (feed (command 1 n [])) answer.Wait ∷ offers offer.Write ∷ []
 
 -- Asks for a write of a byte to block n, and to block 17, up to the offer after which it is acted on.
-abbrev pub asksWriteTo : ℕ → ℕ → List Entry
+abbrev pub asksWriteTo : ℕ → ℕ → List Line
 asksWriteTo n v = opensWrite n ++ (says go answer.Wait ∷ says (feed (v ∷ [])) answer.Wait ∷ offers offer.Act ∷ [])
 
-abbrev pub asksWrite : ℕ → List Entry
+abbrev pub asksWrite : ℕ → List Line
 asksWrite v = asksWriteTo 17 v
 
 -- Makes whole commands for block 17, reported good.
-abbrev pub readsGood : ℕ → List Entry
+abbrev pub readsGood : ℕ → List Line
 readsGood v = asksRead 17 ++ (says go (reads 17) ∷ ends (gives v) 0x00 0x00 v ∷ [])
 
-abbrev pub writesGood : ℕ → List Entry
+abbrev pub writesGood : ℕ → List Line
 writesGood v = asksWrite v ++ (says go (writes 17) ∷ ends done 0x00 0x00 v ∷ [])
 
 -- Makes a read of block 17 that fails with its last read at spare 0.
-abbrev pub movesInVain : List Entry
+abbrev pub movesInVain : List Line
 movesInVain = asksRead 17 ++ (says go (reads 17) ∷ says (garbles 9) (reads 4928) ∷ ends timesOut 0x0D 0x00 7 ∷ [])
 
 -- A TEST OF THE RULES
@@ -134,9 +134,14 @@ passes H o =
     (not (goodRead H o) || isIn (dataOf (o .buffer)) (H .candidates (blockOf (order H))))
     && (not (firstAccess H o) || (isBlock (order H .number) && sameWhere (H .place (blockOf (order H))) (orElse (ofAnswer (o .answer) .read) (ofAnswer (o .answer) .write))))
 
-abbrev pub allPass : Sectors → History → List Entry → Bool
+-- Tests a line: at a start there is nothing to test.
+abbrev pub passesLine : History → Line → Bool
+passesLine H (entry o) = passes H o
+passesLine H (restart a) = true
+
+abbrev pub allPass : Sectors → History → List Line → Bool
 allPass start H [] = true
-allPass start H (o ∷ os) = passes H o && allPass start (next start H o) os
+allPass start H (x ∷ xs) = passesLine H x && allPass start (past start H x) xs
 
 is-in : (y : Bytes) (xs : List Bytes) → isIn y xs ≡ true → In y xs
 is-in y [] h = clash h refl
@@ -166,13 +171,17 @@ fits-by-test H o h =
           );
     }
 
-abbrev pub AllFit : Sectors → History → List Entry → Type 0
-AllFit start H [] = Unit {0}
-AllFit start H (o ∷ os) = Fits H o × AllFit start (next start H o) os
+line-by-test : (H : History) (x : Line) → passesLine H x ≡ true → FitsLine H x
+line-by-test H (entry o) h = fits-by-test H o h
+line-by-test H (restart a) h = tt
 
-pub all-fit : (start : Sectors) (H : History) (os : List Entry) → allPass start H os ≡ true → AllFit start H os
+abbrev pub AllFit : Sectors → History → List Line → Type 0
+AllFit start H [] = Unit {0}
+AllFit start H (x ∷ xs) = FitsLine H x × AllFit start (past start H x) xs
+
+pub all-fit : (start : Sectors) (H : History) (xs : List Line) → allPass start H xs ≡ true → AllFit start H xs
 all-fit start H [] h = tt
-all-fit start H (o ∷ os) h = (
-  fits-by-test H o (and-left (passes H o) (allPass start (next start H o) os) h),
-  all-fit start (next start H o) os (and-right (passes H o) (allPass start (next start H o) os) h),
+all-fit start H (x ∷ xs) h = (
+  line-by-test H x (and-left (passesLine H x) (allPass start (past start H x) xs) h),
+  all-fit start (past start H x) xs (and-right (passesLine H x) (allPass start (past start H x) xs) h),
 )

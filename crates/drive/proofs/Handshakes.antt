@@ -1,6 +1,6 @@
 -- Handshakes, computed: no table, numbers of no block, commands broken off or dropped, resets, calls out of place.
 use mathlib.Core.Path.{_≡_, refl}
-use mathlib.Core.Bool.{false}
+use mathlib.Core.Bool.{true, false}
 use mathlib.Core.List.{List, [], _∷_, _++_}
 use lib.ListN.{replicate}
 use Rattle.lists.specs.Lists.{dead}
@@ -8,9 +8,10 @@ use Rattle.image.specs.FormA.{formA}
 use Rattle.drive.specs.declared.Drive.{Drive}
 use Rattle.drive.specs.Calls.{raise, lower, feed, surface, reset}
 use Rattle.drive.specs.History.{held}
+use Rattle.drive.specs.Run.{afterAll}
 use Rattle.drive.specs.Views.{nowhere}
 use Rattle.drive.proofs.Computing.{computed}
-use Rattle.drive.proofs.Transcripts.{Exchange, _⇒_, Run, Happens, happens, bytes, disk, sector, go, gives, done, garbles, timesOut, found, opens, command, asksRead, asksWrite, asksTable, elevenTimeouts, wait, offer, read, write, store, finished, refused, ended, from, calls, unsettled}
+use Rattle.drive.proofs.Transcripts.{Exchange, _⇒_, Run, Happens, happens, bytes, disk, sector, go, gives, done, garbles, timesOut, found, opens, stored, command, asksRead, asksWrite, asksTable, tenTimeouts, elevenTimeouts, wait, offer, read, write, store, finished, refused, from, calls, unsettled}
 
 -- Ten reads of the start fail: bytes that are no image, an image with answer 1, timeouts. With no table FFFFFE is good, and too
 -- many data bytes are told before all else; 600 count as 533.
@@ -35,7 +36,7 @@ pub with-no-table-reads-and-writes-fail : (old : Drive) → Happens old noTable
 unfolding computed
 with-no-table-reads-and-writes-fail old = happens old noTable refl
 
-pub no-table-latches-nothing : (old : Drive) → ended (from old noTable) (calls noTable) .drive .state .marks .latch ≡ false
+pub no-table-latches-nothing : (old : Drive) → afterAll (from old noTable) (calls noTable) .drive .state .marks .latch ≡ false
 unfolding computed
 no-table-latches-nothing old = refl
 
@@ -98,18 +99,18 @@ pub a-wrong-byte-leaves-the-first-finish-due : (old : Drive) → Happens old wro
 unfolding computed
 a-wrong-byte-leaves-the-first-finish-due old = happens old wrongByteFirst refl
 
--- Short commands and an unknown opcode are dropped, with no store in between. Seven bytes come in
--- three pieces, and the seventh is ignored.
+-- Short commands and an unknown opcode are dropped, with no store in between, though a change is unstored. Seven bytes come in
+-- three pieces, and the seventh is ignored; that command stores.
 abbrev dropped : Run
 dropped =
     record {
       sectors = disk [] [];
       exchanges =
-          found [] [] ++ elevenTimeouts ++ (raise ⇒ store ∷ timesOut ⇒ offer 0x01 ∷ [])
+          found [] [] ++ elevenTimeouts timesOut (finished 0x05 0x00 0x80 0) ++ opens
           ++ (go ⇒ wait ∷ feed (0 ∷ 0 ∷ 0 ∷ 17 ∷ 0 ∷ []) ⇒ wait ∷ raise ⇒ offer 0x01 ∷ go ⇒ wait ∷ feed (1 ∷ 0 ∷ 0 ∷ []) ⇒ wait ∷ raise ⇒ offer 0x01 ∷ [])
           ++ (go ⇒ wait ∷ feed (2 ∷ 0 ∷ 0 ∷ []) ⇒ wait ∷ raise ⇒ offer 0x01 ∷ go ⇒ wait ∷ feed (3 ∷ 0 ∷ 0 ∷ 17 ∷ 0 ∷ 0 ∷ []) ⇒ wait ∷ raise ⇒ offer 0x01 ∷ [])
           ++ (go ⇒ wait ∷ feed (0 ∷ 0 ∷ []) ⇒ wait ∷ feed (0 ∷ 17 ∷ 1 ∷ []) ⇒ wait ∷ feed (2 ∷ 9 ∷ []) ⇒ wait ∷ raise ⇒ offer 0x02 ∷ [])
-          ++ (go ⇒ read 17 ∷ garbles 9 ⇒ read 17 ∷ gives 7 ⇒ finished 0x08 0x00 0x00 0 ∷ []);
+          ++ (go ⇒ read 17 ∷ garbles 9 ⇒ read 17 ∷ []) ++ stored (gives 7) (finished 0x08 0x00 0x00 0);
       part = bytes 7;
       place = sector 17;
       candidates = bytes 7 ∷ [];
@@ -145,18 +146,17 @@ resets =
     record {
       sectors = disk [] [];
       exchanges =
-          found [] [] ++ elevenTimeouts ++ (raise ⇒ store ∷ timesOut ⇒ offer 0x01 ∷ go ⇒ wait ∷ feed (1 ∷ []) ⇒ wait ∷ reset ⇒ wait ∷ [])
-          ++ (raise ⇒ store ∷ timesOut ⇒ offer 0x01 ∷ [])
+          found [] [] ++ elevenTimeouts timesOut (finished 0x05 0x00 0x80 0) ++ opens ++ (go ⇒ wait ∷ feed (1 ∷ []) ⇒ wait ∷ reset ⇒ wait ∷ []) ++ opens
           ++ (go ⇒ wait ∷ feed (command 1 17 []) ⇒ wait ∷ raise ⇒ offer 0x03 ∷ go ⇒ wait ∷ feed (bytes 3) ⇒ wait ∷ reset ⇒ wait ∷ reset ⇒ wait ∷ [])
-          ++ (raise ⇒ store ∷ done ⇒ offer 0x01 ∷ reset ⇒ wait ∷ []) ++ opens ++ asksRead 0xFFFFFE 0 0 ++ (go ⇒ finished 0x00 0x00 0x80 0 ∷ []);
+          ++ opens ++ (reset ⇒ wait ∷ []) ++ opens ++ asksRead 0xFFFFFE 0 0 ++ (go ⇒ finished 0x00 0x00 0x80 0 ∷ []);
       part = bytes 3;
       place = sector 17;
       candidates = bytes 7 ∷ [];
     }
 
-pub resets-keep-table-mark-and-buffer : (old : Drive) → Happens old resets
+pub resets-keep-table-mark-and-buffer : (old : Drive) → Happens old resets × (afterAll (from old resets) (calls resets) .drive .state .marks .changed ≡ true)
 unfolding computed
-resets-keep-table-mark-and-buffer old = happens old resets refl
+resets-keep-table-mark-and-buffer old = (happens old resets refl, refl)
 
 -- Calls out of place, answers above 3 and bytes of a wrong length come among the calls of one write.
 abbrev refusedAmong : Run
@@ -188,8 +188,8 @@ busy =
     record {
       sectors = disk [] [];
       exchanges =
-          allRefused ++ found [] [] ++ elevenTimeouts ++ (raise ⇒ store ∷ []) ++ allRefused ++ (gives 9 ⇒ refused 5 ∷ garbles 9 ⇒ refused 4 ∷ done ⇒ offer 0x01 ∷ [])
-          ++ asksWrite 2 18 (bytes 1) ++ (go ⇒ write 18 ∷ []) ++ allRefused ++ (done ⇒ read 18 ∷ []) ++ allRefused
+          allRefused ++ found [] [] ++ tenTimeouts ++ (timesOut ⇒ store ∷ []) ++ allRefused
+          ++ (gives 9 ⇒ refused 5 ∷ garbles 9 ⇒ refused 4 ∷ done ⇒ finished 0x05 0x00 0x80 0 ∷ []) ++ opens ++ asksWrite 2 18 (bytes 1) ++ (go ⇒ write 18 ∷ []) ++ allRefused ++ (done ⇒ read 18 ∷ []) ++ allRefused
           ++ (done ⇒ refused 5 ∷ gives 1 ⇒ finished 0x00 0x00 0x00 0 ∷ []);
       part = bytes 1;
       place = sector 17;
@@ -273,7 +273,7 @@ pub answer-3-ends-a-start : (old : Drive) → Happens old startUnsettled
 unfolding computed
 answer-3-ends-a-start old = happens old startUnsettled refl
 
-pub answer-3-to-a-start-latches-nothing : (old : Drive) → ended (from old startUnsettled) (calls startUnsettled) .drive .state .marks .latch ≡ false
+pub answer-3-to-a-start-latches-nothing : (old : Drive) → afterAll (from old startUnsettled) (calls startUnsettled) .drive .state .marks .latch ≡ false
 unfolding computed
 answer-3-to-a-start-latches-nothing old = refl
 

@@ -4,11 +4,10 @@ use mathlib.Core.List.{[], _∷_, _++_}
 use lib.ListN.{replicate}
 use Rattle.lists.specs.Lists.{dead}
 use Rattle.drive.specs.declared.Drive.{Drive}
-use Rattle.drive.specs.Calls.{raise}
 use Rattle.drive.specs.History.{held}
 use Rattle.drive.specs.Views.{nowhere}
 use Rattle.drive.proofs.Computing.{computed}
-use Rattle.drive.proofs.Transcripts.{_⇒_, Run, Happens, happens, bytes, disk, sector, go, gives, timesOut, unsettled, found, opens, stores, asksRead, asksWrite, asksHealth, healthBlock, elevenTimeouts, wait, offer, read, write, store, finished}
+use Rattle.drive.proofs.Transcripts.{_⇒_, Run, Happens, happens, bytes, disk, sector, go, gives, done, timesOut, unsettled, found, opens, asksRead, asksWrite, asksHealth, healthBlock, elevenTimeouts, wait, read, write, finished}
 
 -- After a read that left sevens in the data part. Two spares are used, one of them dead, and three blocks are bad.
 abbrev healthOfLists : Run
@@ -48,7 +47,7 @@ abbrev healthUnstored : Run
 healthUnstored =
     record {
       sectors = disk [] [];
-      exchanges = found [] [] ++ elevenTimeouts ++ (raise ⇒ store ∷ timesOut ⇒ offer 0x01 ∷ []) ++ asksHealth 0x00;
+      exchanges = found [] [] ++ elevenTimeouts timesOut (finished 0x05 0x00 0x80 0) ++ opens ++ asksHealth 0x00;
       part = healthBlock 32 1 0 1;
       place = sector 17;
       candidates = bytes 7 ∷ [];
@@ -63,7 +62,7 @@ abbrev healthStored : Run
 healthStored =
     record {
       sectors = disk [] [];
-      exchanges = found [] [] ++ elevenTimeouts ++ stores ++ asksHealth 0x00;
+      exchanges = found [] [] ++ elevenTimeouts done (finished 0x05 0x00 0x80 0) ++ opens ++ asksHealth 0x00;
       part = healthBlock 32 1 0 0;
       place = sector 17;
       candidates = bytes 7 ∷ [];

@@ -7,7 +7,7 @@ use Rattle.image.specs.FormA.{formA}
 use Rattle.drive.specs.declared.Drive.{Drive}
 use Rattle.drive.specs.Calls.{reset}
 use Rattle.drive.proofs.Computing.{computed}
-use Rattle.drive.proofs.Transcripts.{_⇒_, Run, Happens, happens, bytes, disk, sector, go, gives, done, garbles, timesOut, unsettled, found, opens, stores, asksRead, asksWrite, asksTable, wait, read, write, finished, _⇏_}
+use Rattle.drive.proofs.Transcripts.{_⇒_, Run, Happens, happens, bytes, disk, sector, go, gives, done, garbles, timesOut, unsettled, found, opens, stored, asksRead, asksWrite, asksTable, wait, read, write, finished, _⇏_}
 
 -- Answer 3 kills the spare under trial. Then a write, a rewrite at the threshold and the store are not made.
 abbrev pub latched : Run
@@ -159,8 +159,8 @@ notLatched =
       exchanges =
           found (replicate 32 dead) [] ++ opens ++ asksWrite 1 17 (replicate 533 4) ++ (go ⇒ finished 0x41 0x00 0x80 0 ∷ [])
           ++ opens ++ asksRead 9728 0 0 ++ (go ⇒ finished 0x01 0x00 0x40 0 ∷ [])
-          ++ opens ++ asksRead 18 0 1 ++ (go ⇒ read 18 ∷ []) ++ replicate 10 (timesOut ⇒ read 18) ++ (timesOut ⇒ finished 0x05 0x00 0x00 0 ∷ [])
-          ++ stores ++ asksWrite 2 17 (bytes 1) ++ (go ⇒ write 17 ∷ timesOut ⇒ finished 0x05 0x40 0x00 0 ∷ [])
+          ++ opens ++ asksRead 18 0 1 ++ (go ⇒ read 18 ∷ []) ++ replicate 10 (timesOut ⇒ read 18) ++ stored timesOut (finished 0x05 0x00 0x00 0)
+          ++ opens ++ asksWrite 2 17 (bytes 1) ++ (go ⇒ write 17 ∷ timesOut ⇒ finished 0x05 0x40 0x00 0 ∷ [])
           ++ opens ++ asksWrite 1 17 (bytes 2) ++ (go ⇒ write 17 ∷ done ⇒ finished 0x00 0x00 0x00 0 ∷ []);
       part = bytes 2;
       place = sector 17;

@@ -7,6 +7,8 @@ pub mod Codes
 pub mod Verifies
 pub mod Rereads
 pub mod BadList
+pub mod Stores
+pub mod Cuts
 pub mod Latch
 pub mod Handshakes
 pub mod ShortData
@@ -16,6 +18,7 @@ pub mod Lasts
 pub mod SurfaceRules
 pub mod Forging
 pub mod Forged
+pub mod CutsForged
 pub mod ViewsForged
 pub mod MadeForged
 pub mod ToldForged

@@ -1,4 +1,4 @@
--- A write reported good must have been made: lists of entries that the small judge of Made forbids, and one that it allows.
+-- A write reported good must have been made: lists of lines that the small judge of Made forbids, and one that it allows.
 use mathlib.Core.Path.{_≡_, refl, sym, _∙_}
 use mathlib.Core.Bool.{Bool, true, not, _&&_, _||_}
 use mathlib.Core.List.{List, [], _∷_, _++_}
@@ -10,36 +10,48 @@ use Rattle.drive.specs.declared.Answer.the-variants as answer
 use Rattle.drive.specs.declared.Refusal.the-variants as refusal
 use Rattle.drive.specs.Words.{blockOf}
 use Rattle.drive.specs.Calls.{Call, raise, feed}
-use Rattle.drive.specs.History.{Entry, History, blank, isAt, moves, next, order}
+use Rattle.drive.specs.History.{Entry, Line, entry, restart, History, blank, isAt, moves, next, begun, order}
 use Rattle.drive.specs.Made.{Wrote, unwritten, wroteNext, goodWrite, IsMade, Made}
 use Rattle.drive.specs.Views.{Where, nowhere, at}
 use Rattle.drive.proofs.Computing.{computed}
 use Rattle.drive.proofs.Lasts.{AtLast, at-last}
 use Rattle.drive.proofs.Forging.{if-so, block, not-there, not-anywhere, sevens, says, ends, shows, reads, writes, gives, found, asksWrite, readsGood, writesGood}
-use Rattle.drive.proofs.Transcripts.{sameWhere, same-where, go, done, timesOut, command}
+use Rattle.drive.proofs.Transcripts.{sameWhere, same-where, go, done, timesOut}
 
 -- Holds what the judge keeps: the history, and the last write answered 0.
 abbrev pub Books : Type 0
 Books = History × Wrote
 
-abbrev pub goesTo : Books → Entry → Books
-goesTo b o = (next sevens (b .0) o, wroteNext (b .0) (b .1) o)
+abbrev pub goesTo : Books → Line → Books
+goesTo b (entry o) = (next sevens (b .0) o, wroteNext (b .0) (b .1) o)
+goesTo b (restart a) = (begun (b .0) a, b .1)
 
--- Says what is asked at an entry, of a whole list, and at the last entry of one.
-abbrev pub Asks : Books → Entry → Type 0
-Asks b o = goodWrite (b .0) o ≡ true → IsMade sevens (b .0) (b .1) o
+-- Says what is asked at a line, of a whole list, and at the last line of one. At a start nothing is.
+abbrev pub Asks : Books → Line → Type 0
+Asks b (entry o) = goodWrite (b .0) o ≡ true → IsMade sevens (b .0) (b .1) o
+Asks b (restart a) = Unit {0}
 
-abbrev pub AllMade : List Entry → Type 0
-AllMade os = Made sevens blank unwritten os
+abbrev pub MadeFrom : Books → List Line → Type 0
+MadeFrom b xs = Made sevens (b .0) (b .1) xs
 
-pub last-asks : (os : List Entry) → AllMade os → AtLast goesTo Asks (blank, unwritten) os
-last-asks os m =
-    at-last goesTo Asks (λ (b : Books) (os : List Entry). Made sevens (b .0) (b .1) os) (λ b o os a. a .0) (λ b o os a. a .1) (blank, unwritten) os m
+abbrev pub AllMade : List Line → Type 0
+AllMade xs = MadeFrom (blank, unwritten) xs
+
+asks-here : (b : Books) (x : Line) (xs : List Line) → MadeFrom b (x ∷ xs) → Asks b x
+asks-here b (entry o) xs m = m .0
+asks-here b (restart a) xs m = tt
+
+asks-after : (b : Books) (x : Line) (xs : List Line) → MadeFrom b (x ∷ xs) → MadeFrom (goesTo b x) xs
+asks-after b (entry o) xs m = m .1
+asks-after b (restart a) xs m = m
+
+pub last-asks : (xs : List Line) → AllMade xs → AtLast goesTo Asks (blank, unwritten) xs
+last-asks xs m = at-last goesTo Asks MadeFrom asks-here asks-after (blank, unwritten) xs m
 
 -- FORBIDDEN
 
 -- Reports a write good with no write s.
-abbrev neverAsked : List Entry
+abbrev neverAsked : List Line
 neverAsked = found [] ++ asksWrite 1 ++ (ends go 0x00 0x00 1 ∷ [])
 
 pub a-write-never-asked-for : AllMade neverAsked → ⊥
@@ -47,7 +59,7 @@ unfolding computed wroteNext goodWrite
 a-write-never-asked-for m = let x = m .1 .1 .1 .1 .1 .1 .1 .1 .0 refl in not-anywhere (x .sector .0) (x .written)
 
 -- Reports it good by this call, after its write s: a timeout, or a call that is no answer.
-abbrev endedBy : Call → List Entry
+abbrev endedBy : Call → List Line
 endedBy c = found [] ++ asksWrite 1 ++ (says go (writes 17) ∷ ends c 0x00 0x00 1 ∷ [])
 
 pub a-write-without-answer-0 : (AllMade (endedBy timesOut) → ⊥) × (AllMade (endedBy raise) → ⊥) × (AllMade (endedBy (feed [])) → ⊥) × (AllMade (endedBy go) → ⊥)
@@ -60,7 +72,7 @@ a-write-without-answer-0 = (
 )
 
 -- Refuses the answer 0, and the next one is a timeout.
-abbrev refusedAnswer : List Entry
+abbrev refusedAnswer : List Line
 refusedAnswer =
     found [] ++ asksWrite 1 ++ (says go (writes 17) ∷ shows (block 1) (gives 9) (answer.Refused refusal.Bytes) ∷ ends timesOut 0x00 0x00 1 ∷ [])
 
@@ -69,7 +81,7 @@ unfolding computed wroteNext goodWrite
 a-write-whose-answer-0-was-refused m = let x = last-asks refusedAnswer m refl in not-anywhere (x .sector .0) (x .written)
 
 -- Answers a read s with 0, and no write s.
-abbrev readInstead : List Entry
+abbrev readInstead : List Line
 readInstead = found [] ++ asksWrite 1 ++ (says go (reads 17) ∷ ends (gives 1) 0x00 0x00 1 ∷ [])
 
 pub a-write-that-only-read : AllMade readInstead → ⊥
@@ -77,7 +89,7 @@ unfolding computed wroteNext goodWrite
 a-write-that-only-read m = let x = last-asks readInstead m refl in not-anywhere (x .sector .0) (x .written)
 
 -- Makes a write good, and reports the next one good with no write s of its own.
-abbrev madeBefore : List Entry
+abbrev madeBefore : List Line
 madeBefore = found [] ++ writesGood 1 ++ asksWrite 2 ++ (ends go 0x00 0x00 2 ∷ [])
 
 pub a-write-that-the-command-before-made : AllMade madeBefore → ⊥
@@ -85,7 +97,7 @@ unfolding computed wroteNext goodWrite
 a-write-that-the-command-before-made m = let x = last-asks madeBefore m refl in not-anywhere (x .sector .0) (x .written)
 
 -- Writes at the sector beside.
-abbrev beside : List Entry
+abbrev beside : List Line
 beside = found [] ++ asksWrite 1 ++ (says go (writes 18) ∷ ends done 0x00 0x00 1 ∷ [])
 
 pub a-write-made-elsewhere : AllMade beside → ⊥
@@ -93,7 +105,7 @@ unfolding computed wroteNext goodWrite
 a-write-made-elsewhere m = let x = last-asks beside m refl in not-there 18 17 refl (x .written ∙ sym (x .place))
 
 -- Sends other bytes than the command's.
-abbrev otherBytes : List Entry
+abbrev otherBytes : List Line
 otherBytes = found [] ++ asksWrite 1 ++ (says go (writes 17) ∷ ends done 0x00 0x00 2 ∷ [])
 
 pub a-write-of-other-bytes : AllMade otherBytes → ⊥
@@ -101,7 +113,7 @@ unfolding computed wroteNext goodWrite
 a-write-of-other-bytes m = let x = last-asks otherBytes m refl in not-anywhere (x .sector .0) (x .written)
 
 -- Writes at the home of the block, reads at spare 0, and tells of the move there.
-abbrev movedUnwritten : List Entry
+abbrev movedUnwritten : List Line
 movedUnwritten = found [] ++ asksWrite 1 ++ (says go (writes 17) ∷ shows (block 1) done (reads 4928) ∷ ends (gives 1) 0x00 0x04 1 ∷ [])
 
 pub a-moved-block-written-at-its-home : AllMade movedUnwritten → ⊥
@@ -109,7 +121,7 @@ unfolding computed wroteNext goodWrite
 a-moved-block-written-at-its-home m = let x = last-asks movedUnwritten m refl in not-there 17 4928 refl (x .written ∙ sym (x .place))
 
 -- Writes and reads spare 0, and reports the block good where it was.
-abbrev movedUntold : List Entry
+abbrev movedUntold : List Line
 movedUntold = found [] ++ asksWrite 1 ++ (says go (writes 17) ∷ says timesOut (writes 4928) ∷ shows (block 1) done (reads 4928) ∷ ends (gives 1) 0x04 0x00 1 ∷ [])
 
 pub a-write-made-at-a-spare-with-no-move : AllMade movedUntold → ⊥
@@ -117,12 +129,20 @@ unfolding computed wroteNext goodWrite
 a-write-made-at-a-spare-with-no-move m = let x = last-asks movedUntold m refl in not-there 4928 17 refl (x .written ∙ sym (x .place))
 
 -- Writes spare 0, reads spare 1, and tells of the move there.
-abbrev movedBeside : List Entry
+abbrev movedBeside : List Line
 movedBeside = found [] ++ asksWrite 1 ++ (says go (writes 17) ∷ says timesOut (writes 4928) ∷ shows (block 1) done (reads 4929) ∷ ends (gives 1) 0x04 0x04 1 ∷ [])
 
 pub a-write-made-at-another-spare : AllMade movedBeside → ⊥
 unfolding computed wroteNext goodWrite
 a-write-made-at-another-spare m = let x = last-asks movedBeside m refl in not-there 4928 4929 refl (x .written ∙ sym (x .place))
+
+-- Starts first, and then reports a write good with no write s.
+abbrev afterAStart : List Line
+afterAStart = restart (reads 4960) ∷ (found [] ++ asksWrite 1 ++ (ends go 0x00 0x00 1 ∷ []))
+
+pub a-write-not-made-after-a-start : AllMade afterAStart → ⊥
+unfolding computed wroteNext goodWrite
+a-write-not-made-after-a-start m = let x = m .1 .1 .1 .1 .1 .1 .1 .1 .0 refl in not-anywhere (x .sector .0) (x .written)
 
 -- ALLOWED
 
@@ -130,6 +150,15 @@ a-write-made-at-another-spare m = let x = last-asks movedBeside m refl in not-th
 pub a-write-that-stays-needs-no-reread : AtLast goesTo Asks (blank, unwritten) (found [] ++ writesGood 1)
 unfolding computed wroteNext goodWrite
 a-write-that-stays-needs-no-reread g = record { sector = record { 0 = 17 }; written = refl; place = refl; reread = λ k. clash k refl }
+
+-- Says so where a start ends a write that asked for no write s, and a finish comes after it: that reports nothing.
+abbrev endedByAStart : List Line
+endedByAStart = found [] ++ asksWrite 1 ++ (says go answer.Wait ∷ restart (reads 4960) ∷ ends done 0x00 0x00 1 ∷ [])
+
+pub a-write-that-a-start-ends-is-not-reported : AllMade endedByAStart
+unfolding computed wroteNext goodWrite
+a-write-that-a-start-ends-is-not-reported =
+    (λ g. clash g refl, (λ g. clash g refl, (λ g. clash g refl, (λ g. clash g refl, (λ g. clash g refl, (λ g. clash g refl, (λ g. clash g refl, (λ g. clash g refl, (λ g. clash g refl, (λ g. clash g refl, tt))))))))))
 
 -- Tests whether an entry reports no good write, or one that was made.
 abbrev isWell : Books → Entry → Bool
@@ -140,9 +169,13 @@ isWell b o =
 abbrev isMade : Books → Entry → Bool
 isMade b o = not (goodWrite (b .0) o) || isWell b o
 
-abbrev areMade : Books → List Entry → Bool
+abbrev isMadeLine : Books → Line → Bool
+isMadeLine b (entry o) = isMade b o
+isMadeLine b (restart a) = true
+
+abbrev areMade : Books → List Line → Bool
 areMade b [] = true
-areMade b (o ∷ os) = isMade b o && areMade (goesTo b o) os
+areMade b (x ∷ xs) = isMadeLine b x && areMade (goesTo b x) xs
 
 abbrev sectorIn : Where → Sector
 sectorIn nowhere = record { 0 = 0 }
@@ -152,7 +185,7 @@ in-it : (w : Where) → isAt w ≡ true → w ≡ at (sectorIn w)
 in-it nowhere h = clash h refl
 in-it (at s) h = refl
 
-made-by-test : (b : Books) (o : Entry) → isMade b o ≡ true → Asks b o
+made-by-test : (b : Books) (o : Entry) → isMade b o ≡ true → Asks b (entry o)
 made-by-test b o h g =
     let went = wroteNext (b .0) (b .1) o .went in
     let count = wroteNext (b .0) (b .1) o .same in
@@ -168,15 +201,16 @@ made-by-test b o h g =
       reread = λ k. leb-true 70 count (if-so (moves o) (leb 70 count) (and-right (isAt went && sameWhere went place) enough all) k);
     }
 
-all-made : (b : Books) (os : List Entry) → areMade b os ≡ true → Made sevens (b .0) (b .1) os
+all-made : (b : Books) (xs : List Line) → areMade b xs ≡ true → MadeFrom b xs
 all-made b [] h = tt
-all-made b (o ∷ os) h = (
-  made-by-test b o (and-left (isMade b o) (areMade (goesTo b o) os) h),
-  all-made (goesTo b o) os (and-right (isMade b o) (areMade (goesTo b o) os) h),
+all-made b (entry o ∷ xs) h = (
+  made-by-test b o (and-left (isMade b o) (areMade (goesTo b (entry o)) xs) h),
+  all-made (goesTo b (entry o)) xs (and-right (isMade b o) (areMade (goesTo b (entry o)) xs) h),
 )
+all-made b (restart a ∷ xs) h = all-made (goesTo b (restart a)) xs h
 
 -- Writes, with a call refused in between; reads without a write; and fails a write without one.
-abbrev making : List Entry
+abbrev making : List Line
 making =
     found [] ++ asksWrite 1 ++ (says go (writes 17) ∷ says raise (answer.Refused refusal.Place) ∷ ends done 0x00 0x00 1 ∷ [])
     ++ readsGood 1 ++ asksWrite 2 ++ (ends go 0x11 0x00 2 ∷ [])

@@ -9,7 +9,6 @@ use Rattle.lists.specs.Lists.{dead}
 use Rattle.table.specs.declared.Table.{Table}
 use Rattle.image.specs.FormA.{formA}
 use Rattle.image.specs.FormB.{formB}
-use Rattle.drive.specs.declared.Access.{Access}
 use Rattle.drive.specs.declared.Access.the-variants as access
 use Rattle.drive.specs.declared.Answer.the-variants as answer
 use Rattle.drive.specs.declared.Cause.{Cause}
@@ -17,13 +16,10 @@ use Rattle.drive.specs.declared.Cause.the-variants as cause
 use Rattle.drive.specs.declared.Change.{Change}
 use Rattle.drive.specs.declared.Change.the-variants as change
 use Rattle.drive.specs.declared.Drive.{Drive}
-use Rattle.drive.specs.declared.Offer.the-variants as offer
 use Rattle.drive.specs.declared.Phase.{Phase}
 use Rattle.drive.specs.declared.Phase.the-variants as phase
 use Rattle.drive.specs.declared.Refusal.the-variants as refusal
-use Rattle.drive.specs.declared.Seen.{Seen}
 use Rattle.drive.specs.declared.State.{State}
-use Rattle.drive.specs.declared.Target.{Target}
 use Rattle.drive.specs.declared.Trial.{Trial}
 use Rattle.drive.specs.declared.Turn.{Turn}
 use Rattle.drive.specs.Words.{codeOf}
@@ -32,7 +28,7 @@ use Rattle.drive.specs.Sparing.{missed, stopped, verified, tried, counte
 use Rattle.drive.specs.Access.{writeAnswered}
 use Rattle.drive.specs.Calls.{Call, raise, lower, feed, surface, reset, started, imageOutOf, Conversion, convertOf}
 use Rattle.drive.proofs.Computing.{computed}
-use Rattle.drive.proofs.Examples.{ready, run}
+use Rattle.drive.proofs.Examples.{ready, run, asks, good, timeout, done}
 use Rattle.drive.proofs.Codes.{table}
 
 -- WHAT A TRIAL REMEMBERS
@@ -59,7 +55,7 @@ tries (phase.Offered o) = []
 tries phase.Command = []
 tries phase.Data = []
 tries (phase.Awaiting (access.Start k)) = []
-tries (phase.Awaiting access.Store) = []
+tries (phase.Awaiting (access.Store k)) = []
 tries (phase.Awaiting (access.Read r)) = []
 tries (phase.Awaiting (access.Write w)) = []
 tries (phase.Awaiting (access.Verify w)) = []
@@ -143,8 +139,12 @@ unstored n =
     record {
       table = two;
       causes = twoCauses;
-      state = record { phase = phase.Idle; marks = record { known = true; changed = true; latch = false; fresh = false }; command = replicate 6 0; count = 0; fed = 0; run = n };
+      state = record { phase = phase.Idle; marks = record { known = true; changed = true; moved = false; latch = false; fresh = false }; command = replicate 6 0; count = 0; fed = 0; run = n };
     }
+
+-- Reads block 0, good at once.
+abbrev readsGood : List Call
+readsGood = asks 0 1 (good ∷ [])
 
 -- Returns the run number after calls.
 abbrev runAfter : Drive → List Call → ℕ
@@ -152,26 +152,27 @@ runAfter d cs = run d (replicate 536 0) cs .step .drive .state .run
 
 pub record RunNumbers : Type 0 where
   -- up with the store that is asked for; the image fetched for it carries it
-  pub asked : runAfter (unstored 6) (raise ∷ []) ≡ 7
-  pub fetched : imageOutOf (run (unstored 6) (replicate 536 0) (raise ∷ []) .step .drive) (replicate 532 5) .bytes ≡ formB 7 (dead ∷ 17 ∷ []) (3 ∷ 1 ∷ []) []
+  pub asked : runAfter (unstored 6) readsGood ≡ 7
+  pub fetched : imageOutOf (run (unstored 6) (replicate 536 0) readsGood .step .drive) (replicate 532 5) .bytes ≡ formB 7 (dead ∷ 17 ∷ []) (3 ∷ 1 ∷ []) []
   -- whether it is done or not, and once more for the next
-  pub done : runAfter (unstored 6) (raise ∷ surface 0 [] ∷ []) ≡ 7
-  pub failed : runAfter (unstored 6) (raise ∷ surface 2 [] ∷ []) ≡ 7
-  pub again : runAfter (unstored 6) (raise ∷ surface 2 [] ∷ reset ∷ raise ∷ []) ≡ 8
-  pub after-no-settle : runAfter (unstored 6) (raise ∷ surface 3 [] ∷ reset ∷ raise ∷ []) ≡ 8
-  -- a whole write command leaves it
-  pub kept-by-a-command : runAfter (unstored 6) (raise ∷ surface 0 [] ∷ lower 0x55 ∷ feed (1 ∷ 0 ∷ 0 ∷ 5 ∷ []) ∷ raise ∷ lower 0x55 ∷ feed (9 ∷ []) ∷ raise ∷ lower 0x55 ∷ surface 0 [] ∷ []) ≡ 7
+  pub stored : runAfter (unstored 6) (readsGood ++ (done ∷ [])) ≡ 7
+  pub failed : runAfter (unstored 6) (readsGood ++ (timeout ∷ [])) ≡ 7
+  pub again : runAfter (unstored 6) (readsGood ++ (timeout ∷ readsGood)) ≡ 8
+  pub once-more : runAfter (unstored 6) (readsGood ++ (timeout ∷ readsGood ++ (timeout ∷ reset ∷ readsGood))) ≡ 9
+  -- after answer 3 there is none, and after one that was done there is none either
+  pub after-no-settle : runAfter (unstored 6) (readsGood ++ (surface 3 [] ∷ reset ∷ readsGood)) ≡ 7
+  pub kept-by-a-command : runAfter (unstored 6) (readsGood ++ (done ∷ raise ∷ lower 0x55 ∷ feed (1 ∷ 0 ∷ 0 ∷ 5 ∷ []) ∷ raise ∷ lower 0x55 ∷ feed (9 ∷ []) ∷ raise ∷ lower 0x55 ∷ done ∷ [])) ≡ 7
   -- up to its top, where it stays
-  pub to-the-top : runAfter (unstored 0xFFFFFFFE) (raise ∷ []) ≡ 0xFFFFFFFF
-  pub at-the-top : runAfter (unstored 0xFFFFFFFF) (raise ∷ []) ≡ 0xFFFFFFFF
-  -- a raise that asks for no store leaves it
-  pub not-asked : runAfter ready (raise ∷ []) ≡ 0
+  pub to-the-top : runAfter (unstored 0xFFFFFFFE) readsGood ≡ 0xFFFFFFFF
+  pub at-the-top : runAfter (unstored 0xFFFFFFFF) readsGood ≡ 0xFFFFFFFF
+  -- what asks for no store leaves it: a raise, and a command with nothing unstored
+  pub not-asked : (runAfter (unstored 6) (raise ∷ []) ≡ 6) × (runAfter ready readsGood ≡ 0)
   -- a start takes the image's, 0 from form A, and 0 while there is none
   pub from-b : runAfter started (surface 0 (formB 0x01020304 [] [] []) ∷ []) ≡ 0x01020304
   pub from-a : runAfter started (surface 0 (formA [] []) ∷ []) ≡ 0
   pub from-none : runAfter started (surface 3 [] ∷ []) ≡ 0
   -- and nothing is unstored then, from form A neither
-  pub stored-a : run started (replicate 536 0) (surface 0 (formA (17 ∷ []) []) ∷ raise ∷ []) .step .answer ≡ answer.Offer offer.Command
+  pub stored-a : run started (replicate 536 0) (surface 0 (formA (17 ∷ []) []) ∷ readsGood) .step .answer ≡ answer.Finished
   -- images of a wrong sum, and of a wrong field, are counted as tries
   pub wrong-field : run started (replicate 536 0) (surface 0 (formB 0 (17 ∷ []) (4 ∷ []) []) ∷ []) .step .drive .state .phase ≡ phase.Awaiting (access.Start 2)
   pub wrong-sum : run started (replicate 536 0) (surface 0 (take 531 (formB 0 [] [] []) ++ (0 ∷ [])) ∷ []) .step .drive .state .phase ≡ phase.Awaiting (access.Start 2)
@@ -182,14 +183,15 @@ run-numbers =
     record {
       asked = refl;
       fetched = refl;
-      done = refl;
+      stored = refl;
       failed = refl;
       again = refl;
+      once-more = refl;
       after-no-settle = refl;
       kept-by-a-command = refl;
       to-the-top = refl;
       at-the-top = refl;
-      not-asked = refl;
+      not-asked = (refl, refl);
       from-b = refl;
       from-a = refl;
       from-none = refl;

@@ -19,7 +19,8 @@ use Rattle.drive.specs.Values.{Typed}
 use Rattle.drive.specs.Over.{Reply, suits, ofStart, Task, start, store, command, Completes, AllSuit, OverWithin, Demand1Over}
 use Rattle.drive.specs.Views.{ofAnswer}
 use Rattle.drive.proofs.Computing.{computed}
-use Rattle.drive.proofs.Examples.{reading}
+use Rattle.drive.proofs.Examples.{timeout, reading}
+use Rattle.drive.proofs.Codes.{close}
 use Rattle.drive.proofs.Reached.{begun, writing, storing}
 
 -- Answers for the surface: a number, and the bytes that come with it.
@@ -69,6 +70,16 @@ pub a-finish-completes-a-command : Completed command writing (done ∷ []) × Co
 unfolding computed
 a-finish-completes-a-command = (record { answer = refl; phase = refl }, (record { accepted = refl; awaited = refl }, record { answer = refl; phase = refl }))
 
+-- The store's answer completes its command, and not the answer that asks for it.
+pub a-store-completes-its-command :
+    Completed command storing (done ∷ []) × Completed command (reading 0 1 (replicate 10 timeout)) (late ∷ late ∷ []) × (Completed command (reading 0 1 (replicate 10 timeout)) (late ∷ []) → ⊥)
+unfolding computed
+a-store-completes-its-command = (
+  record { answer = refl; phase = refl },
+  (record { accepted = refl; awaited = refl }, record { answer = refl; phase = refl }),
+  λ c. clash refl (sym (ap (λ (a : Answer). ofAnswer a .finished) (c .answer))),
+)
+
 -- NOT COMPLETE
 
 pub no-answer-completes-nothing : Completed start starting [] → ⊥
@@ -86,10 +97,12 @@ pub a-refused-answer-does-not-count : Completed start starting (wrong ∷ image 
 unfolding computed
 a-refused-answer-does-not-count c = clash refl (c .0 .accepted)
 
--- The store is no command, and neither is a start.
-pub no-task-is-completed-by-another : (Completed store writing (done ∷ []) → ⊥) × (Completed command starting (late ∷ image ∷ []) → ⊥)
+-- The reads of a command are no store, a write is no start, and a start is no command.
+pub no-task-is-completed-by-another :
+    (Completed store (reading 0 1 []) (crc ∷ good ∷ []) → ⊥) × (Completed start writing (done ∷ []) → ⊥) × (Completed command starting (late ∷ image ∷ []) → ⊥)
 unfolding computed
 no-task-is-completed-by-another = (
+  λ c. clash (c .0 .awaited) refl,
   λ c. clash refl (ap (λ (a : Answer). ofAnswer a .finished) (c .answer)),
   λ c. clash (c .0 .awaited) refl,
 )
@@ -106,9 +119,9 @@ pub record Suits : Type 0 where
   pub start-above-3 : suits (phase.Awaiting (access.Start 1)) wrong ≡ false
   pub start-without-bytes : suits (phase.Awaiting (access.Start 1)) done ≡ false
   pub start-with-bytes : suits (phase.Awaiting (access.Start 1)) crc ≡ true
-  pub store : suits (phase.Awaiting access.Store) done ≡ true
-  pub store-answered-1 : suits (phase.Awaiting access.Store) (reply 1 []) ≡ false
-  pub store-with-bytes : suits (phase.Awaiting access.Store) good ≡ false
+  pub store : suits (phase.Awaiting (access.Store close)) done ≡ true
+  pub store-answered-1 : suits (phase.Awaiting (access.Store close)) (reply 1 []) ≡ false
+  pub store-with-bytes : suits (phase.Awaiting (access.Store close)) good ≡ false
   pub idle : suits phase.Idle late ≡ false
 
 pub suited : Suits
@@ -120,17 +133,19 @@ pub a-wrong-answer-does-not-suit :
     × (Suited start starting (late ∷ wrong ∷ []) → ⊥)
     × (Suited store storing (wrong ∷ []) → ⊥)
     × (Suited command begun (wrong ∷ []) → ⊥)
+    × (Suited command storing (wrong ∷ []) → ⊥)
 unfolding computed
 a-wrong-answer-does-not-suit = (
   λ a. clash (a .0 refl) refl,
   λ a. clash (a .1 .0 refl) refl,
   λ a. clash (a .0 refl) refl,
   λ a. clash (a .0 refl) refl,
+  λ a. clash (a .0 refl) refl,
 )
 
 -- What comes after the end, or while something else is under way, need not suit.
 pub beside-the-task-anything-suits :
-    Suited start starting (image ∷ wrong ∷ []) × Suited start storing (wrong ∷ []) × Suited start begun (wrong ∷ []) × Suited store starting (wrong ∷ []) × Suited store writing (wrong ∷ []) × Suited command storing (wrong ∷ [])
+    Suited start starting (image ∷ wrong ∷ []) × Suited start storing (wrong ∷ []) × Suited start begun (wrong ∷ []) × Suited store starting (wrong ∷ []) × Suited store writing (wrong ∷ []) × Suited command starting (wrong ∷ [])
 unfolding computed
 beside-the-task-anything-suits = (
   (λ h. refl, (λ h. clash h refl, tt)),
@@ -154,6 +169,6 @@ pub a-start-is-not-over-within-one : OverWithin 1 start (starting .step .drive) 
 unfolding computed
 a-start-is-not-over-within-one w = let x = w (late ∷ []) (omega arith) (λ h. refl, tt) in none-of-one (x .0) (x .2)
 
-pub demand-1-of-the-longest-read : Demand1Over → Typed (begun .step .drive) → OverWithin 3679 command (begun .step .drive) (begun .bytes)
+pub demand-1-of-the-longest-read : Demand1Over → Typed (begun .step .drive) → OverWithin 3680 command (begun .step .drive) (begun .bytes)
 unfolding computed
 demand-1-of-the-longest-read demand typed = demand (begun .step .drive) (begun .bytes) typed refl refl refl

@@ -1,5 +1,5 @@
--- DEMAND 1's BOUND IS REACHED: a read of 1 + 255 + 90 reads, then 33 sectors with a write and a hundred rereads each. There is a
--- law for each repetition, so that its calls are not computed one by one.
+-- DEMAND 1's BOUND IS REACHED: a read of 1 + 255 + 90 reads, then 33 sectors with a write and a hundred rereads each, then the
+-- store. There is a law for each repetition, so that its calls are not computed one by one.
 use mathlib.Core.Path.{_≡_, refl, ap, sym, subst, _∙_}
 use mathlib.Core.Bool.{Bool, true, false, cond, _&&_}
 use mathlib.Core.List.{List, [], _∷_, _++_}
@@ -31,26 +31,28 @@ use Rattle.drive.specs.declared.Phase.{Phase}
 use Rattle.drive.specs.declared.Phase.the-variants as phase
 use Rattle.drive.specs.declared.Answer.{Answer}
 use Rattle.drive.specs.declared.Answer.the-variants as answer
+use Rattle.drive.specs.declared.Ending.the-variants as ending
 use Rattle.drive.specs.Words.{dataOf, statusOf}
 use Rattle.drive.specs.Records.{accessOk, retryOk, trialOk, stateOk, recordOk}
-use Rattle.drive.specs.Results.{Out, outOf, partLeft, statusLeft}
+use Rattle.drive.specs.Results.{Out, outOf, withRun, partLeft, statusLeft, finish}
 use Rattle.drive.specs.Retries.{failed, goesOnReading, afterRead}
 use Rattle.drive.specs.Sparing.{nextSpare, missed, tried, lastAfter, judged, checked}
-use Rattle.drive.specs.Access.{asksRead, answerFits, bytesFit, fitting, keptPart, settled, reads, follows, answered, isCompared}
+use Rattle.drive.specs.Access.{asksRead, answerFits, bytesFit, fitting, storeAnswered, keptPart, settled, reads, follows, answered, isCompared}
 use Rattle.drive.specs.Calls.{Call, raise, lower, feed, surface, surfaceOf, stepOf, started}
 use Rattle.drive.specs.Views.{ofAnswer}
 use Rattle.drive.specs.Bound.{ofCommand, isCommand, accesses, Demand1Bound}
 use Rattle.drive.proofs.Computing.{computed}
-use Rattle.drive.proofs.Examples.{ready, run, asks, crc, good, timeout, reading, Ended}
+use Rattle.drive.proofs.Examples.{ready, run, crc, good, timeout, reading, Ended}
 
 -- THE CALLS
 
--- Makes n trials that fail: the write is done, and none of the hundred rereads is good.
+-- Makes n trials that fail, and then the store: the write is done, and none of the hundred rereads is good.
 abbrev pub trials : ℕ → List Call
-trials zero = []
+trials zero = surface 0 [] ∷ []
 trials (suc n) = surface 0 [] ∷ (replicate 100 crc ++ trials n)
 
--- Makes the longest read: the first one fails and so do 255 rereads, 89 further ones fail and one is good, 33 trials fail.
+-- Makes the longest read: the first one fails and so do 255 rereads, 89 further ones fail and one is good, 33 trials fail, and the
+-- store is done.
 abbrev pub longest : List Call
 longest = crc ∷ (replicate 255 crc ++ (replicate 89 crc ++ (good ∷ trials 33)))
 
@@ -80,7 +82,7 @@ leads-there (more {y = y} c e r (more c' e' r' l)) = rw e (leads-there {x = y} (
 -- Holds the state in the course of the command. changed: the table has changes that are not stored.
 abbrev during : Bool → Phase → State
 during changed p =
-    record { phase = p; marks = record { known = true; changed = changed; latch = false; fresh = false }; command = 0 ∷ 0 ∷ 0 ∷ 0 ∷ 255 ∷ 1 ∷ []; count = 6; fed = 0; run = 0 }
+    record { phase = p; marks = record { known = true; changed = changed; moved = false; latch = false; fresh = false }; command = 0 ∷ 0 ∷ 0 ∷ 0 ∷ 255 ∷ 1 ∷ []; count = 6; fed = 0; run = 0 }
 
 -- Holds what a call gave that asked for an access.
 abbrev asked : Table → List ℕ → Bool → List ℕ → Access → Answer → Out
@@ -222,10 +224,27 @@ abbrev notedAll : ℕ → Table → List ℕ → List ℕ
 notedAll zero t cs = cs
 notedAll (suc n) t cs = notedAll n (killedNext t) (causesKilled t 1 cs)
 
--- Holds what the end of the command gives: failed with CRC errors, no spare unused, E 255.
+-- Holds the state with the run number one up, by the store.
+abbrev numberedOne : Bool → Phase → State
+numberedOne changed p = withRun (during changed p) 1
+
+-- Holds what the command's last reread gives: the store is asked for, of a command that fails with CRC errors, no spare unused, E 255.
+abbrev asks-store : Table → List ℕ → List ℕ → Out
+asks-store t cs u =
+    record {
+      step = record { drive = record { table = t; causes = cs; state = numberedOne true (phase.Awaiting (access.Store (record { ending = ending.NoSpare; seen = record { errors = 255; crc = true; timeout = false } }))) }; answer = answer.Store };
+      bytes = u;
+    }
+
+-- Holds what its end gives.
 abbrev ended : Table → List ℕ → List ℕ → Out
 ended t cs u =
-    record { step = record { drive = record { table = t; causes = cs; state = during true phase.Idle }; answer = answer.Finished }; bytes = 0x09 ∷ 0x40 ∷ 0x00 ∷ 0xFF ∷ dataOf u }
+    record { step = record { drive = record { table = t; causes = cs; state = numberedOne false phase.Idle }; answer = answer.Finished }; bytes = 0x09 ∷ 0x40 ∷ 0x00 ∷ 0xFF ∷ dataOf u }
+
+store-done : (t : Table) (cs : List ℕ) (u : List ℕ) → tableOk t ≡ true → causesOk (take (t .nspares) cs) ≡ true → length u ≡ 536
+    → stepOf (surface 0 []) (asks-store t cs u .step .drive) u ≡ ended t cs u
+unfolding stepOf surfaceOf recordOk stateOk answered fitting follows storeAnswered partLeft statusLeft statusOf
+store-done t cs u k kc h = rw (k, kc, eq-eqb (length u) 536 h)
 
 killed-count : (t : Table) → t .nspares < 32 → killedNext t .nspares ≡ t .nspares + 1
 unfolding killedNext
@@ -241,8 +260,8 @@ module _ (u : List ℕ) (long : length u ≡ 536) (t : Table) (cs : List ℕ) (c
   unfolding follows checked lastAfter judged missed nextSpare partLeft statusLeft
   next-spare h = rw (lt-ltb (t .nspares + 1) 32 h, killed-count t (omega arith))
 
-  no-spare : t .nspares + 1 ≡ 32 → rereadFailed t cs changed u (spareOf (t .nspares)) true 99 ≡ ended (killedNext t) (causesKilled t 1 cs) u
-  unfolding follows checked lastAfter judged missed nextSpare partLeft statusLeft statusOf
+  no-spare : t .nspares + 1 ≡ 32 → rereadFailed t cs changed u (spareOf (t .nspares)) true 99 ≡ asks-store (killedNext t) (causesKilled t 1 cs) u
+  unfolding follows checked lastAfter judged missed nextSpare finish partLeft statusLeft
   no-spare h = rw (le-ltb (t .nspares + 1) 32 (omega arith))
 
   -- The trial of a spare that fails leads there.
@@ -250,12 +269,20 @@ module _ (u : List ℕ) (long : length u ≡ 536) (t : Table) (cs : List ℕ) (c
       → ofAnswer (y .step .answer) .refused ≡ false → Leads y rest w → Leads (asks-write t cs changed u (spareOf (t .nspares)) true) (surface 0 [] ∷ (replicate 100 crc ++ rest)) w
   spare-fails ok kc h = trial-fails t cs changed u ok kc long (spareOf (t .nspares)) true (spare-ok (t .nspares) h)
 
+killed-ok-then : (t : Table) (cs : List ℕ) → causesOk (take (t .nspares) cs) ≡ true → length cs ≡ 32 → t .nspares < 32
+    → causesOk (take (killedNext t .nspares) (causesKilled t 1 cs)) ≡ true
+killed-ok-then t cs kc lc h =
+    subst (λ (k : ℕ). causesOk (take k (causesKilled t 1 cs)) ≡ true) (sym (killed-count t h)) (killed-causes-ok t 1 cs h lc (omega arith) kc)
+
 spares-fail : (u : List ℕ) → length u ≡ 536 → (n : ℕ) (t : Table) (cs : List ℕ) (changed : Bool) → tableOk t ≡ true → Shaped t → causesOk (take (t .nspares) cs) ≡ true → length cs ≡ 32 → t .nspares + suc n ≡ 32
     → Leads (asks-write t cs changed u (spareOf (t .nspares)) true) (trials (suc n)) (ended (killedAll (suc n) t) (notedAll (suc n) t cs) u)
-spares-fail u long zero t cs changed ok s kc lc h = spare-fails u long t cs changed ok kc (omega arith) (no-spare u long t cs changed (omega arith)) refl none
+spares-fail u long zero t cs changed ok s kc lc h =
+    let kc' = killed-ok-then t cs kc lc (omega arith) in
+    spare-fails u long t cs changed ok kc (omega arith) (no-spare u long t cs changed (omega arith)) refl
+    (more {x = asks-store (killedNext t) (causesKilled t 1 cs) u} refl (store-done (killedNext t) (causesKilled t 1 cs) u (killed-ok t s ok) kc' long) refl none)
 spares-fail u long (suc n) t cs changed ok s kc lc h =
     let c = killed-count t (omega arith) in
-    let kc' = subst (λ (k : ℕ). causesOk (take k (causesKilled t 1 cs)) ≡ true) (sym c) (killed-causes-ok t 1 cs (omega arith) lc (omega arith) kc) in
+    let kc' = killed-ok-then t cs kc lc (omega arith) in
     spare-fails u long t cs changed ok kc (omega arith) (next-spare u long t cs changed (omega arith)) refl
     (spares-fail u long n (killedNext t) (causesKilled t 1 cs) true (killed-ok t s ok) (killed-shaped t s) kc' (killed-causes-length t 1 cs ∙ lc) (omega (arith, c)))
 
@@ -282,7 +309,7 @@ leads =
     answers emptyTable noCauses false (lent 0) empty-ok none-noted refl (access.Read (retry true 255 0 (record { errors = 0; crc = false; timeout = false }))) _ 1 (brought 1) refl refl refl refl
     (rereads-fail 255 0 refl (further-fail 89 0 refl from-the-good-read))
 
-pub reached : accesses (begun .step .drive) (begun .bytes) longest ≡ 3679
+pub reached : accesses (begun .step .drive) (begun .bytes) longest ≡ 3680
 reached = all-count leads
 
 -- There it ends: failed, no spare unused, E 255.
@@ -297,7 +324,7 @@ unfolding killedNext
 every-spare-is-dead = subst (λ (y : Out). spareList (y .step .drive .table) ≡ replicate 32 dead) (sym (leads-there leads)) refl
 
 -- Applies the bound to it.
-pub within-the-bound : Demand1Bound → accesses (begun .step .drive) (begun .bytes) longest ≤ 3679
+pub within-the-bound : Demand1Bound → accesses (begun .step .drive) (begun .bytes) longest ≤ 3680
 unfolding computed
 within-the-bound bound = bound (begun .step .drive) (begun .bytes) longest refl
 
@@ -311,9 +338,9 @@ writingBy op =
 abbrev pub writing : Out
 writing = writingBy 1
 
--- Asks for a store, after a read that failed by eleven timeouts.
+-- Asks for a store, at the end of a read that failed by eleven timeouts.
 abbrev pub storing : Out
-storing = run ready (replicate 536 0) (asks 0 1 (replicate 11 timeout ++ (raise ∷ [])))
+storing = reading 0 1 (replicate 11 timeout)
 
 abbrev counts : Out → List Call → ℕ
 counts x cs = accesses (x .step .drive) (x .bytes) cs
@@ -331,8 +358,8 @@ pub the-accesses-of-a-trial-are-counted : counts (reading 1 1 []) (crc ∷ crc �
 unfolding computed accesses
 the-accesses-of-a-trial-are-counted = refl
 
--- Eleven rereads fail, then ten further reads by timeouts: only these spend anything.
-pub rereads-cost-nothing : counts (reading 11 1 []) (replicate 23 timeout) ≡ 22
+-- Eleven rereads fail, then ten further reads by timeouts: only these spend anything. Then the store is awaited, which times out.
+pub rereads-cost-nothing : counts (reading 11 1 []) (replicate 24 timeout) ≡ 23
 unfolding computed accesses
 rereads-cost-nothing = refl
 
@@ -341,10 +368,12 @@ pub refused-calls-are-not-counted : counts begun (crc ∷ surface 4 [] ∷ crc �
 unfolding computed accesses
 refused-calls-are-not-counted = refl
 
--- "The store at a raise belongs to no command", nor do the start's reads.
-pub a-store-belongs-to-no-command : counts storing (surface 2 [] ∷ []) ≡ 0
+-- "one access more": the store is its command's, whatever it is answered; a write with nothing unstored has none. The start's reads
+-- belong to no command.
+pub a-store-is-one-access-of-its-command :
+    (counts storing (surface 0 [] ∷ surface 0 [] ∷ []) ≡ 1) × (counts storing (surface 2 [] ∷ raise ∷ []) ≡ 1) × (counts storing (surface 3 [] ∷ []) ≡ 1) × (counts (reading 0 1 []) (replicate 12 timeout) ≡ 12)
 unfolding computed accesses
-a-store-belongs-to-no-command = refl
+a-store-is-one-access-of-its-command = (refl, refl, refl, refl)
 
 pub the-reads-of-a-start-belong-to-no-command : accesses started (replicate 536 0) (surface 2 [] ∷ surface 2 [] ∷ []) ≡ 0
 unfolding computed accesses

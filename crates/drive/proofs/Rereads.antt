@@ -8,7 +8,7 @@ use Rattle.image.specs.FormA.{formA}
 use Rattle.drive.specs.declared.Drive.{Drive}
 use Rattle.drive.specs.History.{held, unreadable}
 use Rattle.drive.proofs.Computing.{computed}
-use Rattle.drive.proofs.Transcripts.{_⇒_, Run, Happens, happens, bytes, disk, sector, go, gives, done, garbles, timesOut, found, opens, asksRead, asksWrite, read, write, finished}
+use Rattle.drive.proofs.Transcripts.{_⇒_, Run, Happens, happens, bytes, disk, sector, go, gives, done, garbles, timesOut, found, opens, stored, asksRead, asksWrite, read, write, finished}
 
 -- A write and a read, both good at once.
 abbrev writtenThenRead : Run
@@ -103,7 +103,7 @@ onlyGarbled =
       sectors = disk [] [];
       exchanges =
           found [] [] ++ opens ++ asksRead 17 0 1
-          ++ (go ⇒ read 17 ∷ garbles 9 ⇒ read 17 ∷ []) ++ replicate 9 (timesOut ⇒ read 17) ++ (timesOut ⇒ finished 0x0D 0x00 0x80 0 ∷ []);
+          ++ (go ⇒ read 17 ∷ garbles 9 ⇒ read 17 ∷ []) ++ replicate 9 (timesOut ⇒ read 17) ++ stored timesOut (finished 0x0D 0x00 0x80 0);
       part = bytes 9;
       place = sector 17;
       candidates = bytes 7 ∷ [];

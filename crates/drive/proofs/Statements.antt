@@ -1,21 +1,97 @@
--- The statements of the demands speak of each computed run, whatever record was started.
-use mathlib.Core.Path.{refl}
-use mathlib.Core.List.{[]}
+-- The statements of the demands speak of each computed run, whatever record was started, and of what comes after it if the power
+-- fails then.
+use mathlib.Core.Path.{_≡_, refl}
+use mathlib.Core.Bool.{true, false}
+use mathlib.Core.List.{List, [], _∷_}
 use lib.ListN.{replicate}
+use Rattle.geometry.specs.Geometry.{tableSector}
 use Rattle.geometry.specs.declared.Block.{Block}
+use Rattle.image.specs.FormA.{formA}
+use Rattle.image.specs.FormB.{formB}
+use Rattle.drive.specs.declared.Answer.the-variants as answer
 use Rattle.drive.specs.declared.Drive.{Drive}
-use Rattle.drive.specs.History.{blank, Allows}
+use Rattle.drive.specs.Calls.{started}
+use Rattle.drive.specs.Cuts.{Cut, worldThen, historyAt, historyThen, CutKeeps, Tabled, GoodIsTabled, NoneGood, UnreadableTable}
+use Rattle.drive.specs.History.{held, unreadable, blank, Allows, candidatesThen}
 use Rattle.drive.specs.Made.{unwritten, Made, WritesMade}
-use Rattle.drive.specs.Run.{Demand3}
+use Rattle.drive.specs.Run.{Lawful, lines, Demand3}
+use Rattle.drive.specs.Surface.{Fate, old, new, spoiled}
 use Rattle.drive.specs.Told.{none, Right, reportsOf, Demand3Told}
-use Rattle.drive.proofs.Transcripts.{Run, Happens, calls, entered}
+use Rattle.drive.proofs.Computing.{computed}
+use Rattle.drive.proofs.Transcripts.{Exchange, moments, Run, Happens, history, calls, entered, bytes, sector}
+use Rattle.drive.proofs.Cuts.{storeAwaited, the-store-is-awaited, writeAwaited, the-write-is-awaited}
 
-pub demand-3-of-a-run : Demand3 → (old : Drive) (r : Run) → Happens old r → Allows (r .sectors) blank (entered old r)
-demand-3-of-a-run demand old r h = demand old (replicate 536 1) refl (r .sectors) (calls r) (h .lawful)
+pub demand-3-of-a-run : Demand3 → (given : Drive) (r : Run) → Happens given r → Allows (r .sectors) blank (entered given r)
+demand-3-of-a-run demand given r h = demand given (replicate 536 1) refl (r .sectors) (calls r) (h .lawful)
 
 pub demand-3-told-of-a-run :
-    Demand3Told → (old : Drive) (r : Run) (b : Block) → Happens old r → Right [] none (reportsOf b (r .sectors) blank (entered old r))
-demand-3-told-of-a-run demand old r b h = demand old (replicate 536 1) refl (r .sectors) (calls r) (h .lawful) b
+    Demand3Told → (given : Drive) (r : Run) (b : Block) → Happens given r → Right [] none false (reportsOf b (r .sectors) blank (entered given r))
+demand-3-told-of-a-run demand given r b h = demand given (replicate 536 1) refl (r .sectors) (calls r) (h .lawful) b
 
-pub writes-made-of-a-run : WritesMade → (old : Drive) (r : Run) → Happens old r → Made (r .sectors) blank unwritten (entered old r)
-writes-made-of-a-run made old r h = made old (replicate 536 1) refl (r .sectors) (calls r) (h .lawful)
+pub writes-made-of-a-run : WritesMade → (given : Drive) (r : Run) → Happens given r → Made (r .sectors) blank unwritten (entered given r)
+writes-made-of-a-run made given r h = made given (replicate 536 1) refl (r .sectors) (calls r) (h .lawful)
+
+pub good-is-tabled-of-a-run : GoodIsTabled → (given : Drive) (r : Run) → Happens given r → Tabled (r .sectors) blank (entered given r)
+good-is-tabled-of-a-run tabled given r h = tabled given (replicate 536 1) refl (r .sectors) (calls r) (h .lawful)
+
+-- THE POWER FAILS after a run, with what is pending left so; next comes a start, and then these exchanges
+
+abbrev pub failsAfter : (given : Drive) (r : Run) → Happens given r → Fate → Cut
+failsAfter given r h f =
+    record {
+      given = given;
+      lent = replicate 536 1;
+      whole = refl;
+      sectors = r .sectors;
+      before = calls r;
+      lawful = h .lawful;
+      drive = started;
+      buffer = replicate 536 1;
+      full = refl;
+      fate = f;
+    }
+
+pub a-cut-keeps-of-a-run :
+    CutKeeps → (given : Drive) (r : Run) (h : Happens given r) (f : Fate) (ts : List Exchange) (b : Block) → Lawful (worldThen (failsAfter given r h f)) (moments ts)
+    → Right (candidatesThen (history given r) b) none false (reportsOf b (r .sectors) (historyThen (failsAfter given r h f)) (lines (worldThen (failsAfter given r h f)) (moments ts)))
+a-cut-keeps-of-a-run keeps given r h f ts b l = keeps (failsAfter given r h f) (moments ts) l b
+
+pub an-unreadable-table-of-a-run :
+    UnreadableTable → (given : Drive) (r : Run) (h : Happens given r) (f : Fate) (ts : List Exchange) → worldThen (failsAfter given r h f) .sectors tableSector ≡ unreadable
+    → Lawful (worldThen (failsAfter given r h f)) (moments ts)
+    → NoneGood (r .sectors) (historyThen (failsAfter given r h f)) (lines (worldThen (failsAfter given r h f)) (moments ts))
+an-unreadable-table-of-a-run dark given r h f ts e l = dark (failsAfter given r h f) e (moments ts) l
+
+-- HELD AGAINST TWO CUTS: at a store, and at a write whose bytes are ones
+
+abbrev atTheStore : Drive → Fate → Cut
+atTheStore given f = failsAfter given storeAwaited (the-store-is-awaited given) f
+
+abbrev atTheWrite : Drive → Fate → Cut
+atTheWrite given f = failsAfter given writeAwaited (the-write-is-awaited given) f
+
+-- The premise of the unreadable table is met at a store alone, and there by one of the three.
+pub a-cut-leaves-the-table-old-new-or-unreadable :
+    (given : Drive) → (worldThen (atTheStore given spoiled) .sectors tableSector ≡ unreadable)
+    × (worldThen (atTheStore given old) .sectors tableSector ≡ held (formA [] []))
+    × (worldThen (atTheStore given new) .sectors tableSector ≡ held (formB 1 [] [] (17 ∷ [])))
+    × (worldThen (atTheWrite given spoiled) .sectors tableSector ≡ held (formA [] []))
+    × (worldThen (atTheWrite given spoiled) .sectors (record { 0 = 17 }) ≡ unreadable)
+unfolding computed
+a-cut-leaves-the-table-old-new-or-unreadable given = (refl, refl, refl, refl, refl)
+
+-- The start that comes next is accepted: its record and buffer are new, and its read of the table is awaited.
+pub after-a-cut-a-start-is-under-way :
+    (given : Drive) → (worldThen (atTheWrite given old) .drive ≡ started) × (worldThen (atTheWrite given old) .buffer ≡ replicate 536 0) × (worldThen (atTheWrite given old) .asked ≡ answer.Read tableSector)
+unfolding computed
+after-a-cut-a-start-is-under-way given = (refl, refl, refl)
+
+-- What the history has where the power fails, and after the start.
+pub the-history-at-a-cut :
+    (given : Drive) → (historyAt (atTheWrite given old) .candidates (record { 0 = 17 }) ≡ bytes 7 ∷ [])
+    × (historyAt (atTheWrite given old) .acting ≡ true)
+    × (historyThen (atTheWrite given old) .candidates (record { 0 = 17 }) ≡ bytes 1 ∷ bytes 7 ∷ [])
+    × (historyThen (atTheWrite given old) .place (record { 0 = 17 }) ≡ sector 17)
+    × (historyThen (atTheWrite given old) .acting ≡ false)
+unfolding computed
+the-history-at-a-cut given = (refl, refl, refl, refl, refl)

@@ -1,4 +1,4 @@
--- Transcripts: a list of calls beside what each is answered, and one fold that computes all that a run is about.
+-- Transcripts: a list of calls and starts beside what each is answered, and one fold that computes all that a run is about.
 use mathlib.Core.Path.{_≡_, refl, ap, sym, _∙_}
 use mathlib.Core.Bool.{Bool, true, false, cond, _&&_}
 use mathlib.Core.List.{List, [], _∷_, _++_}
@@ -17,10 +17,10 @@ use Rattle.drive.specs.declared.Answer.{Answer}
 use Rattle.drive.specs.declared.Answer.the-variants as answer
 use Rattle.drive.specs.Words.{response, codeOf, dataOf}
 use Rattle.drive.specs.Results.{Out}
-use Rattle.drive.specs.Calls.{Call, raise, lower, feed, surface, reset, startOf}
-use Rattle.drive.specs.History.{Content, held, unreadable, Sectors, Entry, History, blank, next}
-use Rattle.drive.specs.Surface.{brings}
-use Rattle.drive.specs.Run.{Event, World, after, rule, unless, made, Lawful, entries, entryOf, begins}
+use Rattle.drive.specs.Calls.{Call, raise, lower, feed, surface, reset, started, startOf}
+use Rattle.drive.specs.History.{Content, held, unreadable, Sectors, Line, entry, restart, History, blank, past, pastAll}
+use Rattle.drive.specs.Surface.{brings, Fate}
+use Rattle.drive.specs.Run.{Moment, call, power, World, after, rule, unless, Permits, made, Lawful, lines, lineOf, afterAll, begins}
 use Rattle.drive.specs.Views.{Bytes, Where, nowhere, at, ofAnswer}
 
 -- THE SURFACE'S RULES, AS A TEST
@@ -41,12 +41,13 @@ keeps w (feed bs) = true
 keeps w (surface a bs) = bringsIt (ofAnswer (w .asked) .read) (eqb a 0) bs (w .sectors)
 keeps w reset = true
 
-abbrev pub permitted : World → Event → Out → Bool
-permitted w e x = cond (ofAnswer (x .step .answer) .refused) true (keeps w (e .call))
+abbrev pub permitted : World → Moment → Out → Bool
+permitted w (call e) x = cond (ofAnswer (x .step .answer) .refused) true (keeps w (e .call))
+permitted w (power d u f) x = true
 
-abbrev pub isLawful : World → List Event → Bool
+abbrev pub isLawful : World → List Moment → Bool
 isLawful w [] = true
-isLawful w (e ∷ es) = permitted w e (made w e) && isLawful (after w e (made w e)) es
+isLawful w (m ∷ ms) = permitted w m (made w m) && isLawful (after w m (made w m)) ms
 
 holds-held : (c : Content) (bs : Bytes) → holds c bs ≡ true → c ≡ held bs
 holds-held (held x) bs h = rw (same-equal x bs h)
@@ -68,13 +69,17 @@ is-permitted : (w : World) (c : Call) (refused : Bool) → cond refused true (ke
 is-permitted w c true h = tt
 is-permitted w c false h = keeps-rule w c h
 
-lawful-by-test : (w : World) (es : List Event) → isLawful w es ≡ true → Lawful w es
+permits : (w : World) (m : Moment) (x : Out) → permitted w m x ≡ true → Permits w m x
+permits w (call e) x h = is-permitted w (e .call) (ofAnswer (x .step .answer) .refused) h
+permits w (power d u f) x h = tt
+
+lawful-by-test : (w : World) (ms : List Moment) → isLawful w ms ≡ true → Lawful w ms
 lawful-by-test w [] h = tt
-lawful-by-test w (e ∷ es) h =
-    let p = permitted w e (made w e) in
-    let w' = after w e (made w e) in (
-      is-permitted w (e .call) (ofAnswer (made w e .step .answer) .refused) (and-left p (isLawful w' es) h),
-      lawful-by-test w' es (and-right p (isLawful w' es) h),
+lawful-by-test w (m ∷ ms) h =
+    let p = permitted w m (made w m) in
+    let w' = after w m (made w m) in (
+      permits w m (made w m) (and-left p (isLawful w' ms) h),
+      lawful-by-test w' ms (and-right p (isLawful w' ms) h),
     )
 
 -- TRANSCRIPTS
@@ -98,40 +103,41 @@ saidBy answer.Store u = store
 saidBy answer.Finished u = finished (getD u 0 0) (getD u 1 0) (getD u 2 0) (getD u 3 0)
 saidBy (answer.Refused r) u = refused (codeOf r)
 
-abbrev pub told : List Entry → List Said
-told [] = []
-told (o ∷ os) = saidBy (o .answer) (o .buffer) ∷ told os
+-- Says what a line says. A start leaves no status.
+abbrev pub saidIn : Line → Said
+saidIn (entry o) = saidBy (o .answer) (o .buffer)
+saidIn (restart a) = saidBy a []
 
--- Holds a call beside its answer.
+abbrev pub told : List Line → List Said
+told [] = []
+told (x ∷ xs) = saidIn x ∷ told xs
+
+-- Holds a call or a start beside its answer.
 pub record Exchange : Type 0 where
-  pub event : Event
+  pub moment : Moment
   pub says : Said
 
 infix 80 _⇒_
 infix 80 _⇏_
 abbrev pub _⇒_ : Call → Said → Exchange
-c ⇒ a = record { event = record { call = c; spoils = false }; says = a }
+c ⇒ a = record { moment = call (record { call = c; spoils = false }); says = a }
 
 -- Does the same where the write so answered leaves an unreadable sector.
 abbrev pub _⇏_ : Call → Said → Exchange
-c ⇏ a = record { event = record { call = c; spoils = true }; says = a }
+c ⇏ a = record { moment = call (record { call = c; spoils = true }); says = a }
 
-abbrev pub events : List Exchange → List Event
-events [] = []
-events (t ∷ ts) = t .event ∷ events ts
+-- Starts, after the power failed with what is pending left so. The record that it is given awaits something else than the last
+-- one did, and its buffer is another.
+abbrev pub cuts : Fate → Exchange
+cuts f = record { moment = power started (replicate 536 1) f; says = read 4960 }
+
+abbrev pub moments : List Exchange → List Moment
+moments [] = []
+moments (t ∷ ts) = t .moment ∷ moments ts
 
 abbrev pub answers : List Exchange → List Said
 answers [] = []
 answers (t ∷ ts) = t .says ∷ answers ts
-
--- Returns the history after these entries, and the world after these events.
-abbrev pub kept : Sectors → History → List Entry → History
-kept start H [] = H
-kept start H (o ∷ os) = kept start (next start H o) os
-
-abbrev pub ended : World → List Event → World
-ended w [] = w
-ended w (e ∷ es) = ended (after w e (made w e)) es
 
 -- Is the block that the runs are about.
 abbrev pub key : Block
@@ -147,23 +153,23 @@ pub record Run : Type 0 where
 
 -- Starts any record, on these sectors.
 abbrev pub from : Drive → Run → World
-from old r = begins (startOf old (replicate 536 1)) (r .sectors)
+from given r = begins (startOf given (replicate 536 1)) (r .sectors)
 
-abbrev pub calls : Run → List Event
-calls r = events (r .exchanges)
+abbrev pub calls : Run → List Moment
+calls r = moments (r .exchanges)
 
-abbrev pub entered : Drive → Run → List Entry
-entered old r = entries (from old r) (calls r)
+abbrev pub entered : Drive → Run → List Line
+entered given r = lines (from given r) (calls r)
 
 abbrev pub history : Drive → Run → History
-history old r = kept (r .sectors) blank (entered old r)
+history given r = pastAll (r .sectors) blank (entered given r)
 
-pub record Happens (old : Drive) (r : Run) : Type 0 where
-  pub lawful : Lawful (from old r) (calls r)
-  pub says : told (entered old r) ≡ answers (r .exchanges)
-  pub part : dataOf (ended (from old r) (calls r) .buffer) ≡ r .part
-  pub place : history old r .place key ≡ r .place
-  pub candidates : history old r .candidates key ≡ r .candidates
+pub record Happens (given : Drive) (r : Run) : Type 0 where
+  pub lawful : Lawful (from given r) (calls r)
+  pub says : told (entered given r) ≡ answers (r .exchanges)
+  pub part : dataOf (afterAll (from given r) (calls r) .buffer) ≡ r .part
+  pub place : history given r .place key ≡ r .place
+  pub candidates : history given r .candidates key ≡ r .candidates
 
 -- ONE FOLD TESTS THESE FIVE FACTS: it computes each call once, and stops at the first thing that is another
 
@@ -232,18 +238,18 @@ abbrev pub agrees : Sectors → World → History → List Exchange → Bytes �
 agrees start w H [] part place candidates =
     same (dataOf (w .buffer)) part && (sameWhere (H .place key) place && sameAll (H .candidates key) candidates)
 agrees start w H (t ∷ ts) part place candidates =
-    let e = t .event in
-    let x = made w e in
-    permitted w e x
-    && (sameSaid (saidBy (x .step .answer) (x .bytes)) (t .says) && agrees start (after w e x) (next start H (entryOf e x)) ts part place candidates)
+    let m = t .moment in
+    let x = made w m in
+    permitted w m x
+    && (sameSaid (saidIn (lineOf m x)) (t .says) && agrees start (after w m x) (past start H (lineOf m x)) ts part place candidates)
 
 -- Holds what the test says: the five facts.
 pub record Agree (start : Sectors) (w : World) (H : History) (ts : List Exchange) (part : Bytes) (place : Where) (candidates : List Bytes) : Type 0 where
-  pub lawful : isLawful w (events ts) ≡ true
-  pub says : told (entries w (events ts)) ≡ answers ts
-  pub part-left : dataOf (ended w (events ts) .buffer) ≡ part
-  pub place-left : kept start H (entries w (events ts)) .place key ≡ place
-  pub candidates-left : kept start H (entries w (events ts)) .candidates key ≡ candidates
+  pub lawful : isLawful w (moments ts) ≡ true
+  pub says : told (lines w (moments ts)) ≡ answers ts
+  pub part-left : dataOf (afterAll w (moments ts) .buffer) ≡ part
+  pub place-left : pastAll start H (lines w (moments ts)) .place key ≡ place
+  pub candidates-left : pastAll start H (lines w (moments ts)) .candidates key ≡ candidates
 
 agree : (start : Sectors) (w : World) (H : History) (ts : List Exchange) (part : Bytes) (place : Where) (candidates : List Bytes)
     → agrees start w H ts part place candidates ≡ true
@@ -261,16 +267,16 @@ agree start w H [] part place candidates h =
       candidates-left = same-all (H .candidates key) candidates (and-right second third rest);
     }
 agree start w H (t ∷ ts) part place candidates h =
-    let e = t .event in
-    let x = made w e in
-    let said = saidBy (x .step .answer) (x .bytes) in
-    let more = agrees start (after w e x) (next start H (entryOf e x)) ts part place candidates in
-    let rest = and-right (permitted w e x) (sameSaid said (t .says) && more) h in
-    let after-it = agree start (after w e x) (next start H (entryOf e x)) ts part place candidates (and-right (sameSaid said (t .says)) more rest) in
+    let m = t .moment in
+    let x = made w m in
+    let said = saidIn (lineOf m x) in
+    let more = agrees start (after w m x) (past start H (lineOf m x)) ts part place candidates in
+    let rest = and-right (permitted w m x) (sameSaid said (t .says) && more) h in
+    let after-it = agree start (after w m x) (past start H (lineOf m x)) ts part place candidates (and-right (sameSaid said (t .says)) more rest) in
     let same-answer = same-said said (t .says) (and-left (sameSaid said (t .says)) more rest) in
     record {
-      lawful = and-true (permitted w e x) (isLawful (after w e x) (events ts)) (and-left (permitted w e x) (sameSaid said (t .says) && more) h) (after-it .lawful);
-      says = ap (λ (a : Said). a ∷ told (entries (after w e x) (events ts))) same-answer ∙ ap (λ (l : List Said). t .says ∷ l) (after-it .says);
+      lawful = and-true (permitted w m x) (isLawful (after w m x) (moments ts)) (and-left (permitted w m x) (sameSaid said (t .says) && more) h) (after-it .lawful);
+      says = ap (λ (a : Said). a ∷ told (lines (after w m x) (moments ts))) same-answer ∙ ap (λ (l : List Said). t .says ∷ l) (after-it .says);
       part-left = after-it .part-left;
       place-left = after-it .place-left;
       candidates-left = after-it .candidates-left;
@@ -278,12 +284,12 @@ agree start w H (t ∷ ts) part place candidates h =
 
 -- Plays a run, and tests what it says of itself.
 abbrev pub played : Drive → Run → Bool
-played old r = agrees (r .sectors) (from old r) blank (r .exchanges) (r .part) (r .place) (r .candidates)
+played given r = agrees (r .sectors) (from given r) blank (r .exchanges) (r .part) (r .place) (r .candidates)
 
-pub happens : (old : Drive) (r : Run) → played old r ≡ true → Happens old r
-happens old r e =
-    let h = agree (r .sectors) (from old r) blank (r .exchanges) (r .part) (r .place) (r .candidates) e in
-    record { lawful = lawful-by-test (from old r) (calls r) (h .lawful); says = h .says; part = h .part-left; place = h .place-left; candidates = h .candidates-left }
+pub happens : (given : Drive) (r : Run) → played given r ≡ true → Happens given r
+happens given r e =
+    let h = agree (r .sectors) (from given r) blank (r .exchanges) (r .part) (r .place) (r .candidates) e in
+    record { lawful = lawful-by-test (from given r) (calls r) (h .lawful); says = h .says; part = h .part-left; place = h .place-left; candidates = h .candidates-left }
 
 -- THE PIECES OF A RUN
 
@@ -325,12 +331,13 @@ found spares bads = surface 0 (formA spares bads) ⇒ wait ∷ []
 abbrev pub foundB : ℕ → List ℕ → List ℕ → List ℕ → List Exchange
 foundB run spares causes bads = surface 0 (formB run spares causes bads) ⇒ wait ∷ []
 
--- Raises in idle: with no store, and with one.
+-- Raises in idle: there is no store, whatever is unstored.
 abbrev pub opens : List Exchange
 opens = raise ⇒ offer 0x01 ∷ []
 
-abbrev pub stores : List Exchange
-stores = raise ⇒ store ∷ done ⇒ offer 0x01 ∷ []
+-- Ends a command with a store: its last call asks for it, the store is done, and the command is finished so.
+abbrev pub stored : Call → Said → List Exchange
+stored c end = c ⇒ store ∷ done ⇒ end ∷ []
 
 -- Feeds a command from there to the offer after which it is acted on.
 abbrev pub command : ℕ → ℕ → Bytes → Bytes
@@ -369,6 +376,10 @@ asksHealth status3 = asksRead 0xFFFFFD 255 0 ++ (go ⇒ finished 0x00 0x00 statu
 abbrev pub healthBlock : ℕ → ℕ → ℕ → ℕ → Bytes
 healthBlock unused bads latch unstored = unused ∷ bads ∷ latch ∷ unstored ∷ replicate 528 0
 
--- Makes a read that fails by eleven timeouts.
-abbrev pub elevenTimeouts : List Exchange
-elevenTimeouts = opens ++ asksRead 17 0 1 ++ (go ⇒ read 17 ∷ []) ++ replicate 10 (timesOut ⇒ read 17) ++ (timesOut ⇒ finished 0x05 0x00 0x80 0 ∷ [])
+-- Makes a read that fails by eleven timeouts, up to the last: that of a block which enters the bad list asks for the store.
+abbrev pub tenTimeouts : List Exchange
+tenTimeouts = opens ++ asksRead 17 0 1 ++ (go ⇒ read 17 ∷ []) ++ replicate 10 (timesOut ⇒ read 17)
+
+-- Makes it whole, with this answer to its store and this finish.
+abbrev pub elevenTimeouts : Call → Said → List Exchange
+elevenTimeouts c end = tenTimeouts ++ (timesOut ⇒ store ∷ c ⇒ end ∷ [])

@@ -1,4 +1,4 @@
--- What is read off a call and off an answer: lists of entries, each against a wrong row of the two views.
+-- What is read off a call and off an answer: lists of lines, each against a wrong row of the two views.
 use mathlib.Core.Path.{refl}
 use mathlib.Core.List.{List, [], _∷_, _++_}
 use Rattle.image.specs.FormA.{formA}
@@ -6,19 +6,19 @@ use Rattle.drive.specs.declared.Offer.the-variants as offer
 use Rattle.drive.specs.declared.Answer.{Answer}
 use Rattle.drive.specs.declared.Answer.the-variants as answer
 use Rattle.drive.specs.Calls.{Call, raise, feed, surface, reset}
-use Rattle.drive.specs.History.{Entry, blank, Allows}
+use Rattle.drive.specs.History.{Line, blank, Allows}
 use Rattle.drive.proofs.Computing.{computed}
 use Rattle.drive.proofs.Forging.{last-asks, not-the-one, not-anywhere, sevens, says, ends, offers, reads, writes, found, asksRead, asksWrite, readsGood, writesGood, AllFit, all-fit}
 use Rattle.drive.proofs.Transcripts.{go, done, timesOut}
 
 -- Says that the history does not allow a list.
-abbrev Forbids : List Entry → Type 0
+abbrev Forbids : List Line → Type 0
 Forbids os = Allows sevens blank os → ⊥
 
 -- THE CALLS
 
 -- Ends a write by this call after its offer 06. If it is acted on, its one is a candidate.
-abbrev instead : Call → List Entry
+abbrev instead : Call → List Line
 instead c = found [] ++ asksWrite 1 ++ (ends c 0x00 0x00 1 ∷ []) ++ readsGood 1
 
 pub no-call-but-the-lower-acts : Forbids (instead raise) × Forbids (instead (feed [])) × Forbids (instead done) × Forbids (instead reset)
@@ -31,7 +31,7 @@ no-call-but-the-lower-acts = (
 )
 
 -- Makes this call between the write s of a write and its finish. If it breaks nothing off, the write is reported good.
-abbrev between : Call → List Entry
+abbrev between : Call → List Line
 between c = found [] ++ asksWrite 1 ++ (says go (writes 17) ∷ says c answer.Wait ∷ ends done 0x00 0x00 1 ∷ []) ++ readsGood 7
 
 pub a-raise-a-feed-and-an-answer-break-nothing-off : Forbids (between raise) × Forbids (between (feed [])) × Forbids (between timesOut)
@@ -43,7 +43,7 @@ a-raise-a-feed-and-an-answer-break-nothing-off = (
 )
 
 -- Feeds an image while the start's read is awaited: no block has a sector yet.
-abbrev imageFed : List Entry
+abbrev imageFed : List Line
 imageFed = says (feed (formA [] [])) answer.Wait ∷ asksRead 17 ++ (says go (reads 17) ∷ [])
 
 pub what-is-fed-is-no-table : Forbids imageFed
@@ -51,10 +51,10 @@ unfolding computed
 what-is-fed-is-no-table a = not-anywhere 17 (last-asks sevens blank imageFed a .0 .first-rule refl .1)
 
 -- Makes a reset, a raise and a lower among the bytes of a command and among its data: they feed nothing, and drop nothing.
-abbrev amongBytes : List Entry
+abbrev amongBytes : List Line
 amongBytes = says reset answer.Wait ∷ says raise answer.Wait ∷ says go answer.Wait ∷ []
 
-abbrev inPieces : List Entry
+abbrev inPieces : List Line
 inPieces =
     found [] ++ (offers offer.Command ∷ says go answer.Wait ∷ says (feed (1 ∷ [])) answer.Wait ∷ []) ++ amongBytes
     ++ (says (feed (0 ∷ 0 ∷ 17 ∷ [])) answer.Wait ∷ offers offer.Write ∷ says go answer.Wait ∷ says (feed (1 ∷ [])) answer.Wait ∷ []) ++ amongBytes
@@ -67,7 +67,7 @@ only-a-feed-feeds = all-fit sevens blank inPieces refl
 -- THE ANSWERS
 
 -- Answers the lower that acts on a write with this, and never finishes it.
-abbrev unfinished : Answer → List Entry
+abbrev unfinished : Answer → List Line
 unfinished x = found [] ++ asksWrite 1 ++ (says go x ∷ []) ++ readsGood 1
 
 pub no-answer-but-finished-reports :
@@ -86,7 +86,7 @@ no-answer-but-finished-reports = (
 )
 
 -- Resets after the offer of a write, with this answer, and lowers with 55.
-abbrev afterwards : Answer → List Entry
+abbrev afterwards : Answer → List Line
 afterwards x = found [] ++ asksWrite 1 ++ (says reset x ∷ ends go 0x00 0x00 1 ∷ []) ++ readsGood 1
 
 pub no-answer-but-an-offer-offers :
@@ -105,7 +105,7 @@ no-answer-but-an-offer-offers = (
 )
 
 -- Brings an image after this answer. If a read of 4960 was asked for, the table is learnt anew, and the seven a candidate again.
-abbrev relearns : Answer → List Entry
+abbrev relearns : Answer → List Line
 relearns x = found [] ++ writesGood 1 ++ (says raise x ∷ says (surface 0 (formA [] [])) answer.Wait ∷ []) ++ readsGood 7
 
 pub no-answer-but-a-read-s-reads :
@@ -124,7 +124,7 @@ no-answer-but-a-read-s-reads = (
 )
 
 -- Answers the lower that acts on a write with this, and fails it. After a write s its one is a candidate.
-abbrev fails : Answer → List Entry
+abbrev fails : Answer → List Line
 fails x = found [] ++ asksWrite 1 ++ (says go x ∷ ends timesOut 0x05 0x00 1 ∷ []) ++ readsGood 1
 
 pub no-answer-but-a-write-s-writes :

@@ -1,5 +1,5 @@
--- Document 01: the surface answered an access. The codes 4 and 5, the start's reads, the store, "Read", and "Write" with
--- request 4 of document 02.
+-- Document 01: the surface answered an access. The codes 4 and 5, the start's reads, "Read", and "Write" with
+-- request 4 of document 02; the store with request 7.
 use mathlib.Core.Bool.{Bool, true, false, cond, not, _&&_, _||_}
 use mathlib.Core.List.{List}
 use Prim.Native.Nat.{ℕ, _+_}
@@ -14,7 +14,7 @@ use Rattle.drive.specs.declared.State.{State}
 use Rattle.drive.specs.declared.Marks.{Marks}
 use Rattle.drive.specs.declared.Retry.{Retry}
 use Rattle.drive.specs.declared.Target.{Target}
-use Rattle.drive.specs.declared.Offer.the-variants as offer
+use Rattle.drive.specs.declared.Close.{Close}
 use Rattle.drive.specs.declared.Outcome.{Outcome}
 use Rattle.drive.specs.declared.Outcome.the-variants as outcome
 use Rattle.drive.specs.declared.Access.{Access}
@@ -31,8 +31,7 @@ use Rattle.drive.specs.declared.Part.the-variants as part
 use Rattle.drive.specs.declared.Status.the-variants as status
 use Rattle.drive.specs.declared.Turn.{Turn}
 use Rattle.drive.specs.Records.{awaits, ofAccess}
-use Rattle.drive.specs.Results.{inPhase, withMarks, withRun, refuse, say, finish, untouched, clean, onPresent}
-use Rattle.drive.specs.Handshake.{opened}
+use Rattle.drive.specs.Results.{inPhase, withMarks, withRun, refuse, say, report, finish, untouched, clean, onPresent}
 use Rattle.drive.specs.Retries.{met, afterRead}
 use Rattle.drive.specs.Sparing.{begin, nextSpare, fault, tried, checked}
 
@@ -58,7 +57,7 @@ fitting read l a n x = cond (answerFits read a) (cond (bytesFit read a n) x (ref
 -- Ends the start with the table that was read, and its run number.
 abbrev pub withTable : State → ℕ → Turn
 withTable l run =
-    record { state = withMarks (withRun l run) (record { known = true; changed = l .marks .changed; latch = l .marks .latch; fresh = l .marks .fresh }) phase.Idle; answer = answer.Wait; change = change.Load; leaves = untouched }
+    record { state = withMarks (withRun l run) (record { known = true; changed = l .marks .changed; moved = l .marks .moved; latch = l .marks .latch; fresh = l .marks .fresh }) phase.Idle; answer = answer.Wait; change = change.Load; leaves = untouched }
 
 -- Says whether a well-formed image came.
 abbrev pub isTaken : ℕ → List ℕ → Bool
@@ -71,15 +70,22 @@ startAnswered k l a bs =
     (cond (eqb a 3) (say (inPhase l phase.Idle) answer.Wait)
     (cond (ltb k 10) (say (inPhase l (phase.Awaiting (access.Start (k + 1)))) (answer.Read tableSector)) (say (inPhase l phase.Idle) answer.Wait)))
 
--- THE STORE: "if done, stored; 2 and 3 change nothing"; "then offer 01"
+-- THE STORE before a command finishes: "if done, stored"; document 02, request 7: "reports failed (bit 0) unless that store is
+-- done; answer 3 to it latches."
 
--- Returns the marks after the store's answer.
+-- Says whether the store is not done.
+abbrev pub isUndone : ℕ → Bool
+isUndone a = not (eqb a 0)
+
+-- Returns the marks after the store's answer. "only a done store or a start clears the mark", and so it is with a place's.
 abbrev pub storeMarks : Marks → ℕ → Marks
-storeMarks m a = record { known = m .known; changed = m .changed && not (eqb a 0); latch = m .latch; fresh = m .fresh }
+storeMarks m a =
+    record { known = m .known; changed = m .changed && isUndone a; moved = m .moved && isUndone a; latch = m .latch || eqb a 3; fresh = m .fresh }
 
--- Returns what the answer to the store leads to.
-unfoldable pub storeAnswered : State → ℕ → Turn
-storeAnswered l a = say (opened (withMarks l (storeMarks (l .marks) a) phase.Idle) offer.Command 0) (answer.Offer offer.Command)
+-- Returns what the answer to the store leads to: the command finishes as it ended, with what the store met.
+unfoldable pub storeAnswered : Close → State → ℕ → Turn
+storeAnswered k l a =
+    report l (storeMarks (l .marks) a) change.Keep (k .ending) (met a (k .seen)) (isUndone a) (eqb a 3) part.Kept
 
 -- READ
 
@@ -144,7 +150,7 @@ verifyAnswered l w a equal =
 -- answered 0 with the bytes of the data part.
 unfoldable pub follows : Access → State → Table → ℕ → List ℕ → Bool → Turn
 follows (access.Start k) l t a bs equal = startAnswered k l a bs
-follows access.Store l t a bs equal = storeAnswered l a
+follows (access.Store k) l t a bs equal = storeAnswered k l a
 follows (access.Read r) l t a bs equal = reads (afterRead r a) l t (keptPart r a)
 follows (access.Write w) l t a bs equal = writeAnswered l t w a
 follows (access.Verify w) l t a bs equal = verifyAnswered l w a equal

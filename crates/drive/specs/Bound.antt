@@ -1,5 +1,5 @@
--- DEMAND 1: "A command is over after at most 478 surface accesses", and by request 4 of document 02: "the longest read is 3,679
--- accesses (demand 1's bound from now on)".
+-- DEMAND 1: "A command is over after at most 478 surface accesses"; by request 4 of document 02 "the longest read is 3,679
+-- accesses", and by request 7 the store is "one access more".
 use mathlib.Core.Path.{_≡_}
 use mathlib.Core.Bool.{Bool, true, cond}
 use mathlib.Core.List.{List, [], _∷_}
@@ -28,9 +28,10 @@ accesses d u (c ∷ cs) =
     let rest = accesses (x .step .drive) (x .bytes) cs in
     cond (isCommand (d .state .phase)) (cond (ofAnswer (x .step .answer) .refused) rest (suc rest)) 0
 
--- Returns the most that a command may take: 1 + 255 + 90 reads, then 33 sectors with a write and a hundred rereads each.
+-- Returns the most that a command may take: 1 + 255 + 90 reads, then 33 sectors with a write and a hundred rereads each, then
+-- the store.
 abbrev pub most : ℕ
-most = 3679
+most = 3680
 
 -- Says that no command takes more, for any valid record, any buffer and list of calls.
 abbrev pub Demand1Bound : Type 0

@@ -1,4 +1,4 @@
--- Document 01, "Calls" and "Acting on a command", with requests 1, 3 and 6 of document 02: raise, lower, feed and reset.
+-- Document 01, "Calls" and "Acting on a command", with requests 1, 3 and 7 of document 02: raise, lower, feed and reset.
 use mathlib.Core.Bool.{Bool, true, false, cond, not, _&&_, _||_}
 use mathlib.Core.List.{List, [], _∷_, _++_}
 use Prim.Native.Nat.{ℕ, _+_, _-_, min}
@@ -33,7 +33,7 @@ use Rattle.drive.specs.declared.Turn.{Turn}
 use Rattle.drive.specs.declared.Kind.{Kind}
 use Rattle.drive.specs.declared.Order.{Order}
 use Rattle.drive.specs.Words.{isRead, isWrite, isVerify, orderOf, blockOf}
-use Rattle.drive.specs.Results.{inPhase, withMarks, withRun, refuse, say, finish, clean, onPresent}
+use Rattle.drive.specs.Results.{inPhase, withMarks, refuse, say, ends, finish, clean, onPresent}
 use Rattle.drive.specs.Sparing.{begin}
 
 -- RAISE
@@ -42,22 +42,10 @@ use Rattle.drive.specs.Sparing.{begin}
 abbrev pub opened : State → Offer → ℕ → State
 opened l o n = record { phase = phase.Offered o; marks = l .marks; command = l .command; count = n; fed = 0; run = l .run }
 
--- Offers 01. "then offer 01"; it "drops the bytes"
+-- Offers 01. Raise, idle: "offer 01"; by request 7 of document 02 "The store on raise falls away." After command bytes that are no
+-- command it "drops the bytes".
 abbrev pub offersCommand : State → Turn
 offersCommand l = say (opened l offer.Command 0) (answer.Offer offer.Command)
-
--- Says whether "store goes first".
-abbrev pub storesFirst : Marks → Bool
-storesFirst m = m .known && m .changed && not (m .latch)
-
--- Returns the state with its run number one up. Document 02, request 6: "one more per store asked for, staying at its top"
-abbrev pub numbered : State → State
-numbered l = withRun l (cond (eqb (l .run) 0xFFFFFFFF) (l .run) (l .run + 1))
-
--- Returns what a raise does in idle. "with a known table changed since its last store or start, and no latch", "store goes
--- first"; "then offer 01"
-unfoldable pub raisedIdle : State → Turn
-raisedIdle l = cond (storesFirst (l .marks)) (say (inPhase (numbered l) (phase.Awaiting access.Store)) answer.Store) (offersCommand l)
 
 -- Returns the offer for a command of n bytes. "opcode 00, 01, 02 (hex) offers 02, 03, 04; fewer than 6 bytes for a read or 4 for
 -- a write, or another opcode, offers 01"
@@ -85,17 +73,13 @@ offersAct l =
 
 -- Returns what a raise does in each phase.
 unfoldable pub raised : Phase → State → Turn
-raised phase.Idle l = raisedIdle l
+raised phase.Idle l = offersCommand l
 raised (phase.Offered o) l = refuse refusal.Place l
 raised phase.Command l = offers l (offerFor (orderOf (l .command) .kind) (l .count))
 raised phase.Data l = offersAct l
 raised (phase.Awaiting x) l = refuse refusal.Place l
 
 -- ACTING ON A COMMAND
-
--- Finishes the command without an access, with nothing met and the table as it is.
-abbrev pub ends : State → Ending → Part → Turn
-ends l e p = finish l change.Keep e clean p
 
 -- Asks for the first read. "Read. One read"
 abbrev pub firstRead : Order → State → List ℕ → Turn
@@ -149,18 +133,22 @@ noNumber k v = not (isBlock v) && not (asksBuffer v) && not ((asksTable v || ask
 unfoldable pub health : ℕ → ℕ → Marks → Four
 health spares bads m = record { 0 = 32 - spares; 1 = bads; 2 = cond (m .latch) 1 0; 3 = cond (m .changed) 1 0 }
 
+-- Ends a command that was fed too much. Document 02, request 7, "Any command acted on with a block's number": it may store.
+unfoldable pub overruns : Order → State → Turn
+overruns o l = cond (isBlock (o .number)) (finish l change.Keep ending.Overrun clean part.Kept) (ends l ending.Overrun part.Kept)
+
 -- Acts on a command. "First that applies": more than 532 data bytes; no such number; FFFFFE; no table; FFFFFF, and beside it
--- FFFFFD; a write under the latch.
+-- FFFFFD; a write under the latch. With no table nothing is stored.
 unfoldable pub acted : Order → State → Table → Turn
 acted o l t =
-    cond (tooLong l) (ends l ending.Overrun part.Kept)
+    cond (tooLong l) (overruns o l)
     (cond (noNumber (o .kind) (o .number)) (ends l ending.NoNumber part.Kept)
     (cond (asksBuffer (o .number)) (ends l ending.Good part.Kept)
     (cond (not (l .marks .known)) (ends l (ending.NoTable (not (isRead (o .kind)))) part.Kept)
     (cond (asksTable (o .number)) (ends l ending.Good part.Image)
     (cond (asksHealth (o .number)) (ends l ending.Good (part.Figures (health (t .nspares) (t .nbads) (l .marks))))
     (cond (isRead (o .kind)) (firstRead o l (spareList t))
-    (cond (l .marks .latch) (ends l ending.Latched part.Kept) (writes o l t))))))))
+    (cond (l .marks .latch) (finish l change.Keep ending.Latched clean part.Kept) (writes o l t))))))))
 
 -- LOWER
 
@@ -215,11 +203,12 @@ fedTo (phase.Awaiting x) l bs = refuse refusal.Place l
 
 -- RESET
 
--- Goes to rest. "Reset in idle or handshake gives idle with CMD taken as low; table, its unstored mark, latch and buffer stay."
+-- Goes to rest. "Reset in idle or handshake gives idle with CMD taken as low; table, its unstored mark, latch and buffer stay." So does
+-- the mark of an unstored place.
 -- Status 3 bit 7 is due again.
 abbrev pub atRest : State → Turn
 atRest l =
-    say (withMarks l (record { known = l .marks .known; changed = l .marks .changed; latch = l .marks .latch; fresh = true }) phase.Idle) answer.Wait
+    say (withMarks l (record { known = l .marks .known; changed = l .marks .changed; moved = l .marks .moved; latch = l .marks .latch; fresh = true }) phase.Idle) answer.Wait
 
 -- Returns what a reset does in each phase.
 unfoldable pub rested : Phase → State → Turn

@@ -12,8 +12,8 @@ use Rattle.geometry.specs.declared.Sector.{Sector}
 use Rattle.drive.specs.declared.Drive.{Drive}
 use Rattle.drive.specs.Words.{dataOf, blockOf, isRead}
 use Rattle.drive.specs.Calls.{startOf}
-use Rattle.drive.specs.History.{Sectors, Entry, History, blank, isAt, acts, reports, good, moves, padded, next, order}
-use Rattle.drive.specs.Run.{Event, Lawful, entries, begins}
+use Rattle.drive.specs.History.{Sectors, Entry, Line, entry, restart, History, blank, isAt, acts, reports, good, moves, padded, next, past, order}
+use Rattle.drive.specs.Run.{Moment, Lawful, lines, begins}
 use Rattle.drive.specs.Views.{Bytes, Where, nowhere, at, ofCall, ofAnswer}
 
 -- Says whether two are the same sector.
@@ -64,16 +64,17 @@ pub record IsMade (start : Sectors) (H : History) (w : Wrote) (o : Entry) : Type
   pub place : next start H o .place (blockOf (order H)) ≡ at sector
   pub reread : moves o ≡ true → 70 ≤ wroteNext H w o .same
 
--- Says that each write reported good in the list was made.
-abbrev pub Made : Sectors → History → Wrote → List Entry → Type 0
+-- Says that each write reported good in the list was made. A start is no report.
+abbrev pub Made : Sectors → History → Wrote → List Line → Type 0
 Made start H w [] = Unit {0}
-Made start H w (o ∷ os) =
-    (goodWrite H o ≡ true → IsMade start H w o) × Made start (next start H o) (wroteNext H w o) os
+Made start H w (entry o ∷ xs) =
+    (goodWrite H o ≡ true → IsMade start H w o) × Made start (past start H (entry o)) (wroteNext H w o) xs
+Made start H w (restart a ∷ xs) = Made start (past start H (restart a)) w xs
 
 -- Says that no list of calls reports "writes good that were never made": after any start, with any sectors and any outcome
 -- that the surface's rules permit.
 abbrev pub WritesMade : Type 0
 WritesMade =
-    (old : Drive) (lent : Bytes) → length lent ≡ 536
-    → (sectors : Sectors) (es : List Event) → Lawful (begins (startOf old lent) sectors) es
-    → Made sectors blank unwritten (entries (begins (startOf old lent) sectors) es)
+    (given : Drive) (lent : Bytes) → length lent ≡ 536
+    → (sectors : Sectors) (ms : List Moment) → Lawful (begins (startOf given lent) sectors) ms
+    → Made sectors blank unwritten (lines (begins (startOf given lent) sectors) ms)

@@ -1,12 +1,11 @@
--- DEMAND 1, with the bound of request 4 of document 02: a command is over by finished, and by nothing else. A start is over after
--- at most ten accesses, and a store after one. All this for answers of the surface that the codes 4 and 5 do not refuse.
+-- DEMAND 1, with the bound of requests 4 and 7 of document 02: a command is over by finished, and by nothing else. A start is over
+-- after at most ten accesses, and a store after one. All this for answers of the surface that the codes 4 and 5 do not refuse.
 use mathlib.Core.Path.{_≡_}
 use mathlib.Core.Bool.{Bool, true, false, not, _&&_}
 use mathlib.Core.List.{List, [], _∷_}
 use Prim.Native.Nat.{ℕ, _≤_}
 use lib.ListN.{length, take}
 use Rattle.drive.specs.declared.Drive.{Drive}
-use Rattle.drive.specs.declared.Offer.the-variants as offer
 use Rattle.drive.specs.declared.Access.{Access}
 use Rattle.drive.specs.declared.Phase.{Phase}
 use Rattle.drive.specs.declared.Phase.the-variants as phase
@@ -55,9 +54,9 @@ command = record { has = ofCommand; says = answer.Finished; leaves = phase.Idle 
 abbrev pub start : Task
 start = record { has = ofStart; says = answer.Wait; leaves = phase.Idle }
 
--- Ends by offer 01: "if done, stored; 2 and 3 change nothing"; "then offer 01".
+-- Ends by finished, idle: a command "stores the table before it finishes".
 abbrev pub store : Task
-store = record { has = ofStore; says = answer.Offer offer.Command; leaves = phase.Offered offer.Command }
+store = record { has = ofStore; says = answer.Finished; leaves = phase.Idle }
 
 -- Says that a call ended the task.
 pub record Ends (k : Task) (y : Out) : Type 0 where
@@ -102,7 +101,7 @@ OverByFinished =
     (c : Call) (d : Drive) (u : List ℕ) → isCommand (d .state .phase) ≡ true
     → isCommand (stepOf c d u .step .drive .state .phase) ≡ not (ofAnswer (stepOf c d u .step .answer) .finished)
 
--- Says that a command is over in time. "A command is over after at most 478 surface accesses", 3,679 by now.
+-- Says that a command is over in time. "A command is over after at most 478 surface accesses", 3,680 by now.
 abbrev pub Demand1Over : Type 0
 Demand1Over =
     (d : Drive) (u : List ℕ) → Typed d → recordOk d ≡ true → length u ≡ 536 → isCommand (d .state .phase) ≡ true

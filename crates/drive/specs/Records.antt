@@ -36,7 +36,7 @@ trialOk n r =
 -- listed, known whether there is a table
 abbrev pub accessOk : ℕ → Bool → Access → Bool
 accessOk n known (access.Start k) = leb k 10
-accessOk n known access.Store = known
+accessOk n known (access.Store k) = known
 accessOk n known (access.Read r) = known && retryOk r
 accessOk n known (access.Write w) = known && targetOk w
 accessOk n known (access.Verify w) = known && targetOk w
@@ -74,12 +74,12 @@ pub record AccessView : Type 0 where
   pub verifies : Bool  -- what it brings is compared with the data part
   pub start : Bool  -- it belongs to a start
   pub store : Bool  -- it is the store
-  pub command : Bool  -- it belongs to a command: "The store at a raise belongs to no command", nor do the start's reads
+  pub command : Bool  -- it belongs to a command, as all but the start's reads do; the store by request 7 of document 02: "one access more"
 
 -- Returns what is known of each access.
 abbrev pub ofAccess : Access → AccessView
 ofAccess (access.Start k) = record { reads = true; verifies = false; start = true; store = false; command = false }
-ofAccess access.Store = record { reads = false; verifies = false; start = false; store = true; command = false }
+ofAccess (access.Store k) = record { reads = false; verifies = false; start = false; store = true; command = true }
 ofAccess (access.Read r) = record { reads = true; verifies = false; start = false; store = false; command = true }
 ofAccess (access.Write w) = record { reads = false; verifies = false; start = false; store = false; command = true }
 ofAccess (access.Verify w) = record { reads = true; verifies = true; start = false; store = false; command = true }

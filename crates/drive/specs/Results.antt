@@ -1,5 +1,5 @@
 -- What a rule decides (a turn), and what a call gives: the next record, the answer, and the buffer's bytes.
-use mathlib.Core.Bool.{Bool, true, false, cond, _||_}
+use mathlib.Core.Bool.{Bool, true, false, cond, not, _&&_, _||_}
 use mathlib.Core.List.{List, [], _∷_, _++_}
 use Prim.Native.Nat.{ℕ, _+_, _-_}
 use lib.Dec.{eqb}
@@ -22,8 +22,9 @@ use Rattle.drive.specs.declared.Answer.the-variants as answer
 use Rattle.drive.specs.declared.Refusal.{Refusal}
 use Rattle.drive.specs.declared.Refusal.the-variants as refusal
 use Rattle.drive.specs.declared.Ending.{Ending}
-use Rattle.drive.specs.declared.Ending.the-variants as ending
 use Rattle.drive.specs.declared.Seen.{Seen}
+use Rattle.drive.specs.declared.Close.{Close}
+use Rattle.drive.specs.declared.Access.the-variants as access
 use Rattle.drive.specs.declared.Trial.{Trial}
 use Rattle.drive.specs.declared.Step.{Step}
 use Rattle.drive.specs.declared.Cause.the-variants as cause
@@ -36,7 +37,7 @@ use Rattle.drive.specs.declared.Part.{Part}
 use Rattle.drive.specs.declared.Part.the-variants as part
 use Rattle.drive.specs.declared.Leaves.{Leaves}
 use Rattle.drive.specs.declared.Turn.{Turn}
-use Rattle.drive.specs.Words.{causeNumber, dataOf, withData, statusOf}
+use Rattle.drive.specs.Words.{causeNumber, dataOf, withData, latches, statusOf}
 
 -- Holds a call's whole result: what it hands back, and what it leaves in the buffer.
 pub record Out : Type 0 where
@@ -133,34 +134,78 @@ alters (change.Remove b) = true
 alters (change.Move b live killed) = true
 alters (change.Kill cause) = true
 
--- Says whether an ending sets the latch: "latch until the next start". Under the latch it is set already.
-abbrev pub latches : Ending → Bool
-latches ending.Good = false
-latches ending.Moved = false
-latches ending.Failed = false
-latches ending.Overrun = false
-latches ending.NoNumber = false
-latches (ending.NoTable w) = false
-latches ending.Latched = true
-latches ending.BadFull = false
-latches ending.NoSpare = false
+-- Says whether a change gives some block another place: it lists it at a spare.
+abbrev pub places : Change → Bool
+places change.Keep = false
+places change.Load = false
+places (change.Enter b) = false
+places (change.Remove b) = false
+places (change.Move b live killed) = true
+places (change.Kill cause) = false
 
 -- Returns the marks after a change of the table.
 abbrev pub altered : Marks → Change → Marks
-altered m c = record { known = m .known; changed = alters c || m .changed; latch = m .latch; fresh = m .fresh }
+altered m c =
+    record { known = m .known; changed = alters c || m .changed; moved = places c || m .moved; latch = m .latch; fresh = m .fresh }
+
+-- Returns the marks where a command ends.
+abbrev pub ended : Marks → Change → Ending → Marks
+ended m c e =
+    record { known = m .known; changed = alters c || m .changed; moved = places c || m .moved; latch = latches e || m .latch; fresh = m .fresh }
 
 -- Returns the marks after a finish: the next one is not the first.
-abbrev pub finished : Marks → Change → Ending → Marks
-finished m c e = record { known = m .known; changed = alters c || m .changed; latch = latches e || m .latch; fresh = false }
+abbrev pub reported : Marks → Marks
+reported m = record { known = m .known; changed = m .changed; moved = m .moved; latch = m .latch; fresh = false }
 
--- Finishes the command. "The four status bytes are written at the finish and not before."
-abbrev pub finish : State → Change → Ending → Seen → Part → Turn
-finish l c e s p =
-    record { state = withMarks l (finished (l .marks) c e) phase.Idle; answer = answer.Finished; change = c; leaves = record { status = status.Written (statusOf e s (l .marks .fresh)); part = p } }
+-- THE END OF A COMMAND
 
 -- Holds nothing met yet.
 abbrev pub clean : Seen
 clean = record { errors = 0; crc = false; timeout = false }
+
+-- Finishes the command, with the marks where it ended. "The four status bytes are written at the finish and not before."
+abbrev pub report : State → Marks → Change → Ending → Seen → Bool → Bool → Part → Turn
+report l m c e s unstored unsettled p =
+    record {
+      state = withMarks l (reported m) phase.Idle;
+      answer = answer.Finished;
+      change = c;
+      leaves = record { status = status.Written (statusOf e s unstored unsettled (m .fresh)); part = p };
+    }
+
+-- Finishes a command with no access and no store: it is for no block, or no table is known. Nothing was met, and the table stays.
+abbrev pub ends : State → Ending → Part → Turn
+ends l e p = report l (ended (l .marks) change.Keep e) change.Keep e clean false false p
+
+-- Returns the state with its run number one up. Document 02, request 6: "one more per store asked for, staying at its top"
+abbrev pub numbered : State → State
+numbered l = withRun l (cond (eqb (l .run) 0xFFFFFFFF) (l .run) (l .run + 1))
+
+-- Asks for the store: "one write of the image to 4960". How the command ended stands in the record until the store's answer.
+abbrev pub asksStore : State → Marks → Change → Ending → Seen → Part → Turn
+asksStore l m c e s p =
+    record {
+      state = withMarks (numbered l) m (phase.Awaiting (access.Store (record { ending = e; seen = s })));
+      answer = answer.Store;
+      change = c;
+      leaves = record { status = status.Kept; part = p };
+    }
+
+-- Says whether a command that ends with these marks stores the table: "ends with unstored changes"; "Under the latch none is made"
+abbrev pub stores : Marks → Bool
+stores m = m .known && m .changed && not (m .latch)
+
+-- Says whether it fails for want of a store: under the latch, "only while some block's place is unstored".
+abbrev pub wantsStore : Marks → Bool
+wantsStore m = m .latch && m .moved
+
+-- Ends a command for a block. Document 02, request 7: "Any command acted on with a block's number that ends with unstored changes
+-- now stores the table before it finishes, one access more"; "Under the latch none is made, and the command fails for that
+-- reason only while some block's place is unstored."
+unfoldable pub finish : State → Change → Ending → Seen → Part → Turn
+finish l c e s p =
+    let m = ended (l .marks) c e in
+    cond (stores m) (asksStore l m c e s p) (report l m c e s (wantsStore m) false p)
 
 -- Returns the trial of a block's present sector, before its first reread.
 abbrev pub onPresent : Block → Sector → Seen → Trial

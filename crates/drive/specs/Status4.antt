@@ -32,10 +32,10 @@ pub record AwaitsFirst (d : Drive) (r : Retry) : Type 0 where
   pub first : r .first ≡ true
   pub clean : r .seen .errors ≡ 0
 
--- Says that status 4 is E. "exactly R rereads; E counts their failures"; "Status 4: E." For any record, buffer and answers
--- that complete the command: x is the first read's answer, and of the others the first R are the rereads', or fewer if the
--- command ends before.
+-- Says that status 4 is E. "One read; if good, done. After 1 or 2, exactly R rereads; E counts their failures"; "Status 4: E." For
+-- any record, buffer and answers that complete the command: x is the first read's answer, and if that is not good, of the
+-- others the first R are the rereads', or fewer if answer 3 ends the command before. The last may be the store's.
 abbrev pub Status4 : Type 0
 Status4 =
     (d : Drive) (u : List ℕ) (r : Retry) (x : Reply) (xs : List Reply) → AwaitsFirst d r → Completes command d u (x ∷ xs)
-    → getD (leftBy d u (x ∷ xs)) 3 0 ≡ failures (take (r .left) (numbers xs))
+    → getD (leftBy d u (x ∷ xs)) 3 0 ≡ cond (eqb (x .number) 0) 0 (failures (take (r .left) (numbers xs)))

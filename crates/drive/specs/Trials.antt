@@ -11,10 +11,11 @@ use Rattle.table.specs.declared.Table.{Table}
 use Rattle.buffer.specs.Runs.{same}
 use Rattle.drive.specs.declared.Drive.{Drive}
 use Rattle.drive.specs.declared.Trial.{Trial}
+use Rattle.drive.specs.declared.Close.{Close}
 use Rattle.drive.specs.declared.Access.the-variants as access
 use Rattle.drive.specs.declared.Phase.the-variants as phase
 use Rattle.drive.specs.declared.Answer.the-variants as answer
-use Rattle.drive.specs.Words.{dataOf}
+use Rattle.drive.specs.Words.{dataOf, fails}
 use Rattle.drive.specs.Records.{recordOk}
 use Rattle.drive.specs.Results.{Out}
 use Rattle.drive.specs.Access.{bytesFit}
@@ -41,9 +42,10 @@ abbrev pub through : Out → List Reply → Out
 through x [] = x
 through x (y ∷ ys) = through (replied (x .step .drive) (x .bytes) y) ys
 
--- Says that a record awaits a trial's first reread: its write was answered 0.
+-- Says that a record awaits a trial's first reread: its write was answered 0. Under the latch no trial begins.
 pub record AwaitsReread (d : Drive) (r : Trial) : Type 0 where
   pub phase : d .state .phase ≡ phase.Awaiting (access.TrialRead r)
+  pub free : d .state .marks .latch ≡ false
   pub none : r .rereads ≡ 0
   pub clean : r .failures ≡ 0
 
@@ -51,13 +53,19 @@ pub record AwaitsReread (d : Drive) (r : Trial) : Type 0 where
 abbrev pub listedThen : Table → Trial → ℕ
 listedThen t r = cond (r .spare) (t .nspares + 1) (t .nspares)
 
+-- Says that a command ended, failed or not: it is finished so, or its store is asked for, and how it ended stands in the record.
+pub data HasEnded (failed : Bool) (x : Out) : Type 0 where
+  finished : x .step .answer ≡ answer.Finished → bit 1 (getD (x .bytes) 0 0) ≡ failed → HasEnded failed x
+  storing : (k : Close) → x .step .answer ≡ answer.Store → x .step .drive .state .phase ≡ phase.Awaiting (access.Store k) → fails (k .ending) ≡ failed
+      → HasEnded failed x
+
 -- Says what the hundredth reread leads to, with so many failures, and so many spares listed once the sector failed. Passed: the
--- command is finished, good. Failed: a write to the next unused spare, or no spare is unused and the command is finished, failed.
+-- command has ended, good. Failed: a write to the next unused spare, or no spare is unused and the command has ended, failed.
 -- The data part stays.
 pub record Decided (listed failures : ℕ) (part : List ℕ) (x : Out) : Type 0 where
-  pub passes : leb failures 30 ≡ true → (x .step .answer ≡ answer.Finished) × (bit 1 (getD (x .bytes) 0 0) ≡ false)
+  pub passes : leb failures 30 ≡ true → HasEnded false x
   pub moves : leb failures 30 ≡ false → hasUnused listed ≡ true → x .step .answer ≡ answer.Write (spareOf listed)
-  pub ends : leb failures 30 ≡ false → hasUnused listed ≡ false → (x .step .answer ≡ answer.Finished) × (bit 1 (getD (x .bytes) 0 0) ≡ true)
+  pub ends : leb failures 30 ≡ false → hasUnused listed ≡ false → HasEnded true x
   pub stays : dataOf (x .bytes) ≡ part
 
 -- Says that a call asked for a read of the sector, and left this buffer.

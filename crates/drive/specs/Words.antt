@@ -1,5 +1,5 @@
 -- Document 01's own numbers for each case of an answer, the parts of the lent buffer, a command decoded, the status bytes.
-use mathlib.Core.Bool.{Bool, true, false, cond}
+use mathlib.Core.Bool.{Bool, true, false, cond, _||_}
 use mathlib.Core.List.{List, [], _∷_, _++_}
 use Prim.Native.Nat.{ℕ, _+_, _*_}
 use lib.Dec.{eqb}
@@ -97,22 +97,52 @@ blockOf o = record { 0 = o .number }
 abbrev pub row : ℕ → ℕ → ℕ → Row
 row a b c = record { 0 = a; 1 = b; 2 = c }
 
--- Returns status 1, 2 and 3 of each ending. Status 1: bits 6, 0 for too many data bytes, and for no table on a write; bits 4,
--- 0 under the latch; bit 0 wherever a command failed. Status 2: bit 2 moved, bit 3 no table, bit 4 the bad list full, bit 6
--- no spare unused. Status 3: bit 6 for a number that is no block's.
+-- Returns what each ending sets of status 1, 2 and 3, but for bits 4 and 0 of status 1. Status 1: bit 6 for too many data bytes,
+-- and for no table on a write. Status 2: bit 2 moved, bit 3 no table, bit 4 the bad list full, bit 6 no spare unused. Status 3:
+-- bit 6 for a number that is no block's.
 abbrev pub rowOf : Ending → Row
 rowOf ending.Good = row 0x00 0x00 0x00
 rowOf ending.Moved = row 0x00 0x04 0x00
-rowOf ending.Failed = row 0x01 0x00 0x00
-rowOf ending.Overrun = row 0x41 0x00 0x00
-rowOf ending.NoNumber = row 0x01 0x00 0x40
-rowOf (ending.NoTable onWrite) = row (cond onWrite 0x41 0x01) 0x08 0x00
-rowOf ending.Latched = row 0x11 0x00 0x00
-rowOf ending.BadFull = row 0x01 0x10 0x00
-rowOf ending.NoSpare = row 0x01 0x40 0x00
+rowOf ending.Failed = row 0x00 0x00 0x00
+rowOf ending.Overrun = row 0x40 0x00 0x00
+rowOf ending.NoNumber = row 0x00 0x00 0x40
+rowOf (ending.NoTable onWrite) = row (cond onWrite 0x40 0x00) 0x08 0x00
+rowOf ending.Latched = row 0x00 0x00 0x00
+rowOf ending.BadFull = row 0x00 0x10 0x00
+rowOf ending.NoSpare = row 0x00 0x40 0x00
 
--- Returns the four status bytes of a finish. "Status 1: 3 any CRC error, 2 any timeout met." "Status 3 bit 7: first finish after
--- start or reset" "Status 4: E. All other bits 0 (house)."
-unfoldable pub statusOf : Ending → Seen → Bool → Four
-statusOf e s fresh =
-    record { 0 = rowOf e .0 + cond (s .crc) 0x08 0 + cond (s .timeout) 0x04 0; 1 = rowOf e .1; 2 = rowOf e .2 + cond fresh 0x80 0; 3 = s .errors }
+-- Says whether a command that ends so has failed: all but two endings.
+abbrev pub fails : Ending → Bool
+fails ending.Good = false
+fails ending.Moved = false
+fails ending.Failed = true
+fails ending.Overrun = true
+fails ending.NoNumber = true
+fails (ending.NoTable onWrite) = true
+fails ending.Latched = true
+fails ending.BadFull = true
+fails ending.NoSpare = true
+
+-- Says whether an ending sets the latch: "bits 4, 0, latch until the next start". Under the latch it is set already.
+abbrev pub latches : Ending → Bool
+latches ending.Good = false
+latches ending.Moved = false
+latches ending.Failed = false
+latches ending.Overrun = false
+latches ending.NoNumber = false
+latches (ending.NoTable onWrite) = false
+latches ending.Latched = true
+latches ending.BadFull = false
+latches ending.NoSpare = false
+
+-- Returns the four status bytes of a finish. Status 1: bit 0 for a command that failed, and document 02, request 7, "unless that
+-- store is done": unstored; bit 4 for answer 3, to the store too (unsettled), and under the latch; "3 any CRC error, 2 any timeout
+-- met." "Status 3 bit 7: first finish after start or reset" "Status 4: E. All other bits 0 (house)."
+unfoldable pub statusOf : Ending → Seen → Bool → Bool → Bool → Four
+statusOf e s unstored unsettled fresh =
+    record {
+      0 = rowOf e .0 + cond (fails e || unstored) 0x01 0 + cond (latches e || unsettled) 0x10 0 + cond (s .crc) 0x08 0 + cond (s .timeout) 0x04 0;
+      1 = rowOf e .1;
+      2 = rowOf e .2 + cond fresh 0x80 0;
+      3 = s .errors;
+    }

@@ -82,12 +82,18 @@ pub enum Offer {
     Act,
 }
 
-// Names what the surface was asked for: a read of the start (with how many were asked for), the store,
-// a read command's read, a write command's write and the verify that follows it, and the write and a
-// reread of a trial.
+// Holds a command's end, while its store is awaited: how it ended, and what it has met.
+pub struct Close {
+    pub ending: Ending,
+    pub seen: Seen,
+}
+
+// Names what the surface was asked for: a read of the start (with how many were asked for), the store
+// before a command finishes, a read command's read, a write command's write and the verify that follows
+// it, and the write and a reread of a trial.
 pub enum Access {
     Start(u8),
-    Store,
+    Store(Close),
     Read(Retry),
     Write(Target),
     Verify(Target),
@@ -104,12 +110,13 @@ pub enum Phase {
     Awaiting(Access),
 }
 
-// Holds four marks. known: there is a table. changed: it has changes that are not stored. latch: an
-// answer 3 has ended a command since the last start. fresh: no command finished since the last start or
-// reset.
+// Holds five marks. known: there is a table. changed: it has changes that are not stored. moved: some
+// block's place is not stored. latch: an answer 3 has ended a command since the last start. fresh: no
+// command finished since the last start or reset.
 pub struct Marks {
     pub known: bool,
     pub changed: bool,
+    pub moved: bool,
     pub latch: bool,
     pub fresh: bool,
 }
@@ -222,7 +229,7 @@ pub struct Turn {
     pub leaves: Leaves,
 }
 
-// Holds status bytes 1, 2 and 3 of an ending, before what was met.
+// Holds what an ending sets of status bytes 1, 2 and 3, but for bits 4 and 0 of the first.
 pub struct Row(pub u8, pub u8, pub u8);
 
 // Names what an answer to a read command's read leads to: done at the first read; one more read; good

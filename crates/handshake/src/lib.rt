@@ -2,10 +2,9 @@
 ghost use mathlib.Core.Path.{_≡_};
 ghost use Prim.Native.Nat.{_≤_, min};
 ghost use Rattle.drive.specs.Words.{orderOf};
-ghost use Rattle.drive.specs.Handshake.{storesFirst, numbered, raisedIdle, offerFor, keptBytes, offersAct, raised, acted, goesOn, brokenOff, lowered, fedCommand, fedData, fedTo, atRest, rested};
+ghost use Rattle.drive.specs.Handshake.{offerFor, keptBytes, offersAct, raised, acted, goesOn, brokenOff, lowered, fedCommand, fedData, fedTo, atRest, rested};
 ghost use Rattle.drive.specs.declared.Phase.the-variants as phase;
 ghost use Rattle.records.specs.Turns.{lent};
-use drive::Access;
 use drive::Answer;
 use drive::Change;
 use drive::Four;
@@ -19,38 +18,6 @@ use drive::Refusal;
 use drive::State;
 use drive::Status;
 use drive::Turn;
-
-// Says whether a store goes first.
-fn stores_first(m: Marks) -> bool
-    ensures { λ r. ⌜ r ≡ storesFirst m ⌝ }
-{
-    m.known & m.changed & !m.latch
-}
-
-// Returns the state with its run number one up, up to FFFFFFFF hex.
-fn numbered(l: State) -> State
-    ensures { λ r. ⌜ r ≡ numbered l ⌝ }
-{
-    let n = l.run;
-    if n == 4294967295 {
-        return l;
-    }
-    records::with_run(l, n + 1)
-}
-
-// Asks for the store where it goes first, else offers 01.
-fn raise_idle(l: State) -> Turn
-    ensures { λ x. ⌜ x ≡ raisedIdle l ⌝ }
-{
-    let m = l.marks;
-    if stores_first(m) {
-        return records::say(
-            records::in_phase(numbered(l), Phase::Awaiting(Access::Store)),
-            Answer::Store,
-        );
-    }
-    records::offer(l, Offer::Command, 0)
-}
 
 // Returns the offer for a command of n bytes.
 fn offer_for(k: Kind, n: usize) -> Offer
@@ -113,7 +80,7 @@ pub fn raise(l: State) -> Turn
 {
     let p = l.phase;
     match p {
-        Phase::Idle => raise_idle(l),
+        Phase::Idle => records::offer(l, Offer::Command, 0),
         Phase::Offered(_) => records::refuse(l, Refusal::Place),
         Phase::Command => raise_command(l),
         Phase::Data => raise_data(l),
@@ -270,6 +237,7 @@ fn rest(l: State) -> Turn
     let due = Marks {
         known: m.known,
         changed: m.changed,
+        moved: m.moved,
         latch: m.latch,
         fresh: true,
     };

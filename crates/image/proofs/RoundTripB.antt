@@ -44,7 +44,8 @@ module _ (run : ℕ) (t : Table) (cs : List ℕ) where
       let p = passes t h in
       form-b-formed run (spareList t) used (badList t) (spares-few t s h) (used-length s l h) (bads-few t s h) (p .spares) (p .bads) c
 
-  table-back : Shaped t → tableOk t ≡ true → SameTable (tableOf written) t
+  -- the table comes back whatever run number and causes are,
+  pub table-back : Shaped t → tableOk t ≡ true → SameTable (tableOf (imageB run t cs)) t
   table-back s h =
       let p = passes t h in
       let e = layout-b written (form-b-magic run (spareList t) used (badList t)) in (

@@ -21,10 +21,13 @@ use Rattle.drive.specs.declared.Cause.{Cause}
 use Rattle.drive.specs.declared.Cause.the-variants as cause
 use Rattle.drive.specs.declared.Offer.{Offer}
 use Rattle.drive.specs.declared.Offer.the-variants as offer
+use Rattle.drive.specs.declared.Ending.{Ending}
+use Rattle.drive.specs.declared.Ending.the-variants as ending
 use Rattle.drive.specs.declared.Access.{Access}
 use Rattle.drive.specs.declared.Access.the-variants as access
 use Rattle.drive.specs.declared.Phase.{Phase}
 use Rattle.drive.specs.declared.Phase.the-variants as phase
+use Rattle.drive.specs.declared.Seen.{Seen}
 use Rattle.drive.specs.declared.Retry.{Retry}
 use Rattle.drive.specs.declared.Target.{Target}
 use Rattle.drive.specs.declared.Trial.{Trial}
@@ -32,7 +35,7 @@ use Rattle.drive.specs.Records.{retryOk, targetOk, trialOk, accessOk, phaseOk, 
 use Rattle.drive.specs.Words.{response, causeNumber}
 use Rattle.drive.specs.Values.{Bytewise, Typed}
 use Rattle.packed.specs.declared.Stage.{Stage}
-use Rattle.packed.specs.Packing.{bit, flag, pair, low, high, word, long, remembered, causeOf, bare, readStage, targetStage, trialStage, stageOf, damaged, trialOf, phaseOf, packState, packTable, packOf, stageAt, commandAt, stateAt, causesAt, tableAt, unpackOf}
+use Rattle.packed.specs.Packing.{bit, flag, pair, low, high, word, long, remembered, causeOf, bare, storeStage, readStage, targetStage, trialStage, stageOf, damaged, trialOf, phaseOf, packState, packTable, packOf, stageAt, commandAt, stateAt, causesAt, tableAt, unpackOf}
 
 -- A WORD
 
@@ -122,7 +125,7 @@ fits n known (phase.Offered o) h = bare-fits 1 (response o) (omega arith)
 fits n known phase.Command h = bare-fits 2 0 (omega arith)
 fits n known phase.Data h = bare-fits 3 0 (omega arith)
 fits n known (phase.Awaiting (access.Start k)) h = bare-fits 4 k (omega arith)
-fits n known (phase.Awaiting access.Store) h = bare-fits 5 0 (omega arith)
+fits n known (phase.Awaiting (access.Store k)) h = record { kind = omega arith; left = omega arith; spent = omega arith; sector = omega arith }
 fits n known (phase.Awaiting (access.Read r)) h = retry-fits r (and-right known (retryOk r) h)
 fits n known (phase.Awaiting (access.Write w)) h = target-fits 7 w (omega arith) (and-right known (targetOk w) h)
 fits n known (phase.Awaiting (access.Verify w)) h = target-fits 8 w (omega arith) (and-right known (targetOk w) h)
@@ -146,6 +149,18 @@ trial-back k r =
       present = cause-back (r .present) {n = remembered r / 16 % 4} (omega arith) i;
     }
 
+store-back : (e : Ending) (s : Seen) → phaseOf (storeStage (record { ending = e; seen = s })) ≡ phase.Awaiting (access.Store (record { ending = e; seen = s }))
+store-back ending.Good s = refl
+store-back ending.Moved s = refl
+store-back ending.Failed s = refl
+store-back ending.Overrun s = refl
+store-back ending.NoNumber s = refl
+store-back (ending.NoTable false) s = refl
+store-back (ending.NoTable true) s = refl
+store-back ending.Latched s = refl
+store-back ending.BadFull s = refl
+store-back ending.NoSpare s = refl
+
 phase-back : (p : Phase) → phaseOf (stageOf p) ≡ p
 phase-back phase.Idle = refl
 phase-back (phase.Offered offer.Command) = refl
@@ -156,7 +171,7 @@ phase-back (phase.Offered offer.Act) = refl
 phase-back phase.Command = refl
 phase-back phase.Data = refl
 phase-back (phase.Awaiting (access.Start k)) = refl
-phase-back (phase.Awaiting access.Store) = refl
+phase-back (phase.Awaiting (access.Store k)) = store-back (k .ending) (k .seen)
 phase-back (phase.Awaiting (access.Read r)) = refl
 phase-back (phase.Awaiting (access.Write w)) = refl
 phase-back (phase.Awaiting (access.Verify w)) = refl
@@ -216,7 +231,7 @@ module _ (l : State) (r : List ℕ) (n : ℕ) (ok : stateOk n l ≡ true) (full 
       let s = stage-back (fits n (m .known) (l .phase) (and-right few p ok)) in
       λ i. record {
         phase = (ap phaseOf s ∙ phase-back (l .phase)) i;
-        marks = record { known = flag-bit (m .known) i; changed = flag-bit (m .changed) i; latch = flag-bit (m .latch) i; fresh = flag-bit (m .fresh) i };
+        marks = record { known = flag-bit (m .known) i; changed = flag-bit (m .changed) i; moved = flag-bit (m .moved) i; latch = flag-bit (m .latch) i; fresh = flag-bit (m .fresh) i };
         command = command-back i;
         count = word-is (l .count) (omega (arith, leb-true (l .count) 6 (and-left (leb (l .count) 6) (leb (l .fed) 533) x))) i;
         fed = word-is (l .fed) (omega (arith, leb-true (l .fed) 533 (and-right (leb (l .count) 6) (leb (l .fed) 533) x))) i;
@@ -262,17 +277,17 @@ unpacked d y ok =
     }
 
 -- The words of a table and its causes stay where they are packed again.
-pub table-words : (w : List ℕ) → length w ≡ 188 → getD w 22 0 ≤ 65535 → getD w 23 0 ≤ 65535 → packTable (tableAt w) ++ causesAt w ≡ drop 22 w
+pub table-words : (w : List ℕ) → length w ≡ 189 → getD w 23 0 ≤ 65535 → getD w 24 0 ≤ 65535 → packTable (tableAt w) ++ causesAt w ≡ drop 23 w
 unfolding tableAt packTable
 table-words w h a b =
-    let s = take 32 (drop 24 w) in
-    let x : drop 32 (drop 24 w) ≡ drop 56 w = drop-drop 32 24 w in
-    let y : drop 100 (drop 56 w) ≡ drop 156 w = drop-drop 100 56 w in
-    let z : take 32 (drop 156 w) ≡ drop 156 w = take-all 32 (drop 156 w) (omega (arith, length-drop 156 w)) in
-    let q : take 100 (drop 56 w) ++ take 32 (drop 156 w) ≡ drop 32 (drop 24 w) = (λ i. take 100 (drop 56 w) ++ (z ∙ sym y) i) ∙ take-append-drop 100 (drop 56 w) ∙ sym x in
-    (λ i. word-is (getD w 22 0) a i ∷ word-is (getD w 23 0) b i ∷ (append-assoc s (take 100 (drop 56 w)) (take 32 (drop 156 w)) ∙ ap (λ (l : List ℕ). s ++ l) q ∙ take-append-drop 32 (drop 24 w)) i)
-    ∙ ap (λ (l : List ℕ). getD w 22 0 ∷ l) (sym (step w 23 (omega arith)))
-    ∙ sym (step w 22 (omega arith))
+    let s = take 32 (drop 25 w) in
+    let x : drop 32 (drop 25 w) ≡ drop 57 w = drop-drop 32 25 w in
+    let y : drop 100 (drop 57 w) ≡ drop 157 w = drop-drop 100 57 w in
+    let z : take 32 (drop 157 w) ≡ drop 157 w = take-all 32 (drop 157 w) (omega (arith, length-drop 157 w)) in
+    let q : take 100 (drop 57 w) ++ take 32 (drop 157 w) ≡ drop 32 (drop 25 w) = (λ i. take 100 (drop 57 w) ++ (z ∙ sym y) i) ∙ take-append-drop 100 (drop 57 w) ∙ sym x in
+    (λ i. word-is (getD w 23 0) a i ∷ word-is (getD w 24 0) b i ∷ (append-assoc s (take 100 (drop 57 w)) (take 32 (drop 157 w)) ∙ ap (λ (l : List ℕ). s ++ l) q ∙ take-append-drop 32 (drop 25 w)) i)
+    ∙ ap (λ (l : List ℕ). getD w 23 0 ∷ l) (sym (step w 24 (omega arith)))
+    ∙ sym (step w 23 (omega arith))
 
 -- Code 1 refuses a record in the phase that stands for none.
 pub damaged-refused : (d : Drive) → d .state .phase ≡ damaged → recordOk d ≡ false

@@ -1,4 +1,4 @@
--- The record as words, for C: 188 numbers of 16 bits, each with a meaning of its own. Two bytes share a word.
+-- The record as words, for C: 189 numbers of 16 bits, each with a meaning of its own. Two bytes share a word.
 use mathlib.Core.Bool.{Bool, true, false, cond, not}
 use mathlib.Core.List.{List, [], _∷_, _++_}
 use Prim.Native.Nat.{ℕ, _+_, _*_, _/_, _%_}
@@ -11,6 +11,9 @@ use Rattle.drive.specs.declared.Marks.{Marks}
 use Rattle.drive.specs.declared.Cause.{Cause}
 use Rattle.drive.specs.declared.Cause.the-variants as cause
 use Rattle.drive.specs.declared.Offer.the-variants as offer
+use Rattle.drive.specs.declared.Ending.{Ending}
+use Rattle.drive.specs.declared.Ending.the-variants as ending
+use Rattle.drive.specs.declared.Close.{Close}
 use Rattle.drive.specs.declared.Access.{Access}
 use Rattle.drive.specs.declared.Access.the-variants as access
 use Rattle.drive.specs.declared.Phase.{Phase}
@@ -56,12 +59,29 @@ remembered r = causeNumber (r .last) + 4 * causeNumber (r .before) + 16 * causeN
 abbrev pub causeOf : ℕ → Cause
 causeOf n = cond (eqb n 0) cause.Unknown (cond (eqb n 1) cause.Crc (cond (eqb n 2) cause.Timeout cause.NoSettle))
 
--- A PHASE AS A STAGE: its kind is 0 to 10, and what a phase does not have is 0. A trial's rereads are its detail, its failures are
--- in spent, the three that it remembers in remembered; a write that is read back is marked by first.
+-- Returns the number of an ending, in the order of the enum: no table on a read and on a write are two.
+abbrev pub endingNumber : Ending → ℕ
+endingNumber ending.Good = 0
+endingNumber ending.Moved = 1
+endingNumber ending.Failed = 2
+endingNumber ending.Overrun = 3
+endingNumber ending.NoNumber = 4
+endingNumber (ending.NoTable onWrite) = cond onWrite 6 5
+endingNumber ending.Latched = 7
+endingNumber ending.BadFull = 8
+endingNumber ending.NoSpare = 9
+
+-- A PHASE AS A STAGE: its kind is 0 to 10, and what a phase does not have is 0. The detail of a store is the number of the ending that
+-- waits for it. A trial's rereads are its detail, its failures are in spent, the three that it remembers in remembered; a write that
+-- is read back is marked by first.
 
 abbrev pub bare : ℕ → ℕ → Stage
 bare k n =
     record { kind = k; detail = n; sector = 0; block = 0; remembered = 0; left = 0; errors = 0; spent = 0; threshold = 0; first = false; good = false; spare = false; crc = false; timeout = false }
+
+abbrev pub storeStage : Close → Stage
+storeStage k =
+    record { kind = 5; detail = endingNumber (k .ending); sector = 0; block = 0; remembered = 0; left = 0; errors = k .seen .errors; spent = 0; threshold = 0; first = false; good = false; spare = false; crc = k .seen .crc; timeout = k .seen .timeout }
 
 abbrev pub readStage : Retry → Stage
 readStage r =
@@ -77,7 +97,7 @@ trialStage k r =
 
 abbrev pub accessStage : Access → Stage
 accessStage (access.Start k) = bare 4 k
-accessStage access.Store = bare 5 0
+accessStage (access.Store k) = storeStage k
 accessStage (access.Read r) = readStage r
 accessStage (access.Write w) = targetStage 7 w
 accessStage (access.Verify w) = targetStage 8 w
@@ -91,7 +111,7 @@ stageOf phase.Command = bare 2 0
 stageOf phase.Data = bare 3 0
 stageOf (phase.Awaiting x) = accessStage x
 
--- A STAGE AS A PHASE. A kind or an offer that there is not becomes a start that asked for 255 reads, which code 1 refuses.
+-- A STAGE AS A PHASE. A kind, an offer or an ending that there is not becomes a start that asked for 255 reads, which code 1 refuses.
 
 abbrev pub damaged : Phase
 damaged = phase.Awaiting (access.Start 255)
@@ -105,6 +125,21 @@ offered n =
 
 abbrev pub seenOf : Stage → Seen
 seenOf s = record { errors = s .errors; crc = s .crc; timeout = s .timeout }
+
+abbrev pub closing : Ending → Stage → Phase
+closing e s = phase.Awaiting (access.Store (record { ending = e; seen = seenOf s }))
+
+abbrev pub storing : Stage → Phase
+storing s =
+    cond (eqb (s .detail) 0) (closing ending.Good s)
+    (cond (eqb (s .detail) 1) (closing ending.Moved s)
+    (cond (eqb (s .detail) 2) (closing ending.Failed s)
+    (cond (eqb (s .detail) 3) (closing ending.Overrun s)
+    (cond (eqb (s .detail) 4) (closing ending.NoNumber s)
+    (cond (eqb (s .detail) 5) (closing (ending.NoTable false) s)
+    (cond (eqb (s .detail) 6) (closing (ending.NoTable true) s)
+    (cond (eqb (s .detail) 7) (closing ending.Latched s)
+    (cond (eqb (s .detail) 8) (closing ending.BadFull s) (cond (eqb (s .detail) 9) (closing ending.NoSpare s) damaged)))))))))
 
 abbrev pub retryOf : Stage → Retry
 retryOf s =
@@ -124,7 +159,7 @@ phaseOf s =
     (cond (eqb (s .kind) 2) phase.Command
     (cond (eqb (s .kind) 3) phase.Data
     (cond (eqb (s .kind) 4) (phase.Awaiting (access.Start (s .detail)))
-    (cond (eqb (s .kind) 5) (phase.Awaiting access.Store)
+    (cond (eqb (s .kind) 5) (storing s)
     (cond (eqb (s .kind) 6) (phase.Awaiting (access.Read (retryOf s)))
     (cond (eqb (s .kind) 7) (phase.Awaiting (access.Write (targetOf s)))
     (cond (eqb (s .kind) 8) (phase.Awaiting (access.Verify (targetOf s)))
@@ -133,14 +168,14 @@ phaseOf s =
 
 -- PACKING
 
--- Returns the 22 words of a state.
+-- Returns the 23 words of a state.
 abbrev pub stateWords : Marks → Stage → State → List ℕ
 stateWords m s l =
     bit (m .known) ∷ bit (m .changed) ∷ bit (m .latch) ∷ bit (m .fresh)
     ∷ pair (s .kind) (s .detail) ∷ word (s .sector) ∷ s .block ∷ pair (s .left) (s .errors) ∷ pair (s .spent) (s .threshold)
     ∷ bit (s .first) ∷ bit (s .good) ∷ bit (s .spare) ∷ bit (s .crc) ∷ bit (s .timeout) ∷ word (l .count) ∷ word (l .fed)
     ∷ pair (getD (l .command) 0 0) (getD (l .command) 1 0) ∷ pair (getD (l .command) 2 0) (getD (l .command) 3 0)
-    ∷ pair (getD (l .command) 4 0) (getD (l .command) 5 0) ∷ s .remembered ∷ l .run % 65536 ∷ l .run / 65536 ∷ []
+    ∷ pair (getD (l .command) 4 0) (getD (l .command) 5 0) ∷ s .remembered ∷ l .run % 65536 ∷ l .run / 65536 ∷ bit (m .moved) ∷ []
 
 unfoldable pub packState : State → List ℕ
 packState l = stateWords (l .marks) (stageOf (l .phase)) l
@@ -155,7 +190,7 @@ packOf d = packState (d .state) ++ (packTable (d .table) ++ d .causes)
 -- UNPACKING
 
 abbrev pub marksAt : List ℕ → Marks
-marksAt w = record { known = flag (getD w 0 0); changed = flag (getD w 1 0); latch = flag (getD w 2 0); fresh = flag (getD w 3 0) }
+marksAt w = record { known = flag (getD w 0 0); changed = flag (getD w 1 0); moved = flag (getD w 22 0); latch = flag (getD w 2 0); fresh = flag (getD w 3 0) }
 
 abbrev pub stageAt : List ℕ → Stage
 stageAt w =
@@ -183,16 +218,16 @@ unfoldable pub stateAt : List ℕ → State
 stateAt w = record { phase = phaseOf (stageAt w); marks = marksAt w; command = commandAt w; count = getD w 14 0; fed = getD w 15 0; run = long (getD w 20 0) (getD w 21 0) }
 
 abbrev pub sparesAt : List ℕ → List ℕ
-sparesAt w = take 32 (drop 24 w)
+sparesAt w = take 32 (drop 25 w)
 
 abbrev pub badsAt : List ℕ → List ℕ
-badsAt w = take 100 (drop 56 w)
+badsAt w = take 100 (drop 57 w)
 
 abbrev pub causesAt : List ℕ → List ℕ
-causesAt w = take 32 (drop 156 w)
+causesAt w = take 32 (drop 157 w)
 
 unfoldable pub tableAt : List ℕ → Table
-tableAt w = record { spares = sparesAt w; bads = badsAt w; nspares = getD w 22 0; nbads = getD w 23 0 }
+tableAt w = record { spares = sparesAt w; bads = badsAt w; nspares = getD w 23 0; nbads = getD w 24 0 }
 
 abbrev pub unpackOf : List ℕ → Drive
 unpackOf w = record { table = tableAt w; causes = causesAt w; state = stateAt w }

@@ -1,18 +1,20 @@
-// The record as a C program holds it: 188 words of 16 bits. The state is packed into the first 22; the
+// The record as a C program holds it: 189 words of 16 bits. The state is packed into the first 23; the
 // table's counts and entries come next, and the causes of its spare entries last. Any words are unpacked:
-// a flag that is not 0 is true, and a phase or an offer that there is not becomes a phase that code 1
-// refuses.
+// a flag that is not 0 is true, and a phase, an offer or an ending that there is not becomes a phase that
+// code 1 refuses.
 ghost use mathlib.Core.Path.{_≡_};
 ghost use mathlib.Core.List.{_++_};
 ghost use Prim.Native.Nat.{_+_, _≤_};
 ghost use lib.ListN.{length, take, drop, getD};
 ghost use Rattle.buffer.specs.Runs.{over};
 ghost use Rattle.drive.specs.Words.{response, causeNumber};
-ghost use Rattle.packed.specs.Packing.{bit, flag, pair, low, high, word, long, remembered, causeOf, bare, readStage, targetStage, trialStage, accessStage, stageOf};
-ghost use Rattle.packed.specs.Packing.{damaged, offered, seenOf, retryOf, targetOf, trialOf, phaseOf, packState, packTable};
+ghost use Rattle.packed.specs.Packing.{bit, flag, pair, low, high, word, long, remembered, causeOf, endingNumber, bare, storeStage, readStage, targetStage, trialStage, accessStage, stageOf};
+ghost use Rattle.packed.specs.Packing.{damaged, offered, seenOf, closing, storing, retryOf, targetOf, trialOf, phaseOf, packState, packTable};
 ghost use Rattle.packed.specs.Packing.{marksAt, stageAt, commandAt, stateAt, sparesAt, badsAt, causesAt, tableAt};
 use drive::Access;
 use drive::Cause;
+use drive::Close;
+use drive::Ending;
 use drive::Marks;
 use drive::Offer;
 use drive::Phase;
@@ -26,12 +28,12 @@ use geometry::Sector;
 use table::Table;
 
 // Holds a record's words.
-pub type Words = [u16; 188];
+pub type Words = [u16; 189];
 
 // Holds any phase. kind is 0 idle, 1 offered, 2 command, 3 data, 4 start, 5 store, 6 read, 7 write, 8 verify,
-// 9 trial write, 10 trial read; detail is the offer's response byte, the start's reads, or a trial's
-// rereads; spent is also a trial's failures, first also whether a write is read back; remembered holds the
-// three failures that a trial remembers.
+// 9 trial write, 10 trial read; detail is the offer's response byte, the start's reads, the number of the
+// ending that waits for the store, or a trial's rereads; spent is also a trial's failures, first also
+// whether a write is read back; remembered holds the three failures that a trial remembers.
 pub struct Stage {
     pub kind: u8,
     pub detail: u8,
@@ -162,6 +164,23 @@ fn remembered(r: Trial) -> u16
     cause_number(last) + 4 * cause_number(before) + 16 * cause_number(present)
 }
 
+// Returns the number of an ending.
+fn ending_number(e: Ending) -> u8
+    ensures { λ r. ⌜ r ≡ endingNumber e ⌝ }
+{
+    match e {
+        Ending::Good => 0,
+        Ending::Moved => 1,
+        Ending::Failed => 2,
+        Ending::Overrun => 3,
+        Ending::NoNumber => 4,
+        Ending::NoTable(on_write) => if on_write { 6 } else { 5 },
+        Ending::Latched => 7,
+        Ending::BadFull => 8,
+        Ending::NoSpare => 9,
+    }
+}
+
 // Returns the stage of a phase with at most a detail.
 fn bare(kind: u8, detail: u8) -> Stage
     ensures { λ r. ⌜ r ≡ bare kind detail ⌝ }
@@ -181,6 +200,29 @@ fn bare(kind: u8, detail: u8) -> Stage
         spare: false,
         crc: false,
         timeout: false,
+    }
+}
+
+// Returns the stage of the store that a command's end waits for.
+fn store_stage(k: Close) -> Stage
+    ensures { λ x. ⌜ x ≡ storeStage k ⌝ }
+{
+    let e = k.ending;
+    Stage {
+        kind: 5,
+        detail: ending_number(e),
+        sector: 0,
+        block: 0,
+        remembered: 0,
+        left: 0,
+        errors: k.seen.errors,
+        spent: 0,
+        threshold: 0,
+        first: false,
+        good: false,
+        spare: false,
+        crc: k.seen.crc,
+        timeout: k.seen.timeout,
     }
 }
 
@@ -256,7 +298,7 @@ fn access_stage(x: Access) -> Stage
 {
     match x {
         Access::Start(k) => bare(4, k),
-        Access::Store => bare(5, 0),
+        Access::Store(k) => store_stage(k),
         Access::Read(r) => read_stage(r),
         Access::Write(w) => target_stage(7, w),
         Access::Verify(w) => target_stage(8, w),
@@ -307,6 +349,36 @@ fn seen_of(s: Stage) -> Seen
         errors: s.errors,
         crc: s.crc,
         timeout: s.timeout,
+    }
+}
+
+// Returns the phase in which this ending waits for the store.
+fn closing(e: Ending, s: Stage) -> Phase
+    ensures { λ r. ⌜ r ≡ closing e s ⌝ }
+{
+    Phase::Awaiting(Access::Store(Close {
+        ending: e,
+        seen: seen_of(s),
+    }))
+}
+
+// Returns the phase in which the ending of a stage's detail waits for the store.
+fn storing(s: Stage) -> Phase
+    ensures { λ r. ⌜ r ≡ storing s ⌝ }
+{
+    let n = s.detail;
+    match n {
+        0 => closing(Ending::Good, s),
+        1 => closing(Ending::Moved, s),
+        2 => closing(Ending::Failed, s),
+        3 => closing(Ending::Overrun, s),
+        4 => closing(Ending::NoNumber, s),
+        5 => closing(Ending::NoTable(false), s),
+        6 => closing(Ending::NoTable(true), s),
+        7 => closing(Ending::Latched, s),
+        8 => closing(Ending::BadFull, s),
+        9 => closing(Ending::NoSpare, s),
+        _ => damaged(),
     }
 }
 
@@ -365,7 +437,7 @@ fn phase_of(s: Stage) -> Phase
         2 => Phase::Command,
         3 => Phase::Data,
         4 => Phase::Awaiting(Access::Start(s.detail)),
-        5 => Phase::Awaiting(Access::Store),
+        5 => storing(s),
         6 => Phase::Awaiting(Access::Read(retry_of(s))),
         7 => Phase::Awaiting(Access::Write(target_of(s))),
         8 => Phase::Awaiting(Access::Verify(target_of(s))),
@@ -376,7 +448,7 @@ fn phase_of(s: Stage) -> Phase
 }
 
 // Returns the words of a state.
-pub fn pack_state(l: State) -> [u16; 22]
+pub fn pack_state(l: State) -> [u16; 23]
     ensures { λ r. ⌜ r ≡ packState l ⌝ }
 {
     let p = l.phase;
@@ -406,17 +478,19 @@ pub fn pack_state(l: State) -> [u16; 22]
         s.remembered,
         (l.run % 65536) as u16,
         (l.run / 65536) as u16,
+        bit(m.moved),
     ]
 }
 
 // Returns the marks of a record's words.
 fn marks_at(w: &[u16]) -> Marks
-    requires { ⌜ length (now w) ≡ 188 ⌝ }
+    requires { ⌜ length (now w) ≡ 189 ⌝ }
     ensures { λ r. ⌜ r ≡ marksAt (now (w .entry)) ⌝ }
 {
     Marks {
         known: flag(w[0]),
         changed: flag(w[1]),
+        moved: flag(w[22]),
         latch: flag(w[2]),
         fresh: flag(w[3]),
     }
@@ -424,7 +498,7 @@ fn marks_at(w: &[u16]) -> Marks
 
 // Returns the stage of a record's words.
 fn stage_at(w: &[u16]) -> Stage
-    requires { ⌜ length (now w) ≡ 188 ⌝ }
+    requires { ⌜ length (now w) ≡ 189 ⌝ }
     ensures { λ r. ⌜ r ≡ stageAt (now (w .entry)) ⌝ }
 {
     Stage {
@@ -447,7 +521,7 @@ fn stage_at(w: &[u16]) -> Stage
 
 // Returns the command bytes of a record's words.
 fn command_at(w: &[u16]) -> [u8; 6]
-    requires { ⌜ length (now w) ≡ 188 ⌝ }
+    requires { ⌜ length (now w) ≡ 189 ⌝ }
     ensures { λ r. ⌜ r ≡ commandAt (now (w .entry)) ⌝ }
 {
     [
@@ -462,7 +536,7 @@ fn command_at(w: &[u16]) -> [u8; 6]
 
 // Returns the state of a record's words.
 pub fn state_at(w: &[u16]) -> State
-    requires { ⌜ length (now w) ≡ 188 ⌝ }
+    requires { ⌜ length (now w) ≡ 189 ⌝ }
     ensures { λ r. ⌜ r ≡ stateAt (now (w .entry)) ⌝ }
 {
     let s = stage_at(w);
@@ -481,26 +555,26 @@ pub fn state_at(w: &[u16]) -> State
 
 // Returns the places of the spare list.
 pub fn spares(w: &[u16]) -> &[u16]
-    requires { ⌜ length (now w) ≡ 188 ⌝ }
+    requires { ⌜ length (now w) ≡ 189 ⌝ }
     ensures { λ r. ⌜ now r ≡ sparesAt (now (w .entry)) ⌝ }
 {
-    &w[24..56]
+    &w[25..57]
 }
 
 // Returns the places of the bad list.
 pub fn bads(w: &[u16]) -> &[u16]
-    requires { ⌜ length (now w) ≡ 188 ⌝ }
+    requires { ⌜ length (now w) ≡ 189 ⌝ }
     ensures { λ r. ⌜ now r ≡ badsAt (now (w .entry)) ⌝ }
 {
-    &w[56..156]
+    &w[57..157]
 }
 
 // Returns the causes of the spare entries, at the entries' places.
 pub fn causes(w: &[u16]) -> &[u16]
-    requires { ⌜ length (now w) ≡ 188 ⌝ }
+    requires { ⌜ length (now w) ≡ 189 ⌝ }
     ensures { λ r. ⌜ now r ≡ causesAt (now (w .entry)) ⌝ }
 {
-    &w[156..188]
+    &w[157..189]
 }
 
 // Writes the run from index `at` on.
@@ -517,7 +591,7 @@ fn put(out: &mut [u16], at: usize, run: &[u16])
 
 // Returns the table of a record's words.
 pub fn table_at(w: &[u16]) -> Table
-    requires { ⌜ length (now w) ≡ 188 ⌝ }
+    requires { ⌜ length (now w) ≡ 189 ⌝ }
     ensures { λ r. ⌜ r ≡ tableAt (now (w .entry)) ⌝ }
 {
     let mut s = [0u16; 32];
@@ -527,14 +601,14 @@ pub fn table_at(w: &[u16]) -> Table
     Table {
         spares: s,
         bads: b,
-        nspares: number(w[22]),
-        nbads: number(w[23]),
+        nspares: number(w[23]),
+        nbads: number(w[24]),
     }
 }
 
 // Returns the causes of a record's words, as an array.
 pub fn causes_at(w: &[u16]) -> [u16; 32]
-    requires { ⌜ length (now w) ≡ 188 ⌝ }
+    requires { ⌜ length (now w) ≡ 189 ⌝ }
     ensures { λ r. ⌜ r ≡ causesAt (now (w .entry)) ⌝ }
 {
     let mut c = [0u16; 32];
@@ -544,8 +618,8 @@ pub fn causes_at(w: &[u16]) -> [u16; 32]
 
 // Writes a state into a record's words.
 pub fn put_state(w: &mut [u16], l: State)
-    requires { ⌜ length (now w) ≡ 188 ⌝ }
-    ensures { λ r. ⌜ now (w .exit) ≡ packState l ++ drop 22 (now (w .entry)) ⌝ }
+    requires { ⌜ length (now w) ≡ 189 ⌝ }
+    ensures { λ r. ⌜ now (w .exit) ≡ packState l ++ drop 23 (now (w .entry)) ⌝ }
 {
     let s = pack_state(l);
     put(w, 0, &s);
@@ -553,12 +627,12 @@ pub fn put_state(w: &mut [u16], l: State)
 
 // Writes a table and the causes of its spare entries into a record's words.
 pub fn put_table(w: &mut [u16], t: Table, causes: [u16; 32])
-    requires { ⌜ length (now w) ≡ 188 ⌝ }
-    ensures { λ r. ⌜ now (w .exit) ≡ take 22 (now (w .entry)) ++ (packTable t ++ causes) ⌝ }
+    requires { ⌜ length (now w) ≡ 189 ⌝ }
+    ensures { λ r. ⌜ now (w .exit) ≡ take 23 (now (w .entry)) ++ (packTable t ++ causes) ⌝ }
 {
     let counts = [word(t.nspares), word(t.nbads)];
-    put(w, 22, &counts);
-    put(w, 24, &t.spares);
-    put(w, 56, &t.bads);
-    put(w, 156, &causes);
+    put(w, 23, &counts);
+    put(w, 25, &t.spares);
+    put(w, 57, &t.bads);
+    put(w, 157, &causes);
 }

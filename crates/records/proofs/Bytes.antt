@@ -10,7 +10,7 @@ pub bit-fits : (on : Bool) (v : ℕ) → cond on v 0 ≤ v
 bit-fits true v = omega arith
 bit-fits false v = omega arith
 
-pub row-fits : (e : Ending) → (rowOf e .0 ≤ 0x41) × (rowOf e .2 ≤ 0x40)
+pub row-fits : (e : Ending) → (rowOf e .0 ≤ 0x40) × (rowOf e .2 ≤ 0x40)
 row-fits ending.Good = (omega arith, omega arith)
 row-fits ending.Moved = (omega arith, omega arith)
 row-fits ending.Failed = (omega arith, omega arith)

@@ -8,7 +8,7 @@ use Prim.Native.Nat.{ℕ, _+_}
 use lib.Dec.{eqb, ltb, leb}
 use lib.ListN.{length}
 use Rattle.logic.proofs.Bools.{branch}
-use Rattle.geometry.specs.Geometry.{tableSector}
+use Rattle.geometry.specs.Geometry.{isBlock, tableSector}
 use Rattle.geometry.specs.declared.Block.{Block}
 use Rattle.lists.specs.Lists.{memberOf}
 use Rattle.table.specs.declared.Table.{Table}
@@ -21,6 +21,7 @@ use Rattle.drive.specs.declared.Cause.the-variants as cause
 use Rattle.drive.specs.declared.Change.{Change}
 use Rattle.drive.specs.declared.Change.the-variants as change
 use Rattle.drive.specs.declared.Drive.{Drive}
+use Rattle.drive.specs.declared.Ending.{Ending}
 use Rattle.drive.specs.declared.Ending.the-variants as ending
 use Rattle.drive.specs.declared.Kind.{Kind}
 use Rattle.drive.specs.declared.Offer.{Offer}
@@ -40,8 +41,8 @@ use Rattle.drive.specs.declared.Trial.{Trial}
 use Rattle.drive.specs.declared.Turn.{Turn}
 use Rattle.drive.specs.Words.{isRead, isWrite, isVerify}
 use Rattle.drive.specs.Records.{recordOk}
-use Rattle.drive.specs.Results.{storedImage, Out, inPhase, say, refuse, finish, clean, onPresent, guarded}
-use Rattle.drive.specs.Handshake.{offersCommand, storesFirst, numbered, raisedIdle, offerFor, ends, firstRead, firstWrite, firstTrial, isListed, writes, tooLong, asksBuffer, asksTable, asksHealth, noNumber, health, acted, goesOn, brokenOff, lowered}
+use Rattle.drive.specs.Results.{storedImage, Out, inPhase, say, refuse, ended, clean, report, ends, asksStore, stores, wantsStore, finish, onPresent, guarded}
+use Rattle.drive.specs.Handshake.{offerFor, firstRead, firstWrite, firstTrial, isListed, writes, tooLong, asksBuffer, asksTable, asksHealth, noNumber, health, overruns, acted, goesOn, brokenOff, lowered}
 use Rattle.drive.specs.Retries.{met, passed, failed, goesOnReading, afterRead}
 use Rattle.drive.specs.Sparing.{begin, onSpare, hasUnused, nextSpare, missed, stopped, verified, tried, fault, counted, hasReread, isSound, judged, checked}
 use Rattle.drive.specs.Access.{answerFits, bytesFit, fitting, withTable, isTaken, startAnswered, hasRoom, lost, isBelow, settled, writeAnswered, verifyAnswered}
@@ -68,14 +69,6 @@ fitting-cases P read l a n x z = branch P (answerFits read a) (λ e. branch P (b
 
 -- THE HANDSHAKE
 
-pub record RaisedIdle (P : Turn → Type 0) (l : State) : Type 0 where
-  pub stores : storesFirst (l .marks) ≡ true → P (say (inPhase (numbered l) (phase.Awaiting access.Store)) answer.Store)
-  pub offers : storesFirst (l .marks) ≡ false → P (offersCommand l)
-
-pub raised-idle-cases : (P : Turn → Type 0) (l : State) → RaisedIdle P l → P (raisedIdle l)
-unfolding raisedIdle
-raised-idle-cases P l z = branch P (storesFirst (l .marks)) (z .stores) (z .offers)
-
 pub record OfferFor (P : Offer → Type 0) (k : Kind) (n : ℕ) : Type 0 where
   pub read : (isRead k && leb 6 n) ≡ true → P offer.Read
   pub write : (isWrite k && leb 4 n) ≡ true → P offer.Write
@@ -88,7 +81,25 @@ offer-for-cases P k n z =
     branch P (isRead k && leb 6 n) (z .read)
     (λ e. branch P (isWrite k && leb 4 n) (z .write) (λ f. branch P (isVerify k && leb 4 n) (z .verify) (λ g. z .none)))
 
+-- THE END OF A COMMAND FOR A BLOCK
+
+pub record Finish (P : Turn → Type 0) (l : State) (c : Change) (e : Ending) (s : Seen) (p : Part) : Type 0 where
+  pub asks : stores (ended (l .marks) c e) ≡ true → P (asksStore l (ended (l .marks) c e) c e s p)
+  pub reports : stores (ended (l .marks) c e) ≡ false → P (report l (ended (l .marks) c e) c e s (wantsStore (ended (l .marks) c e)) false p)
+
+pub finish-cases : (P : Turn → Type 0) (l : State) (c : Change) (e : Ending) (s : Seen) (p : Part) → Finish P l c e s p → P (finish l c e s p)
+unfolding finish
+finish-cases P l c e s p z = branch P (stores (ended (l .marks) c e)) (z .asks) (z .reports)
+
 -- ACTING ON A COMMAND
+
+pub record Overruns (P : Turn → Type 0) (o : Order) (l : State) : Type 0 where
+  pub block : isBlock (o .number) ≡ true → P (finish l change.Keep ending.Overrun clean part.Kept)
+  pub no-block : isBlock (o .number) ≡ false → P (ends l ending.Overrun part.Kept)
+
+pub overruns-cases : (P : Turn → Type 0) (o : Order) (l : State) → Overruns P o l → P (overruns o l)
+unfolding overruns
+overruns-cases P o l z = branch P (isBlock (o .number)) (z .block) (z .no-block)
 
 -- Says that no rule before the block's own applies.
 pub record OnBlock (o : Order) (l : State) : Type 0 where
@@ -100,7 +111,7 @@ pub record OnBlock (o : Order) (l : State) : Type 0 where
   pub not-health : asksHealth (o .number) ≡ false
 
 pub record Acted (P : Turn → Type 0) (o : Order) (l : State) (t : Table) : Type 0 where
-  pub overrun : tooLong l ≡ true → P (ends l ending.Overrun part.Kept)
+  pub overrun : tooLong l ≡ true → Overruns P o l
   pub no-block : tooLong l ≡ false → noNumber (o .kind) (o .number) ≡ true → P (ends l ending.NoNumber part.Kept)
   pub buffer : noNumber (o .kind) (o .number) ≡ false → asksBuffer (o .number) ≡ true → P (ends l ending.Good part.Kept)
   pub no-table : asksBuffer (o .number) ≡ false → not (l .marks .known) ≡ true → P (ends l (ending.NoTable (not (isRead (o .kind)))) part.Kept)
@@ -108,14 +119,14 @@ pub record Acted (P : Turn → Type 0) (o : Order) (l : State) (t : Table) : Typ
   pub health : not (l .marks .known) ≡ false → asksHealth (o .number) ≡ true
       → P (ends l ending.Good (part.Figures (health (t .nspares) (t .nbads) (l .marks))))
   pub read : OnBlock o l → isRead (o .kind) ≡ true → P (firstRead o l (spareList t))
-  pub latched : OnBlock o l → isRead (o .kind) ≡ false → l .marks .latch ≡ true → P (ends l ending.Latched part.Kept)
+  pub latched : OnBlock o l → isRead (o .kind) ≡ false → l .marks .latch ≡ true → P (finish l change.Keep ending.Latched clean part.Kept)
   pub listed : OnBlock o l → isRead (o .kind) ≡ false → l .marks .latch ≡ false → isListed o t ≡ true → P (firstTrial o l (spareList t))
   pub write : OnBlock o l → isRead (o .kind) ≡ false → l .marks .latch ≡ false → isListed o t ≡ false → P (firstWrite o l (spareList t))
 
 pub acted-cases : (P : Turn → Type 0) (o : Order) (l : State) (t : Table) → Acted P o l t → P (acted o l t)
 unfolding acted writes
 acted-cases P o l t z =
-    branch P (tooLong l) (z .overrun)
+    branch P (tooLong l) (λ e0. overruns-cases P o l (z .overrun e0))
     (λ e0. branch P (noNumber (o .kind) (o .number)) (z .no-block e0)
     (λ e1. branch P (asksBuffer (o .number)) (z .buffer e1)
     (λ e2. branch P (not (l .marks .known)) (z .no-table e2)
@@ -123,7 +134,7 @@ acted-cases P o l t z =
     (λ e4. branch P (asksHealth (o .number)) (z .health e3)
     (λ e5. on-block (record { short = e0; number = e1; not-buffer = e2; known = e3; not-table = e4; not-health = e5 })))))))
   where
-    on-block : OnBlock o l → P (cond (isRead (o .kind)) (firstRead o l (spareList t)) (cond (l .marks .latch) (ends l ending.Latched part.Kept) (cond (isListed o t) (firstTrial o l (spareList t)) (firstWrite o l (spareList t)))))
+    on-block : OnBlock o l → P (cond (isRead (o .kind)) (firstRead o l (spareList t)) (cond (l .marks .latch) (finish l change.Keep ending.Latched clean part.Kept) (cond (isListed o t) (firstTrial o l (spareList t)) (firstWrite o l (spareList t)))))
     on-block b =
         branch P (isRead (o .kind)) (z .read b)
         (λ e. branch P (l .marks .latch) (z .latched b e) (λ f. branch P (isListed o t) (z .listed b e f) (z .write b e f)))

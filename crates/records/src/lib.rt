@@ -1,13 +1,14 @@
 // The tests of a record (document 01's code 1), the command decoded, the ways in which a rule ends, and
 // the four status bytes.
 ghost use mathlib.Core.Path.{_≡_};
-ghost use mathlib.Core.Bool.{cond, _&&_};
+ghost use mathlib.Core.Bool.{cond, _&&_, _||_};
 ghost use Prim.Native.Nat.{_<_};
 ghost use lib.Dec.{eqb};
 ghost use lib.ListN.{take};
 ghost use Rattle.geometry.specs.Geometry.{spareOf};
-ghost use Rattle.drive.specs.Words.{kindOf, numberOf, orderOf, isRead, isWrite, isVerify, rowOf, statusOf};
-ghost use Rattle.drive.specs.Results.{inPhase, withMarks, withRun, say, refuse, alters, latches, altered, finished, finish, clean, onPresent};
+ghost use Rattle.drive.specs.Words.{kindOf, numberOf, orderOf, isRead, isWrite, isVerify, rowOf, fails, latches, statusOf};
+ghost use Rattle.drive.specs.Results.{inPhase, withMarks, withRun, say, refuse, alters, places, altered, ended, reported, clean, onPresent};
+ghost use Rattle.drive.specs.Results.{report, ends, numbered, asksStore, stores, wantsStore, finish};
 ghost use Rattle.drive.specs.Records.{retryOk, targetOk, trialOk, accessOk, phaseOk, stateOk};
 ghost use Rattle.drive.specs.Retries.{met};
 ghost use Rattle.drive.specs.Sparing.{hasUnused};
@@ -17,6 +18,7 @@ use drive::Access;
 use drive::Answer;
 use drive::Cause;
 use drive::Change;
+use drive::Close;
 use drive::Ending;
 use drive::Four;
 use drive::Kind;
@@ -83,7 +85,7 @@ fn access_ok(n: usize, known: bool, x: Access) -> bool
 {
     match x {
         Access::Start(k) => k <= 10,
-        Access::Store => known,
+        Access::Store(_) => known,
         Access::Read(r) => known & retry_ok(r),
         Access::Write(w) => known & target_ok(w),
         Access::Verify(w) => known & target_ok(w),
@@ -330,50 +332,43 @@ pub fn bit(on: bool, v: u8) -> u8
     if on { v } else { 0 }
 }
 
-// Returns status bytes 1, 2 and 3 of an ending.
+// Returns what an ending sets of status bytes 1, 2 and 3, but for bits 4 and 0 of the first.
 fn row_of(e: Ending) -> Row
     ensures { λ r. ⌜ r ≡ rowOf e ⌝ }
 {
     match e {
         Ending::Good => Row(0x00, 0x00, 0x00),
         Ending::Moved => Row(0x00, 0x04, 0x00),
-        Ending::Failed => Row(0x01, 0x00, 0x00),
-        Ending::Overrun => Row(0x41, 0x00, 0x00),
-        Ending::NoNumber => Row(0x01, 0x00, 0x40),
+        Ending::Failed => Row(0x00, 0x00, 0x00),
+        Ending::Overrun => Row(0x40, 0x00, 0x00),
+        Ending::NoNumber => Row(0x00, 0x00, 0x40),
         Ending::NoTable(on_write) => {
             if on_write {
-                Row(0x41, 0x08, 0x00)
+                Row(0x40, 0x08, 0x00)
             } else {
-                Row(0x01, 0x08, 0x00)
+                Row(0x00, 0x08, 0x00)
             }
         },
-        Ending::Latched => Row(0x11, 0x00, 0x00),
-        Ending::BadFull => Row(0x01, 0x10, 0x00),
-        Ending::NoSpare => Row(0x01, 0x40, 0x00),
+        Ending::Latched => Row(0x00, 0x00, 0x00),
+        Ending::BadFull => Row(0x00, 0x10, 0x00),
+        Ending::NoSpare => Row(0x00, 0x40, 0x00),
     }
 }
 
-// Returns the four status bytes of a finish.
-fn status_of(e: Ending, s: Seen, fresh: bool) -> Four
-    ensures { λ r. ⌜ r ≡ statusOf e s fresh ⌝ }
+// Says whether a command that ends so has failed.
+fn fails(e: Ending) -> bool
+    ensures { λ r. ⌜ r ≡ fails e ⌝ }
 {
-    let r = row_of(e);
-    let a = r.0 + bit(s.crc, 0x08) + bit(s.timeout, 0x04);
-    let c = r.2 + bit(fresh, 0x80);
-    Four(a, r.1, c, s.errors)
-}
-
-// Says whether a change adds, kills or removes an entry.
-fn alters(c: Change) -> bool
-    ensures { λ r. ⌜ r ≡ alters c ⌝ }
-{
-    match c {
-        Change::Keep => false,
-        Change::Load => false,
-        Change::Enter(_) => true,
-        Change::Remove(_) => true,
-        Change::Move(_, _, _) => true,
-        Change::Kill(_) => true,
+    match e {
+        Ending::Good => false,
+        Ending::Moved => false,
+        Ending::Failed => true,
+        Ending::Overrun => true,
+        Ending::NoNumber => true,
+        Ending::NoTable(_) => true,
+        Ending::Latched => true,
+        Ending::BadFull => true,
+        Ending::NoSpare => true,
     }
 }
 
@@ -394,6 +389,63 @@ fn latches(e: Ending) -> bool
     }
 }
 
+// Returns status 1 bit 0: the command failed, or its store was not done.
+fn failed_bit(e: Ending, unstored: bool) -> u8
+    ensures { λ x. ⌜ x ≡ cond (fails e || unstored) 0x01 0 ⌝ }
+{
+    bit(fails(e) | unstored, 0x01)
+}
+
+// Returns status 1 bit 4: answer 3, to the store too, or the latch.
+fn latch_bit(e: Ending, unsettled: bool) -> u8
+    ensures { λ x. ⌜ x ≡ cond (latches e || unsettled) 0x10 0 ⌝ }
+{
+    bit(latches(e) | unsettled, 0x10)
+}
+
+// Returns the four status bytes of a finish. unstored: the command failed for want of a store;
+// unsettled: the store was answered 3.
+fn status_of(e: Ending, s: Seen, unstored: bool, unsettled: bool, fresh: bool) -> Four
+    ensures { λ r. ⌜ r ≡ statusOf e s unstored unsettled fresh ⌝ }
+{
+    let r = row_of(e);
+    let a = r.0
+        + failed_bit(e, unstored)
+        + latch_bit(e, unsettled)
+        + bit(s.crc, 0x08)
+        + bit(s.timeout, 0x04);
+    let c = r.2 + bit(fresh, 0x80);
+    Four(a, r.1, c, s.errors)
+}
+
+// Says whether a change adds, kills or removes an entry.
+fn alters(c: Change) -> bool
+    ensures { λ r. ⌜ r ≡ alters c ⌝ }
+{
+    match c {
+        Change::Keep => false,
+        Change::Load => false,
+        Change::Enter(_) => true,
+        Change::Remove(_) => true,
+        Change::Move(_, _, _) => true,
+        Change::Kill(_) => true,
+    }
+}
+
+// Says whether a change gives some block another place.
+fn places(c: Change) -> bool
+    ensures { λ r. ⌜ r ≡ places c ⌝ }
+{
+    match c {
+        Change::Keep => false,
+        Change::Load => false,
+        Change::Enter(_) => false,
+        Change::Remove(_) => false,
+        Change::Move(_, _, _) => true,
+        Change::Kill(_) => false,
+    }
+}
+
 // Returns the marks after a change of the table.
 pub fn altered(m: Marks, c: Change) -> Marks
     ensures { λ r. ⌜ r ≡ altered m c ⌝ }
@@ -401,31 +453,55 @@ pub fn altered(m: Marks, c: Change) -> Marks
     Marks {
         known: m.known,
         changed: alters(c) | m.changed,
+        moved: places(c) | m.moved,
         latch: m.latch,
         fresh: m.fresh,
     }
 }
 
+// Returns the marks where a command ends.
+fn ended(m: Marks, c: Change, e: Ending) -> Marks
+    ensures { λ r. ⌜ r ≡ ended m c e ⌝ }
+{
+    let a = altered(m, c);
+    Marks {
+        known: a.known,
+        changed: a.changed,
+        moved: a.moved,
+        latch: latches(e) | a.latch,
+        fresh: a.fresh,
+    }
+}
+
 // Returns the marks after a finish.
-fn finished(m: Marks, c: Change, e: Ending) -> Marks
-    ensures { λ r. ⌜ r ≡ finished m c e ⌝ }
+fn reported(m: Marks) -> Marks
+    ensures { λ r. ⌜ r ≡ reported m ⌝ }
 {
     Marks {
         known: m.known,
-        changed: alters(c) | m.changed,
-        latch: latches(e) | m.latch,
+        changed: m.changed,
+        moved: m.moved,
+        latch: m.latch,
         fresh: false,
     }
 }
 
-// Finishes the command with its four status bytes.
-pub fn finish(l: State, c: Change, e: Ending, s: Seen, p: Part) -> Turn
-    ensures { λ r. ⌜ r ≡ finish l c e s p ⌝ }
+// Finishes the command with its four status bytes. m are the marks where it ended.
+pub fn report(
+    l: State,
+    m: Marks,
+    c: Change,
+    e: Ending,
+    s: Seen,
+    unstored: bool,
+    unsettled: bool,
+    p: Part,
+) -> Turn
+    ensures { λ r. ⌜ r ≡ report l m c e s unstored unsettled p ⌝ }
 {
-    let m = l.marks;
-    let bytes = status_of(e, s, m.fresh);
+    let bytes = status_of(e, s, unstored, unsettled, m.fresh);
     Turn {
-        state: with_marks(l, finished(m, c, e), Phase::Idle),
+        state: with_marks(l, reported(m), Phase::Idle),
         answer: Answer::Finished,
         change: c,
         leaves: Leaves {
@@ -433,4 +509,66 @@ pub fn finish(l: State, c: Change, e: Ending, s: Seen, p: Part) -> Turn
             part: p,
         },
     }
+}
+
+// Finishes a command that is for no block, without an access.
+pub fn ends(l: State, e: Ending, p: Part) -> Turn
+    ensures { λ r. ⌜ r ≡ ends l e p ⌝ }
+{
+    let m = l.marks;
+    let c = Change::Keep;
+    report(l, ended(m, c, e), c, e, clean(), false, false, p)
+}
+
+// Returns the state with its run number one up, up to FFFFFFFF hex.
+fn numbered(l: State) -> State
+    ensures { λ r. ⌜ r ≡ numbered l ⌝ }
+{
+    let n = l.run;
+    if n == 4294967295 {
+        return l;
+    }
+    with_run(l, n + 1)
+}
+
+// Asks for the store, and keeps how the command ended until its answer.
+fn ask_store(l: State, m: Marks, c: Change, e: Ending, s: Seen, p: Part) -> Turn
+    ensures { λ r. ⌜ r ≡ asksStore l m c e s p ⌝ }
+{
+    let k = Close { ending: e, seen: s };
+    Turn {
+        state: with_marks(numbered(l), m, Phase::Awaiting(Access::Store(k))),
+        answer: Answer::Store,
+        change: c,
+        leaves: Leaves {
+            status: Status::Kept,
+            part: p,
+        },
+    }
+}
+
+// Says whether a command that ends with these marks stores the table.
+fn stores(m: Marks) -> bool
+    ensures { λ r. ⌜ r ≡ stores m ⌝ }
+{
+    m.known & m.changed & !m.latch
+}
+
+// Says whether it fails for want of a store.
+fn wants_store(m: Marks) -> bool
+    ensures { λ r. ⌜ r ≡ wantsStore m ⌝ }
+{
+    m.latch & m.moved
+}
+
+// Ends a command for a block: asks for the store where one is due, else finishes.
+pub fn finish(l: State, c: Change, e: Ending, s: Seen, p: Part) -> Turn
+    ensures { λ r. ⌜ r ≡ finish l c e s p ⌝ }
+{
+    let m = l.marks;
+    let k = ended(m, c, e);
+    if stores(k) {
+        return ask_store(l, k, c, e, s, p);
+    }
+    report(l, k, c, e, s, wants_store(k), false, p)
 }

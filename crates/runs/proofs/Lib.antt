@@ -1,4 +1,5 @@
 pub mod Moves
+pub mod MoveCuts
 pub mod Trials
 pub mod Week
 pub mod Reports

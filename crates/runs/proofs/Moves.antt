@@ -7,8 +7,9 @@ use Rattle.lists.specs.Lists.{dead}
 use Rattle.image.specs.FormA.{formA}
 use Rattle.drive.specs.declared.Drive.{Drive}
 use Rattle.drive.specs.History.{unreadable}
+use Rattle.drive.specs.Run.{afterAll}
 use Rattle.drive.proofs.Computing.{computed}
-use Rattle.drive.proofs.Transcripts.{_⇒_, _⇏_, ended, Run, from, calls, Happens, happens, bytes, disk, sector, go, gives, done, garbles, timesOut, found, opens, stores, asksRead, asksWrite, rereads, trial, asksTable, read, write, finished}
+use Rattle.drive.proofs.Transcripts.{_⇒_, _⇏_, Run, from, calls, Happens, happens, bytes, disk, sector, go, gives, done, garbles, timesOut, found, opens, asksRead, asksWrite, rereads, trial, asksTable, read, write, store, finished}
 
 -- The block is at spare 0. The write of a write/verify there times out, so it moves on at once; the spare passes with timeouts, and
 -- the table's image then shows the old entry dead.
@@ -19,8 +20,8 @@ movedToSpare1 =
       exchanges =
           found (17 ∷ []) []
           ++ opens ++ asksWrite 2 17 (bytes 1)
-          ++ (go ⇒ write 4928 ∷ timesOut ⇒ write 4929 ∷ []) ++ trial 4929 1 timesOut (finished 0x04 0x04 0x80 0)
-          ++ stores ++ asksTable 0x00;
+          ++ (go ⇒ write 4928 ∷ timesOut ⇒ write 4929 ∷ []) ++ trial 4929 1 timesOut store ++ (done ⇒ finished 0x04 0x04 0x80 0 ∷ [])
+          ++ opens ++ asksTable 0x00;
       part = formA (dead ∷ 17 ∷ []) [];
       place = sector 4929;
       candidates = bytes 1 ∷ [];
@@ -38,8 +39,8 @@ noSpareUnused =
       exchanges =
           found (replicate 31 dead) []
           ++ opens ++ asksWrite 2 17 (bytes 1)
-          ++ (go ⇒ write 17 ∷ timesOut ⇒ write 4959 ∷ done ⇏ read 4959 ∷ []) ++ rereads 4959 (replicate 100 (garbles 9)) (finished 0x0D 0x40 0x80 0)
-          ++ stores ++ asksWrite 2 17 (bytes 2) ++ (go ⇒ write 17 ∷ timesOut ⇒ finished 0x05 0x40 0x00 0 ∷ []);
+          ++ (go ⇒ write 17 ∷ timesOut ⇒ write 4959 ∷ done ⇏ read 4959 ∷ []) ++ rereads 4959 (replicate 100 (garbles 9)) store ++ (done ⇒ finished 0x0D 0x40 0x80 0 ∷ [])
+          ++ opens ++ asksWrite 2 17 (bytes 2) ++ (go ⇒ write 17 ∷ timesOut ⇒ finished 0x05 0x40 0x00 0 ∷ []);
       part = bytes 2;
       place = sector 17;
       candidates = bytes 2 ∷ bytes 1 ∷ bytes 7 ∷ [];
@@ -50,7 +51,7 @@ unfolding computed
 with-no-spare-unused-it-keeps-its-sector old = happens old noSpareUnused refl
 
 -- A write done can leave a spare unreadable too.
-pub a-spare-can-become-unreadable : (old : Drive) → ended (from old noSpareUnused) (calls noSpareUnused) .sectors (record { 0 = 4959 }) ≡ unreadable
+pub a-spare-can-become-unreadable : (old : Drive) → afterAll (from old noSpareUnused) (calls noSpareUnused) .sectors (record { 0 = 4959 }) ≡ unreadable
 unfolding computed
 a-spare-can-become-unreadable old = refl
 
@@ -79,7 +80,7 @@ badBlockMoves =
       exchanges =
           found [] (5 ∷ 17 ∷ 6 ∷ [])
           ++ opens ++ asksWrite 1 17 (bytes 1)
-          ++ (go ⇒ write 17 ∷ timesOut ⇒ write 4928 ∷ []) ++ trial 4928 1 timesOut (finished 0x04 0x04 0x80 0) ++ stores ++ asksTable 0x00;
+          ++ (go ⇒ write 17 ∷ timesOut ⇒ write 4928 ∷ []) ++ trial 4928 1 timesOut store ++ (done ⇒ finished 0x04 0x04 0x80 0 ∷ []) ++ opens ++ asksTable 0x00;
       part = formA (17 ∷ []) (5 ∷ 6 ∷ []);
       place = sector 4928;
       candidates = bytes 1 ∷ [];
@@ -134,7 +135,7 @@ spareDies =
       exchanges =
           found [] [] ++ opens ++ asksWrite 2 17 (bytes 1)
           ++ (go ⇒ write 17 ∷ timesOut ⇒ write 4928 ∷ done ⇒ read 4928 ∷ []) ++ rereads 4928 (replicate 100 (garbles 9)) (write 4929)
-          ++ trial 4929 1 timesOut (finished 0x0C 0x04 0x80 0) ++ stores ++ asksTable 0x00;
+          ++ trial 4929 1 timesOut store ++ (done ⇒ finished 0x0C 0x04 0x80 0 ∷ []) ++ opens ++ asksTable 0x00;
       part = formA (dead ∷ 17 ∷ []) [];
       place = sector 4929;
       candidates = bytes 1 ∷ [];
@@ -174,7 +175,7 @@ spareDead =
       candidates = bytes 7 ∷ [];
     }
 
-pub a-spare-that-dies-marks-the-table-at-once : (old : Drive) → ended (from old spareDead) (calls spareDead) .drive .state .marks .changed ≡ true
+pub a-spare-that-dies-marks-the-table-at-once : (old : Drive) → afterAll (from old spareDead) (calls spareDead) .drive .state .marks .changed ≡ true
 unfolding computed
 a-spare-that-dies-marks-the-table-at-once old = refl
 

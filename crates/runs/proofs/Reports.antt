@@ -2,24 +2,30 @@
 use mathlib.Core.Path.{_≡_, refl}
 use mathlib.Core.List.{List, [], _∷_}
 use Prim.Native.Nat.{ℕ}
+use lib.ListN.{replicate}
 use Rattle.image.specs.FormA.{formA}
 use Rattle.drive.specs.declared.Drive.{Drive}
 use Rattle.drive.specs.declared.Answer.the-variants as answer
 use Rattle.drive.specs.declared.Refusal.the-variants as refusal
 use Rattle.drive.specs.Calls.{surface}
 use Rattle.drive.specs.History.{blank}
-use Rattle.drive.specs.Told.{Report, found, written, attempted, given, nothing, reportOf, reportsOf}
+use Rattle.drive.specs.Told.{Report, began, cut, found, placed, written, attempted, given, nothing, reportOf, reportAt, reportsOf}
 use Rattle.drive.proofs.Computing.{computed}
 use Rattle.drive.proofs.Transcripts.{Run, entered, bytes, disk}
 use Rattle.drive.proofs.Rereads.{threeBlocks, unreadableAtFirst}
 use Rattle.runs.proofs.Moves.{noSpareUnused, failedReads}
 use Rattle.drive.proofs.Latch.{latched}
+use Rattle.drive.proofs.Cuts.{twoCuts, startRefused, tableUnreadable}
+use Rattle.runs.proofs.MoveCuts.{rewriteUnreadable, writeCutNew}
 use Rattle.runs.proofs.Week.{week}
 
 -- Leaves out the calls that report nothing of the block.
 abbrev spoken : List Report → List Report
 spoken [] = []
+spoken (began ∷ rs) = began ∷ spoken rs
+spoken (cut x ∷ rs) = cut x ∷ spoken rs
 spoken (found xs ∷ rs) = found xs ∷ spoken rs
+spoken (placed ∷ rs) = placed ∷ spoken rs
 spoken (written x ∷ rs) = written x ∷ spoken rs
 spoken (attempted x ∷ rs) = attempted x ∷ spoken rs
 spoken (given x ∷ rs) = given x ∷ spoken rs
@@ -31,8 +37,8 @@ toldOf n old r = spoken (reportsOf (record { 0 = n }) (r .sectors) blank (entere
 
 pub the-week-is-told :
     (old : Drive) → toldOf 17 old week
-    ≡ found (bytes 7 ∷ []) ∷ written (bytes 1) ∷ given (bytes 1) ∷ given (bytes 1) ∷ given (bytes 1) ∷ written (bytes 2) ∷ given (bytes 2) ∷ []
-unfolding computed reportOf
+    ≡ found (bytes 7 ∷ []) ∷ written (bytes 1) ∷ given (bytes 1) ∷ given (bytes 1) ∷ given (bytes 1) ∷ began ∷ placed ∷ written (bytes 2) ∷ given (bytes 2) ∷ []
+unfolding computed reportOf reportAt
 the-week-is-told old = refl
 
 pub failed-writes-are-told : (old : Drive) → toldOf 17 old noSpareUnused ≡ found (bytes 7 ∷ []) ∷ attempted (bytes 1) ∷ attempted (bytes 2) ∷ []
@@ -61,6 +67,32 @@ a-failed-read-is-not-told old = refl
 pub an-unreadable-sector-is-not-found : (old : Drive) → toldOf 17 old unreadableAtFirst ≡ found [] ∷ written (bytes 1) ∷ []
 unfolding computed reportOf
 an-unreadable-sector-is-not-found old = refl
+
+-- A write that was cut off is told with its bytes, of its own block and of no other; a read that was cut off is a start and no more.
+pub a-cut-write-is-told :
+    (old : Drive) → (toldOf 17 old twoCuts ≡ found (bytes 7 ∷ []) ∷ cut (bytes 1) ∷ placed ∷ began ∷ placed ∷ cut (2 ∷ 2 ∷ replicate 530 0) ∷ placed ∷ [])
+    × (toldOf 18 old twoCuts ≡ found (bytes 7 ∷ []) ∷ began ∷ placed ∷ cut (bytes 3) ∷ placed ∷ began ∷ placed ∷ [])
+unfolding computed reportOf reportAt
+a-cut-write-is-told old = (refl, refl)
+
+pub a-cut-read-is-not-told : (old : Drive) → toldOf 17 old rewriteUnreadable ≡ found (bytes 7 ∷ []) ∷ began ∷ placed ∷ []
+unfolding computed reportOf reportAt
+a-cut-read-is-not-told old = refl
+
+-- With the table unreadable there is nothing but starts to tell.
+pub an-unreadable-table-is-told-by-starts-alone : (old : Drive) → toldOf 17 old tableUnreadable ≡ found (bytes 7 ∷ []) ∷ began ∷ began ∷ []
+unfolding computed reportOf reportAt
+an-unreadable-table-is-told-by-starts-alone old = refl
+
+-- The write's store is cut off: told as a write that was cut off, and then the new bytes are given.
+pub a-write-cut-off-at-its-store-is-told : (old : Drive) → toldOf 17 old writeCutNew ≡ found (bytes 7 ∷ []) ∷ cut (bytes 1) ∷ placed ∷ given (bytes 1) ∷ []
+unfolding computed reportOf reportAt
+a-write-cut-off-at-its-store-is-told old = refl
+
+-- A refused start, with the write under way, tells nothing, and the write is told when it is made.
+pub a-refused-start-is-not-told : (old : Drive) → toldOf 17 old startRefused ≡ found (bytes 7 ∷ []) ∷ written (bytes 1) ∷ given (bytes 1) ∷ []
+unfolding computed reportOf reportAt
+a-refused-start-is-not-told old = refl
 
 -- Brings a table's image in a refused call: nothing is found.
 pub a-refused-call-reports-nothing :

@@ -9,8 +9,10 @@ use Prim.Native.Nat.{ℕ}
 use Rattle.image.specs.FormB.{formB}
 use Rattle.drive.specs.declared.Drive.{Drive}
 use Rattle.drive.specs.History.{held, Sectors}
+use Rattle.drive.specs.Run.{afterAll}
+use Rattle.drive.specs.Surface.{old}
 use Rattle.drive.proofs.Computing.{computed}
-use Rattle.drive.proofs.Transcripts.{holds, Exchange, _⇒_, ended, Run, from, calls, Happens, happens, bytes, disk, sector, go, gives, done, garbles, timesOut, found, foundB, opens, stores, asksRead, asksWrite, rereads, trial, read, write, finished}
+use Rattle.drive.proofs.Transcripts.{holds, Exchange, _⇒_, cuts, Run, from, calls, Happens, happens, bytes, disk, sector, go, gives, done, garbles, timesOut, found, foundB, opens, asksRead, asksWrite, rereads, trial, read, write, store, finished}
 
 -- THE WEEK OF ONE BLOCK. The host asks for two rereads and sets the threshold at 2.
 
@@ -25,18 +27,22 @@ tuesday =
     opens ++ asksRead 17 2 2 ++ (go ⇒ read 17 ∷ garbles 9 ⇒ read 17 ∷ garbles 9 ⇒ read 17 ∷ gives 1 ⇒ finished 0x08 0x00 0x00 1 ∷ [])
 
 -- Both rereads fail; it is rewritten and reread a hundred times, no reread is good, and it moves with its bytes: the sparing bit.
+-- Before it finishes the spare table goes to disk.
 abbrev wednesday : List Exchange
 wednesday =
     opens ++ asksRead 17 2 2
     ++ (go ⇒ read 17 ∷ garbles 9 ⇒ read 17 ∷ garbles 9 ⇒ read 17 ∷ timesOut ⇒ read 17 ∷ gives 1 ⇒ write 17 ∷ done ⇒ read 17 ∷ [])
-    ++ rereads 17 (replicate 100 (garbles 9)) (write 4928) ++ trial 4928 1 (garbles 9) (finished 0x0C 0x04 0x00 2)
+    ++ rereads 17 (replicate 100 (garbles 9)) (write 4928) ++ trial 4928 1 (garbles 9) store ++ (done ⇒ finished 0x0C 0x04 0x00 2 ∷ [])
 
--- The spare table goes to disk, and the drive offers 01.
+-- The host raises CMD, and the drive offers 01: the spare table is on the disk, and nothing is stored.
 abbrev thursday : List Exchange
-thursday = stores
+thursday = opens
 
+-- The workshop was switched off with that offer standing. The drive starts from what Wednesday stored, and the layout is written.
 abbrev friday : List Exchange
-friday = asksWrite 2 17 (bytes 2) ++ (go ⇒ write 4928 ∷ done ⇒ read 4928 ∷ gives 2 ⇒ finished 0x00 0x00 0x00 0 ∷ [])
+friday =
+    (cuts old ∷ []) ++ foundB 1 (17 ∷ []) (1 ∷ []) []
+    ++ opens ++ asksWrite 2 17 (bytes 2) ++ (go ⇒ write 4928 ∷ done ⇒ read 4928 ∷ gives 2 ⇒ finished 0x00 0x00 0x80 0 ∷ [])
 
 abbrev saturday : List Exchange
 saturday = opens ++ asksRead 17 2 2 ++ (go ⇒ read 4928 ∷ gives 2 ⇒ finished 0x00 0x00 0x00 0 ∷ [])
@@ -52,27 +58,27 @@ week =
       candidates = bytes 2 ∷ [];
     }
 
-pub on-saturday-the-new-bytes-are-read : (old : Drive) → Happens old week
+pub on-saturday-the-new-bytes-are-read : (given : Drive) → Happens given week
 unfolding computed
-on-saturday-the-new-bytes-are-read old = happens old week refl
+on-saturday-the-new-bytes-are-read given = happens given week refl
 
--- Returns the table that Thursday's store writes: form B with run number 1, since it is the first store, and for the moved block a
+-- Returns the table that Wednesday's store writes: form B with run number 1, since it is the first store, and for the moved block a
 -- CRC error, the last failure before its spare was tried.
-abbrev thursdaysTable : List ℕ
-thursdaysTable = formB 1 (17 ∷ []) (1 ∷ []) []
+abbrev wednesdaysTable : List ℕ
+wednesdaysTable = formB 1 (17 ∷ []) (1 ∷ []) []
 
 -- Returns what the week leaves on the disk: the table, the new bytes at the spare, and Monday's at the old sector.
 abbrev weekend : Sectors
-weekend = λ s. held (cond (eqb (s .0) 4960) thursdaysTable (cond (eqb (s .0) 4928) (bytes 2) (cond (eqb (s .0) 17) (bytes 1) (bytes 7))))
+weekend = λ s. held (cond (eqb (s .0) 4960) wednesdaysTable (cond (eqb (s .0) 4928) (bytes 2) (cond (eqb (s .0) 17) (bytes 1) (bytes 7))))
 
 -- Says whether the disk holds the same at the sectors that the week wrote.
 abbrev leaves : Sectors → Bool
 leaves σ =
-    holds (σ tableSector) thursdaysTable && (holds (σ (record { 0 = 4928 })) (bytes 2) && holds (σ (record { 0 = 17 })) (bytes 1))
+    holds (σ tableSector) wednesdaysTable && (holds (σ (record { 0 = 4928 })) (bytes 2) && holds (σ (record { 0 = 17 })) (bytes 1))
 
-pub the-week-leaves-its-bytes-on-the-disk : (old : Drive) → leaves (ended (from old week) (calls week) .sectors) ≡ true
+pub the-week-leaves-its-bytes-on-the-disk : (given : Drive) → leaves (afterAll (from given week) (calls week) .sectors) ≡ true
 unfolding computed
-the-week-leaves-its-bytes-on-the-disk old = refl
+the-week-leaves-its-bytes-on-the-disk given = refl
 
 -- Starts again, and reads.
 abbrev weekAfter : Run
@@ -85,6 +91,6 @@ weekAfter =
       candidates = bytes 2 ∷ [];
     }
 
-pub the-next-start-finds-the-block-at-its-spare : (old : Drive) → Happens old weekAfter
+pub the-next-start-finds-the-block-at-its-spare : (given : Drive) → Happens given weekAfter
 unfolding computed
-the-next-start-finds-the-block-at-its-spare old = happens old weekAfter refl
+the-next-start-finds-the-block-at-its-spare given = happens given weekAfter refl

@@ -35,6 +35,7 @@ pub fn never_started() -> Drive {
         marks: Marks {
             known: false,
             changed: false,
+            moved: false,
             latch: false,
             fresh: false,
         },

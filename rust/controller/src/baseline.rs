@@ -2,6 +2,7 @@
 //! against. It tests in each call what documents 01 and 02 ask each call to test, and
 //! is run beside the library by `fuzz`.
 
+mod ending;
 mod image;
 mod packing;
 mod table;
@@ -9,6 +10,7 @@ mod table;
 pub use image::convert;
 
 use crate::{Answer, Code, Offer, Sector, BUFFER, GO_ON, SECTOR_BYTES, STATUS, TABLE};
+use ending::Ending;
 use table::{Cause, Table, DEAD};
 
 const SPARES: usize = 32;
@@ -85,7 +87,8 @@ enum Phase {
     Command,
     Data,
     Start(u8),
-    Store,
+    /// The store before a command finishes, which has ended so and met this.
+    Store(Ending, Seen),
     Read(Read),
     /// The one write of a write command.
     Write(Write),
@@ -102,6 +105,8 @@ pub struct Drive {
     table: Table,
     known: bool,
     changed: bool,
+    /// Some block's place is not stored.
+    moved: bool,
     latch: bool,
     fresh: bool,
     command: [u8; 6],
@@ -169,6 +174,7 @@ impl Drive {
             table: Table::EMPTY,
             known: false,
             changed: false,
+            moved: false,
             latch: false,
             fresh: false,
             command: [0; 6],
@@ -231,7 +237,7 @@ impl Drive {
         match &self.phase {
             Phase::Idle | Phase::Offered(_) | Phase::Command | Phase::Data => true,
             Phase::Start(reads) => *reads <= 10,
-            Phase::Store => self.known,
+            Phase::Store(..) => self.known,
             Phase::Read(read) => {
                 self.known
                     && read.block < BLOCKS
@@ -275,11 +281,6 @@ impl Drive {
     fn raised(&mut self, buffer: &mut [u8]) -> Result<Answer, Code> {
         self.accept(buffer, BUFFER)?;
         match self.phase {
-            Phase::Idle if self.known && self.changed && !self.latch => {
-                self.table.run = self.table.run.saturating_add(1);
-                self.phase = Phase::Store;
-                Ok(Answer::Store)
-            }
             Phase::Idle => Ok(self.offer(Offer::Command)),
             Phase::Command => {
                 let offer = match (self.command[0], self.count) {
@@ -328,28 +329,33 @@ impl Drive {
         let reads = offer == Offer::Read;
         let [_, high, middle, low, ..] = self.command;
         let number = u32::from_be_bytes([0, high, middle, low]);
+        let is_block = number < u32::from(BLOCKS);
         if !reads && self.fed > SECTOR_BYTES {
-            return self.finish(buffer, [0x41, 0, 0, 0]);
+            return match is_block {
+                true => self.end(buffer, Seen::default(), Ending::Overrun),
+                false => self.over(buffer, Ending::Overrun),
+            };
         }
         match number {
-            RAM => return self.finish(buffer, [0; STATUS]),
-            _ if number < u32::from(BLOCKS) => {}
+            RAM => return self.over(buffer, Ending::Good),
+            _ if is_block => {}
             TABLE_IMAGE | HEALTH if reads => {}
-            _ => return self.finish(buffer, [0x01, 0, 0x40, 0]),
+            _ => return self.over(buffer, Ending::NoNumber),
         }
-        if !self.known {
-            let one = if reads { 0x01 } else { 0x41 };
-            return self.finish(buffer, [one, 0x08, 0, 0]);
+        match reads {
+            _ if self.known => {}
+            true => return self.over(buffer, Ending::NoTableOnRead),
+            false => return self.over(buffer, Ending::NoTableOnWrite),
         }
         // The others are blocks, whose numbers fit.
         match number {
             TABLE_IMAGE => image::write_form_a(&self.table, &mut buffer[STATUS..]),
             HEALTH => self.write_health(&mut buffer[STATUS..]),
             _ if reads => return self.begin_read(number as u16),
-            _ if self.latch => return self.finish(buffer, [0x11, 0, 0, 0]),
+            _ if self.latch => return self.end(buffer, Seen::default(), Ending::Latched),
             _ => return self.begin_write(number as u16),
         }
-        self.finish(buffer, [0; STATUS])
+        self.over(buffer, Ending::Good)
     }
 
     fn begin_read(&mut self, block: u16) -> Answer {
@@ -428,12 +434,9 @@ impl Drive {
                 read_lengths(answer, bytes)?;
                 self.start_read(reads, answer, bytes)
             }
-            Phase::Store => {
+            Phase::Store(ending, seen) => {
                 write_lengths(answer, bytes)?;
-                if answer == 0 {
-                    self.changed = false;
-                }
-                self.offer(Offer::Command)
+                self.stored(buffer, ending, seen, answer)
             }
             Phase::Read(read) => {
                 read_lengths(answer, bytes)?;
@@ -505,7 +508,7 @@ impl Drive {
         let good = answer == 0;
         if read.first {
             if good {
-                return self.end(buffer, read.seen, 0, 0);
+                return self.end(buffer, read.seen, Ending::Good);
             }
             read.first = false;
         } else if read.left > 0 {
@@ -528,24 +531,24 @@ impl Drive {
     }
 
     fn never_read(&mut self, buffer: &mut [u8], read: Read) -> Answer {
-        let mut two = 0;
+        let mut ending = Ending::Failed;
         if self.table.bad_at(read.block).is_none() {
             if self.table.nbads < BADS {
                 self.table.push_bad(read.block);
                 self.changed = true;
             } else {
-                two = 0x10;
+                ending = Ending::BadFull;
             }
         }
-        self.end(buffer, read.seen, 0x01, two)
+        self.end(buffer, read.seen, ending)
     }
 
     fn was_read(&mut self, buffer: &mut [u8], read: Read) -> Answer {
         if read.seen.errors < read.threshold {
-            return self.end(buffer, read.seen, 0, 0);
+            return self.end(buffer, read.seen, Ending::Good);
         }
         if self.latch {
-            return self.end(buffer, read.seen, 0x11, 0);
+            return self.end(buffer, read.seen, Ending::Latched);
         }
         self.try_sector(Trial::present(read.block, read.sector, read.seen))
     }
@@ -573,7 +576,7 @@ impl Drive {
             Phase::TrialWrite(trial, rereads) => {
                 self.ask(trial.sector, Phase::TrialRead(trial, rereads))
             }
-            _ => self.end(buffer, trial.seen, 0, 0),
+            _ => self.end(buffer, trial.seen, Ending::Good),
         }
     }
 
@@ -588,7 +591,7 @@ impl Drive {
         match answer {
             3 => self.no_settle(buffer, trial.seen),
             _ if trial.seen.failed(buffer, answer, bytes) => self.try_sector(trial),
-            _ => self.end(buffer, trial.seen, 0, 0),
+            _ => self.end(buffer, trial.seen, Ending::Good),
         }
     }
 
@@ -642,7 +645,7 @@ impl Drive {
                 failures,
                 ..trial
             }),
-            None => self.end(buffer, trial.seen, 0x01, 0x40),
+            None => self.end(buffer, trial.seen, Ending::NoSpare),
         }
     }
 
@@ -652,19 +655,20 @@ impl Drive {
     }
 
     fn passed(&mut self, buffer: &mut [u8], trial: Trial) -> Answer {
-        let mut two = 0;
+        let mut ending = Ending::Good;
         if trial.spare {
             if let Some(old) = self.table.spare_of(trial.block) {
                 self.table.kill(old, trial.failures.present);
             }
             self.push_spare(trial.block, trial.failures.before);
-            two = 0x04;
+            self.moved = true;
+            ending = Ending::Moved;
         }
         if let Some(at) = self.table.bad_at(trial.block) {
             self.table.remove_bad(at);
             self.changed = true;
         }
-        self.end(buffer, trial.seen, 0, two)
+        self.end(buffer, trial.seen, ending)
     }
 
     fn no_settle(&mut self, buffer: &mut [u8], seen: Seen) -> Answer {
@@ -674,12 +678,46 @@ impl Drive {
             self.push_spare(DEAD, Cause::NoSettle);
         }
         self.latch = true;
-        self.end(buffer, seen, 0x11, 0)
+        self.end(buffer, seen, Ending::Latched)
     }
 
-    fn end(&mut self, buffer: &mut [u8], seen: Seen, one: u8, two: u8) -> Answer {
-        let met = u8::from(seen.crc) << 3 | u8::from(seen.timeout) << 2;
-        self.finish(buffer, [one | met, two, 0, seen.errors])
+    /// Ends a command for a block: unstored changes are stored first. Under the latch
+    /// they are not, and it fails while some block's place is unstored.
+    fn end(&mut self, buffer: &mut [u8], seen: Seen, ending: Ending) -> Answer {
+        if self.known && self.changed && !self.latch {
+            self.table.run = self.table.run.saturating_add(1);
+            self.phase = Phase::Store(ending, seen);
+            return Answer::Store;
+        }
+        let mut status = ending.status(seen);
+        status[0] |= u8::from(self.latch && self.moved);
+        self.finish(buffer, status)
+    }
+
+    /// Ends a command that is for no block, or has no table: it stores nothing.
+    fn over(&mut self, buffer: &mut [u8], ending: Ending) -> Answer {
+        self.finish(buffer, ending.status(Seen::default()))
+    }
+
+    /// Finishes a command whose store was answered. It fails unless that is done.
+    fn stored(&mut self, buffer: &mut [u8], ending: Ending, mut seen: Seen, answer: u8) -> Answer {
+        let failed = match answer {
+            0 => {
+                (self.changed, self.moved) = (false, false);
+                0
+            }
+            2 => {
+                seen.timeout = true;
+                0x01
+            }
+            _ => {
+                self.latch = true;
+                0x11
+            }
+        };
+        let mut status = ending.status(seen);
+        status[0] |= failed;
+        self.finish(buffer, status)
     }
 
     fn finish(&mut self, buffer: &mut [u8], mut status: [u8; STATUS]) -> Answer {

@@ -11,14 +11,15 @@ pub const BADS: usize = 100;
 pub const DEAD: u16 = 0xFFFE;
 
 /// Where the lists and the causes begin.
-const AT_SPARES: usize = 24;
+const AT_SPARES: usize = 25;
 const AT_BADS: usize = AT_SPARES + SPARES;
 const AT_CAUSES: usize = AT_BADS + BADS;
 
 /// The numbers of a phase. What a phase does not have is 0. A flag is 0 or 1; what
-/// is not 0 is taken as 1. A trial's rereads are its detail, its failures are in
-/// spent, and remembered has the three failures that it remembers; a write that is
-/// read back is marked by first.
+/// is not 0 is taken as 1. The detail of a store is the number of the ending that
+/// waits for it. A trial's rereads are its detail, its failures are in spent, and
+/// remembered has the three failures that it remembers; a write that is read back is
+/// marked by first.
 #[derive(Clone, Copy, Debug, Default, PartialEq, Eq)]
 pub struct Stage {
     pub kind: u8,
@@ -37,11 +38,12 @@ pub struct Stage {
     pub remembered: u16,
 }
 
-/// The marks, each 0 or 1.
+/// The marks, each 0 or 1. Moved is that some block's place is unstored.
 #[derive(Clone, Copy, Debug, Default, PartialEq, Eq)]
 pub struct Flags {
     pub known: u16,
     pub changed: u16,
+    pub moved: u16,
     pub latch: u16,
     pub fresh: u16,
 }
@@ -62,12 +64,38 @@ pub struct Fields {
     pub causes: [u16; SPARES],
 }
 
+impl Stage {
+    /// Reads them off a record's words.
+    fn of(words: &[u16; WORDS]) -> Stage {
+        let [kind, detail] = words[4].to_le_bytes();
+        let [left, errors] = words[7].to_le_bytes();
+        let [spent, threshold] = words[8].to_le_bytes();
+        Stage {
+            kind,
+            detail,
+            sector: words[5],
+            block: words[6],
+            left,
+            errors,
+            spent,
+            threshold,
+            first: words[9],
+            good: words[10],
+            spare: words[11],
+            crc: words[12],
+            timeout: words[13],
+            remembered: words[19],
+        }
+    }
+}
+
 impl Fields {
     /// Those of the record that was never started.
     pub const NEW: Fields = Fields {
         flags: Flags {
             known: 0,
             changed: 0,
+            moved: 0,
             latch: 0,
             fresh: 0,
         },
@@ -101,9 +129,6 @@ impl Fields {
     /// Reads them off a record.
     pub fn of(drive: &raw::Drive) -> Fields {
         let words = &drive.words;
-        let [kind, detail] = words[4].to_le_bytes();
-        let [left, errors] = words[7].to_le_bytes();
-        let [spent, threshold] = words[8].to_le_bytes();
         let mut command = [0; 6];
         for (pair, word) in command.chunks_mut(2).zip(&words[16..]) {
             pair.copy_from_slice(&word.to_le_bytes());
@@ -112,31 +137,17 @@ impl Fields {
             flags: Flags {
                 known: words[0],
                 changed: words[1],
+                moved: words[22],
                 latch: words[2],
                 fresh: words[3],
             },
-            stage: Stage {
-                kind,
-                detail,
-                sector: words[5],
-                block: words[6],
-                left,
-                errors,
-                spent,
-                threshold,
-                first: words[9],
-                good: words[10],
-                spare: words[11],
-                crc: words[12],
-                timeout: words[13],
-                remembered: words[19],
-            },
+            stage: Stage::of(words),
             count: words[14],
             fed: words[15],
             command,
             run: u32::from(words[20]) + (u32::from(words[21]) << 16),
-            nspares: words[22],
-            nbads: words[23],
+            nspares: words[23],
+            nbads: words[24],
             spares: core::array::from_fn(|place| words[AT_SPARES + place]),
             bads: core::array::from_fn(|place| words[AT_BADS + place]),
             causes: core::array::from_fn(|place| words[AT_CAUSES + place]),
@@ -172,6 +183,7 @@ impl Fields {
             // The low and the high half.
             self.run as u16,
             (self.run >> 16) as u16,
+            flags.moved,
             self.nspares,
             self.nbads,
         ]);

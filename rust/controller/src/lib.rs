@@ -115,7 +115,8 @@ pub enum Answer {
     Read(Sector),
     /// Write the data part to this sector, then call `surface`.
     Write(Sector),
-    /// Write the bytes of `image` to `TABLE`, then call `surface`.
+    /// Write the bytes of `image` to `TABLE`, then call `surface`: a command has
+    /// ended, and finishes with that call.
     Store,
     /// A command is over: the status bytes stand in the buffer.
     Finished,
@@ -258,6 +259,12 @@ impl Drive {
         self.record.words[raw::word::UNSTORED] != 0
     }
 
+    /// Says whether the place of some block that was moved is not stored. Under the
+    /// latch every command for a block then fails.
+    pub fn has_unstored_place(&self) -> bool {
+        self.record.words[raw::word::UNSTORED_PLACE] != 0
+    }
+
     /// Says whether an answer 3 has ended a command since the last start.
     pub fn is_latched(&self) -> bool {
         self.record.words[raw::word::LATCH] != 0
@@ -269,8 +276,8 @@ impl Drive {
         u32::from(high) << 16 | u32::from(low)
     }
 
-    /// Makes the record anew, whatever it was, zeroes the buffer and asks for the
-    /// table.
+    /// Makes the record anew, whatever it was and whatever is under way, zeroes the
+    /// buffer and asks for the table.
     pub fn start(&mut self, buffer: &mut [u8]) -> Answer {
         let (buf, len) = (buffer.as_mut_ptr(), buffer.len());
         Answer::new(unsafe { raw::bv_start(&mut self.record, buf, len) })

@@ -1,7 +1,7 @@
 //! The library as C sees it: `include/bumivondra.h` in Rust.
 
 /// How many words a record has.
-pub const WORDS: usize = 188;
+pub const WORDS: usize = 189;
 
 /// `struct bv_drive`: the record. All of it is the library's own, but for the
 /// words of `word`, which a board may look at.
@@ -28,6 +28,8 @@ pub mod word {
     pub const PHASE: usize = 4;
     /// The run number: its low half, and its high half in the next word.
     pub const RUN: usize = 20;
+    /// Not 0 while the place of some block that was moved is not stored.
+    pub const UNSTORED_PLACE: usize = 22;
 }
 
 /// The phases.

@@ -150,18 +150,96 @@ fn a_block_that_moves_and_the_store() {
         assert_eq!(answer, Answer::Read(Sector(4928)), "{reread}");
         answer = drive.surface(&mut buffer, surface::GOOD, &data);
     }
+    // The command has ended, and finishes after the store.
+    assert_eq!((answer, drive.phase()), (Answer::Store, kind::STORE));
+    assert!(drive.has_unstored() && drive.has_unstored_place());
+    assert_eq!(buffer[..4], [0; 4]);
+    let busy = Answer::Refused(Code::Place);
+    assert_eq!(drive.reset(&mut buffer), busy);
+    assert_eq!(drive.raise(&mut buffer), busy);
+    // The last failure before the spare was a timeout.
+    assert_eq!(stored(&drive), image_b(1, &[(17, cause::TIMEOUT)], &[]));
+    answer = drive.surface(&mut buffer, surface::GOOD, &[]);
     assert_eq!(answer, Answer::Finished);
     assert_eq!(buffer[..4], [0x0C, 0x04, 0x80, 0]);
-
-    assert_eq!(drive.raise(&mut buffer), Answer::Store);
-    let mut lent = [0; SECTOR_BYTES];
-    assert_eq!(drive.image(&mut lent), Answer::Wait);
-    // The last failure before the spare was a timeout.
-    assert_eq!(lent[..], image_b(1, &[(17, cause::TIMEOUT)], &[]));
-    answer = drive.surface(&mut buffer, surface::GOOD, &[]);
-    assert_eq!(answer, Answer::Offer(Offer::Command));
-    assert_eq!(drive.reset(&mut buffer), Answer::Wait);
+    assert!(!drive.has_unstored() && !drive.has_unstored_place());
     assert_eq!(drive.raise(&mut buffer), Answer::Offer(Offer::Command));
+}
+
+/// Moves block 17 to spare 0 by a plain write that times out, up to the store.
+fn moved(drive: &mut Drive, buffer: &mut [u8]) {
+    let asked = command(drive, buffer, &[1, 0, 0, 17], &[0x44; SECTOR_BYTES]);
+    assert_eq!(asked, Answer::Write(Sector(17)));
+    let asked = drive.surface(buffer, surface::TIMEOUT, &[]);
+    assert_eq!(asked, Answer::Write(Sector(4928)));
+    let asked = trial(drive, buffer, 0, surface::CRC);
+    assert_eq!(asked, Answer::Store);
+}
+
+#[test]
+fn stores_that_fail() {
+    let (mut drive, mut buffer) = started();
+    moved(&mut drive, &mut buffer);
+    let done = drive.surface(&mut buffer, surface::TIMEOUT, &[]);
+    assert_eq!(done, Answer::Finished);
+    assert_eq!(buffer[..4], [0x05, 0x04, 0x80, 0]);
+    // Numbers of no block store nothing, and show what is unstored.
+    let done = command(&mut drive, &mut buffer, &READ_HEALTH, &[]);
+    assert_eq!(
+        (done, &buffer[4..8]),
+        (Answer::Finished, &[31, 0, 0, 1][..])
+    );
+    // A first good read stores, and so does a write that was fed too much.
+    let read = [0, 0, 0, 99, 0, 1];
+    command(&mut drive, &mut buffer, &read, &[]);
+    let asked = drive.surface(&mut buffer, surface::GOOD, &[0x66; SECTOR_BYTES]);
+    assert_eq!(asked, Answer::Store);
+    drive.surface(&mut buffer, surface::TIMEOUT, &[]);
+    assert_eq!((&buffer[..4], buffer[4]), (&[0x05, 0, 0, 0][..], 0x66));
+    let asked = command(&mut drive, &mut buffer, &[1, 0, 0, 99], &[0; 533]);
+    assert_eq!(asked, Answer::Store);
+    drive.surface(&mut buffer, surface::NO_SETTLE, &[]);
+    assert_eq!(buffer[..4], [0x51, 0, 0, 0]);
+    assert!(drive.is_latched() && drive.has_unstored_place());
+    // Under the latch a read is made and fails, since a block's place is unstored.
+    command(&mut drive, &mut buffer, &read, &[]);
+    let done = drive.surface(&mut buffer, surface::GOOD, &[0x77; SECTOR_BYTES]);
+    assert_eq!(done, Answer::Finished);
+    assert_eq!((&buffer[..4], buffer[4]), (&[0x01, 0, 0, 0][..], 0x77));
+    assert_eq!(drive.run_number(), 3);
+}
+
+#[test]
+fn a_place_is_more_than_a_change() {
+    let (mut drive, mut buffer) = started();
+    let read = [0, 0, 0, 99, 0, 1];
+    for (block, mark) in [(18, false), (17, true)] {
+        match mark {
+            true => moved(&mut drive, &mut buffer),
+            false => assert_eq!(lost(&mut drive, &mut buffer, block), Answer::Store),
+        }
+        assert_eq!(drive.has_unstored_place(), mark);
+        let mut latched = drive.clone();
+        latched.surface(&mut buffer, surface::NO_SETTLE, &[]);
+        assert_eq!(latched.has_unstored_place(), mark);
+        command(&mut latched, &mut buffer, &read, &[]);
+        let data = [0x66; SECTOR_BYTES];
+        let done = latched.surface(&mut buffer, surface::GOOD, &data);
+        assert_eq!(done, Answer::Finished);
+        assert_eq!(buffer[..4], [u8::from(mark), 0, 0, 0]);
+        drive.surface(&mut buffer, surface::GOOD, &[]);
+    }
+}
+
+#[test]
+fn a_start_at_any_time() {
+    let (mut drive, mut buffer) = started();
+    moved(&mut drive, &mut buffer);
+    let (mut storing, mut other) = (drive.clone(), vec![0xEE; BUFFER]);
+    assert_eq!(storing.start(&mut other), Answer::Read(TABLE));
+    let (mut new, mut zeros) = (Drive::new(), vec![0; BUFFER]);
+    new.start(&mut zeros);
+    assert_eq!((storing, other), (new, zeros));
 }
 
 /// Answers a trial from its write on: so many rereads are answered like this, the
@@ -206,8 +284,8 @@ fn causes_of_entries() {
     assert_eq!(asked, Answer::Write(Sector(4931)));
     let asked = trial(&mut drive, &mut buffer, 100, surface::TIMEOUT);
     assert_eq!(asked, Answer::Write(Sector(4932)));
-    let done = trial(&mut drive, &mut buffer, 30, surface::CRC);
-    assert_eq!((done, &buffer[..2]), (Answer::Finished, &[0x0C, 4][..]));
+    let asked = trial(&mut drive, &mut buffer, 30, surface::CRC);
+    assert_eq!(asked, Answer::Store);
     let moved = [
         (DEAD, 0),
         (DEAD, cause::CRC),
@@ -215,22 +293,19 @@ fn causes_of_entries() {
         (DEAD, cause::TIMEOUT),
         (17, cause::TIMEOUT),
     ];
-    assert_eq!(stored(&drive), image_b(7, &moved, &[]));
+    assert_eq!(stored(&drive), image_b(8, &moved, &[]));
+    let done = drive.surface(&mut buffer, surface::GOOD, &[]);
+    assert_eq!((done, &buffer[..2]), (Answer::Finished, &[0x0C, 4][..]));
 
-    // A no settle on spare 5 kills it.
-    assert_eq!(drive.raise(&mut buffer), Answer::Store);
-    drive.surface(&mut buffer, surface::TIMEOUT, &[]);
-    drive.reset(&mut buffer);
-    assert_eq!(drive.raise(&mut buffer), Answer::Store);
-    drive.surface(&mut buffer, surface::GOOD, &[]);
-    drive.reset(&mut buffer);
+    // A no settle on spare 5 kills it. Under the latch nothing is stored.
     command(&mut drive, &mut buffer, &[1, 0, 0, 18], &data);
     let asked = drive.surface(&mut buffer, surface::TIMEOUT, &[]);
     assert_eq!(asked, Answer::Write(Sector(4933)));
     let done = trial(&mut drive, &mut buffer, 1, surface::NO_SETTLE);
     assert_eq!(done, Answer::Finished);
     let killed = [&moved[..], &[(DEAD, cause::NO_SETTLE)]].concat();
-    assert_eq!(stored(&drive), image_b(9, &killed, &[]));
+    assert_eq!(stored(&drive), image_b(8, &killed, &[]));
+    assert!(drive.has_unstored() && !drive.has_unstored_place());
 }
 
 #[test]
@@ -243,17 +318,12 @@ fn run_numbers_stay_at_their_top() {
     ] {
         let (mut drive, mut buffer) = started_with(&image_b(run, &[], &[]));
         assert_eq!(stored(&drive), image_b(run, &[], &[]));
-        command(&mut drive, &mut buffer, &[0, 0, 0, 17, 0, 1], &[]);
-        for _ in 0..11 {
-            drive.surface(&mut buffer, surface::TIMEOUT, &[]);
-        }
-        assert_eq!(stored(&drive), image_b(run, &[], &[17]));
         for wanted in wanted {
-            assert_eq!(drive.raise(&mut buffer), Answer::Store);
+            // The second time it is in the bad list already.
+            assert_eq!(lost(&mut drive, &mut buffer, 17), Answer::Store);
             assert_eq!(stored(&drive), image_b(wanted, &[], &[17]));
             assert_eq!(Fields::of(drive.record()).run, wanted);
             drive.surface(&mut buffer, surface::TIMEOUT, &[]);
-            drive.reset(&mut buffer);
         }
     }
 }
@@ -395,34 +465,35 @@ fn the_health_block_whatever_the_part_held() {
     }
 }
 
+/// Reads a block that never comes: eleven timeouts enter it in the bad list.
+fn lost(drive: &mut Drive, buffer: &mut [u8], block: u8) -> Answer {
+    let mut answer = command(drive, buffer, &[0, 0, 0, block, 0, 1], &[]);
+    for _ in 0..11 {
+        assert_eq!(answer, Answer::Read(Sector(block.into())));
+        answer = drive.surface(buffer, surface::TIMEOUT, &[]);
+    }
+    answer
+}
+
 #[test]
 fn the_health_block_shows_mark_and_latch() {
     let (mut drive, mut buffer) = started();
-    // Eleven timeouts enter block 17 in the bad list.
-    command(&mut drive, &mut buffer, &[0, 0, 0, 17, 0, 1], &[]);
-    for _ in 0..11 {
-        drive.surface(&mut buffer, surface::TIMEOUT, &[]);
-    }
-    assert_eq!(buffer[..4], [0x05, 0, 0x80, 0]);
-    for (answer, mark) in [
-        (surface::TIMEOUT, 1),
-        (surface::NO_SETTLE, 1),
-        (surface::GOOD, 0),
-    ] {
-        assert_eq!(drive.raise(&mut buffer), Answer::Store);
-        let offer = drive.surface(&mut buffer, answer, &[]);
-        assert_eq!(offer, Answer::Offer(Offer::Command));
-        drive.lower(&mut buffer, GO_ON);
-        drive.feed(&mut buffer, &READ_HEALTH);
-        drive.raise(&mut buffer);
-        assert_eq!(drive.lower(&mut buffer, GO_ON), Answer::Finished);
-        assert_eq!(buffer, healthy([32, 1, 0, mark]));
-    }
-    command(&mut drive, &mut buffer, &[0, 0, 0, 18, 0, 1], &[]);
-    drive.surface(&mut buffer, surface::NO_SETTLE, &[]);
-    assert_eq!(buffer[..4], [0x11, 0, 0, 0]);
     let done = command(&mut drive, &mut buffer, &READ_HEALTH, &[]);
-    assert_eq!((done, buffer), (Answer::Finished, healthy([32, 1, 1, 0])));
+    assert_eq!((done, buffer[2]), (Answer::Finished, 0x80));
+    for (answer, status, first) in [
+        (surface::TIMEOUT, 0x05, [32, 1, 0, 1]),
+        (surface::GOOD, 0x05, [32, 1, 0, 0]),
+        (surface::TIMEOUT, 0x05, [32, 2, 0, 1]),
+        (surface::NO_SETTLE, 0x15, [32, 2, 1, 1]),
+    ] {
+        // A block in the bad list is not entered again, and what is unstored is stored.
+        let block = 16 + first[1];
+        assert_eq!(lost(&mut drive, &mut buffer, block), Answer::Store);
+        let done = drive.surface(&mut buffer, answer, &[]);
+        assert_eq!((done, buffer[0]), (Answer::Finished, status));
+        let done = command(&mut drive, &mut buffer, &READ_HEALTH, &[]);
+        assert_eq!((done, &buffer), (Answer::Finished, &healthy(first)));
+    }
 }
 
 #[test]
@@ -464,11 +535,13 @@ fn codes_in_their_order() {
 
 #[test]
 fn records_that_are_none() {
-    let changes: [fn(&mut Fields); 10] = [
+    let changes: [fn(&mut Fields); 12] = [
         |record| record.stage.kind = kind::TRIAL_READ + 1,
         |record| record.stage.kind = 255,
         |record| (record.stage.kind, record.stage.detail) = (kind::OFFER, 5),
         |record| (record.stage.kind, record.stage.detail) = (kind::START, 11),
+        |record| (record.stage.kind, record.stage.detail) = (kind::STORE, 10),
+        |record| (record.stage.kind, record.stage.detail) = (kind::STORE, 255),
         |record| record.nspares = 33,
         |record| (record.nspares, record.causes[0]) = (1, 4),
         |record| (record.nspares, record.spares[1], record.causes[1]) = (2, 1, 256),
@@ -502,14 +575,16 @@ fn flags_that_are_not_0_are_true() {
         let (drive, mut buffer) = started();
         let mut record = Fields::of(drive.record());
         (record.flags.latch, record.flags.changed) = (number, number);
+        record.flags.moved = number;
         let mut drive = Drive::from(record.record());
-        assert!(drive.is_latched() && drive.has_unstored());
+        assert!(drive.is_latched() && drive.has_unstored() && drive.has_unstored_place());
         let done = command(&mut drive, &mut buffer, &READ_HEALTH, &[]);
         assert_eq!(done, Answer::Finished);
         assert_eq!(buffer[4..8], [32, 0, 1, 1]);
         // What the call left is a packing again.
         let left = Fields::of(drive.record()).flags;
         assert_eq!((left.latch, left.changed, left.fresh), (1, 1, 0));
+        assert_eq!(left.moved, 1);
     }
 }
 

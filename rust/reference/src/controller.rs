@@ -1,13 +1,14 @@
 //! The controller: its record and the eight calls (document 01, "Calls",
-//! "Acting on a command" and "Codes"; document 02, request 6).
+//! "Acting on a command" and "Codes"; document 02, requests 6 and 7).
 //!
 //! `record` has the record and the test of code 1, `acting` what a command does
 //! once it is acted on, `trial` its writes and the trials of sectors, `convert` the
-//! call without a record. Here are the others: what each refuses, in the order of
-//! the codes, and the handshake.
+//! call without a record, `ending` the store before a finish and the finish. Here are
+//! the other calls: what each refuses, in the order of the codes, and the handshake.
 
 mod acting;
 mod convert;
+mod ending;
 mod near;
 mod record;
 #[cfg(test)]
@@ -133,7 +134,8 @@ impl Record {
         if buffer.len() != BUFFER {
             return self.refuse("start", Code::Buffer);
         }
-        met(&format!("start.from.{}", self.phase.name()));
+        met(&format!("start.from.{}", self.phase.full_name()));
+        self.met_dropped();
         *self = Record {
             fresh: true,
             phase: Phase::Starting { reads: 1 },
@@ -227,16 +229,11 @@ impl Record {
     fn raised(&mut self, buffer: &mut [u8]) -> Result<Answer, Code> {
         self.accept(buffer, BUFFER)?;
         match self.phase {
-            Phase::Idle if self.known && self.changed && !self.latch => {
-                met("raise.idle.store");
-                self.count_store();
-                self.phase = Phase::Storing;
-                Ok(Answer::Store)
-            }
             Phase::Idle => {
                 met(match (self.known, self.changed, self.latch) {
                     (false, _, _) => "raise.idle.no-table",
-                    (true, true, _) => "raise.idle.changed-under-latch",
+                    (true, true, true) => "raise.idle.changed-under-latch",
+                    (true, true, false) => "raise.idle.changed",
                     (true, false, true) => "raise.idle.latch",
                     (true, false, false) => "raise.idle.unchanged",
                 });
@@ -257,16 +254,6 @@ impl Record {
             }
             _ => Err(Code::Place),
         }
-    }
-
-    /// Counts a store that is asked for; at its top the run number stays.
-    fn count_store(&mut self) {
-        met(match self.run {
-            TOP_RUN => "store.run-number.at-its-top",
-            run if run + 1 == TOP_RUN => "store.run-number.to-its-top",
-            _ => "store.run-number.one-more",
-        });
-        self.run = self.run.saturating_add(1);
     }
 
     fn raise_name(&self, next: Offer) -> String {
@@ -323,6 +310,7 @@ impl Record {
         let how = if byte == GO_ON { "go-on" } else { "wrong" };
         met(&format!("lower.{how}.{:02x}", offer.byte()));
         if byte != GO_ON {
+            self.met_no_store("wrong-byte");
             buffer[..STATUS].copy_from_slice(&BROKEN_OFF);
             self.rest();
             return Ok(Answer::Finished);
@@ -381,10 +369,7 @@ impl Record {
         if self.phase.awaited().is_some() {
             return Err(Code::Place);
         }
-        met(&match self.phase {
-            Phase::Offered(offer) => format!("reset.offer-{:02x}", offer.byte()),
-            phase => format!("reset.{}", phase.name()),
-        });
+        met(&format!("reset.{}", self.phase.full_name()));
         self.fresh = true;
         self.rest();
         Ok(Answer::Wait)
@@ -410,9 +395,9 @@ impl Record {
                 let outcome = read_outcome(answer, bytes)?;
                 self.start_read(reads, outcome)
             }
-            Phase::Storing => {
+            Phase::Storing { status } => {
                 let outcome = write_outcome(answer, bytes)?;
-                self.stored(outcome)
+                self.stored(buffer, status, outcome)
             }
             Phase::Reading(job, reading) => {
                 let outcome = read_outcome(answer, bytes)?;
@@ -501,19 +486,6 @@ impl Record {
         }
         self.phase = Phase::Starting { reads: reads + 1 };
         Answer::Read(TABLE)
-    }
-
-    /// The store was answered; the raise goes on.
-    fn stored(&mut self, outcome: WriteOutcome) -> Answer {
-        match outcome {
-            WriteOutcome::Done => {
-                met("store.done");
-                self.changed = false;
-            }
-            WriteOutcome::Timeout => met("store.timeout"),
-            WriteOutcome::NoSettle => met("store.no-settle"),
-        }
-        self.offer(Offer::Command)
     }
 
     /// Idle, with nothing left of a command.

@@ -90,7 +90,7 @@ pub struct Entry {
 
 /// A spare table. Its lists are never too long, and no block stands twice in
 /// one of them.
-#[derive(Clone, Debug, PartialEq, Eq)]
+#[derive(Clone, Debug, PartialEq, Eq, Hash)]
 pub struct Table {
     run: u32,
     spares: Vec<Entry>,

@@ -1,17 +1,23 @@
-//! The ledger (document 01, "Ledger"): which lists of calls are allowed.
+//! The ledger (document 01, "Ledger"; document 02, request 7): which lists of calls
+//! are allowed.
 //!
-//! A list begins where an accepted start returned. The ledger sees the sectors
-//! as they are then, and of each call its arguments, its answer and the buffer
-//! it left; it knows nothing of the record.
+//! A list begins where an accepted start returned, and further starts may stand in
+//! it. The ledger sees the sectors as they are when it begins, and of each call its
+//! arguments, its answer and the buffer it left; it knows nothing of the record.
 
+mod places;
+
+use std::collections::BTreeMap;
 use std::fmt;
+use std::hash::{Hash, Hasher};
 use std::rc::Rc;
 
 use crate::controller::{Answer, Offer, GO_ON, STATUS};
 use crate::drive::Call;
-use crate::geometry::{home, spare, Block, Sector, BLOCKS, SECTORS, SECTOR_BYTES, TABLE};
-use crate::image::{self, Spare, Table};
+use crate::geometry::{Block, Sector, SECTOR_BYTES, TABLE};
+use crate::image::{self, Table};
 use crate::surface::{Bytes, Sectors};
+use places::{place, Places};
 
 /// How a list breaks the ledger.
 #[derive(Clone, Copy, Debug, PartialEq, Eq)]
@@ -26,6 +32,9 @@ pub enum Broken {
     },
     /// Two blocks had the same sector.
     SameSector(Block, Block, Sector),
+    /// A command for this block was reported good with no image read since the last
+    /// start.
+    NoTable(Block),
 }
 
 impl fmt::Display for Broken {
@@ -54,30 +63,51 @@ impl fmt::Display for Broken {
                 other.number(),
                 sector.number()
             ),
+            Broken::NoTable(block) => write!(
+                f,
+                "a command for block {} was good without a table",
+                block.number()
+            ),
         }
     }
 }
 
-/// What the ledger keeps for a block.
-#[derive(Clone, Debug, Default, PartialEq, Eq)]
+/// The candidates of a block.
+#[derive(Clone, Debug, PartialEq, Eq, Hash)]
 struct Page {
-    sector: Option<Sector>,
-    /// What this sector held as the list began is a candidate.
-    found: Option<Sector>,
+    /// What its first place held as the list began is a candidate.
+    found: bool,
     /// The other candidates.
-    candidates: Vec<Bytes>,
+    others: Vec<Bytes>,
+}
+
+/// The page of a block that no command has touched.
+impl Default for Page {
+    fn default() -> Page {
+        Page {
+            found: true,
+            others: vec![],
+        }
+    }
 }
 
 impl Page {
-    /// These bytes are the only candidate.
+    /// Makes these bytes the only candidate.
     fn only(&mut self, bytes: &[u8]) {
-        self.found = None;
-        self.candidates = vec![Rc::from(bytes)];
+        self.found = false;
+        self.others = vec![Rc::from(bytes)];
+    }
+
+    /// Adds these bytes to the candidates.
+    fn add(&mut self, bytes: &[u8]) {
+        if !self.others.iter().any(|other| other[..] == *bytes) {
+            self.others.push(Rc::from(bytes));
+        }
     }
 }
 
 /// A command that was acted on, and neither reported nor broken off.
-#[derive(Clone, Debug)]
+#[derive(Clone, Debug, Hash)]
 struct Command {
     opcode: u8,
     number: u32,
@@ -93,12 +123,17 @@ struct Command {
 /// The ledger of one list.
 #[derive(Clone, Debug)]
 pub struct Ledger {
-    sectors: Sectors,
-    pages: Vec<Page>,
-    /// The block of each sector.
-    owners: Vec<Option<Block>>,
+    /// The sectors as the list began.
+    sectors: Rc<Sectors>,
+    /// The table of the first image that was read: it gives the candidates.
+    first: Option<Rc<Table>>,
+    /// The pages of the blocks that commands have touched.
+    pages: BTreeMap<Block, Page>,
+    places: Places,
     /// A read of 4960 is awaited.
     table_awaited: bool,
+    /// An image was read since the last start.
+    imaged: bool,
     /// The offer that stands.
     offer: Option<Offer>,
     /// The first bytes fed since the last offer 01, four at most.
@@ -114,10 +149,12 @@ impl Ledger {
     /// The list begins with these sectors and the read of 4960 awaited.
     pub fn new(sectors: &Sectors) -> Ledger {
         Ledger {
-            sectors: sectors.clone(),
-            pages: vec![Page::default(); BLOCKS as usize],
-            owners: vec![None; SECTORS as usize],
+            sectors: Rc::new(sectors.clone()),
+            first: None,
+            pages: BTreeMap::new(),
+            places: Places::default(),
             table_awaited: true,
+            imaged: false,
             offer: None,
             fed: vec![],
             data: vec![],
@@ -141,13 +178,18 @@ impl Ledger {
         self.good_reads
     }
 
-    /// The next call of the list. An accepted start is not in it, and image and
-    /// convert are no calls of it.
+    /// Hashes what the ledger knows while no offer stands and no bytes are taken: two
+    /// ledgers of the same list's beginning that agree in it go on alike.
+    pub fn hash_standing(&self, hasher: &mut impl Hasher) {
+        (&self.first, &self.pages, &self.places).hash(hasher);
+        (self.table_awaited, self.imaged, &self.command).hash(hasher);
+    }
+
+    /// Takes the next call of the list. Image and convert are no calls of it.
     pub fn call(&mut self, call: &Call, answer: Answer, buffer: &[u8]) {
         if matches!(answer, Answer::Refused(_)) || !call.may_change() {
             return;
         }
-        assert!(*call != Call::Start, "a start begins another list");
         self.take(call);
         self.table_awaited = answer == Answer::Read(TABLE);
         match answer {
@@ -202,10 +244,26 @@ impl Ledger {
             }
             Call::Surface(0, bytes) if self.table_awaited => {
                 if let Ok((_, table)) = image::read(bytes) {
-                    self.take_table(&table);
+                    self.take_table(Rc::new(table));
                 }
             }
+            Call::Start => self.start(),
             _ => {}
+        }
+    }
+
+    /// Ends the command under way at a start. A write of a block that has asked for a
+    /// write s counts as reported failed. Sectors and candidates stay.
+    fn start(&mut self) {
+        self.offer = None;
+        self.imaged = false;
+        let Some(command) = self.command.take() else {
+            return;
+        };
+        if let (Some(block), 0x01 | 0x02, true) =
+            (Block::new(command.number), command.opcode, command.wrote)
+        {
+            self.page(block).add(&command.bytes);
         }
     }
 
@@ -223,39 +281,37 @@ impl Ledger {
         }
     }
 
-    /// The table gives each block its sector, whose bytes are the candidate.
-    fn take_table(&mut self, table: &Table) {
-        for page in &mut self.pages {
-            *page = Page::default();
+    /// Takes the table of an image that was read: it gives each block its sector. The
+    /// first one of the list gives the candidates too, from the sectors as it began.
+    fn take_table(&mut self, table: Rc<Table>) {
+        self.imaged = true;
+        if self.first.is_none() {
+            self.first = Some(table.clone());
+            self.pages.clear();
         }
-        self.owners.fill(None);
-        for number in 0..BLOCKS {
-            if let Some(block) = Block::new(number) {
-                self.place(block, home(block));
-            }
-        }
-        for (k, entry) in table.spares().iter().enumerate() {
-            if let (Spare::Moved(block), Some(sector)) = (entry.spare, spare(k)) {
-                self.place(block, sector);
-            }
-        }
-        for page in &mut self.pages {
-            page.found = page.sector;
-        }
+        self.places = Places::new(table);
+    }
+
+    /// Gives the page of a block, for a change.
+    fn page(&mut self, block: Block) -> &mut Page {
+        self.pages.entry(block).or_default()
+    }
+
+    /// Says whether these bytes are a candidate of a block.
+    fn is_candidate(&self, block: Block, bytes: &[u8]) -> bool {
+        let untouched = Page::default();
+        let page = self.pages.get(&block).unwrap_or(&untouched);
+        let first = self.first.as_ref().filter(|_| page.found);
+        let found = first.and_then(|table| self.sectors.get(place(table, block)));
+        let mut candidates = page.others.iter().chain(&found);
+        candidates.any(|candidate| candidate[..] == *bytes)
     }
 
     /// The block's sector is now this one.
-    fn place(&mut self, block: Block, sector: Sector) {
-        let page = &mut self.pages[block.number() as usize];
-        if let Some(old) = page.sector.replace(sector) {
-            self.owners[old.number() as usize].take_if(|owner| *owner == block);
-        }
-        match self.owners[sector.number() as usize].replace(block) {
-            Some(other) if other != block => {
-                self.broken
-                    .get_or_insert(Broken::SameSector(other, block, sector));
-            }
-            _ => {}
+    fn put(&mut self, block: Block, sector: Sector) {
+        if let Some(other) = self.places.put(block, sector) {
+            self.broken
+                .get_or_insert(Broken::SameSector(other, block, sector));
         }
     }
 
@@ -269,8 +325,7 @@ impl Ledger {
         }
         command.accessed = true;
         let number = command.number;
-        let page = Block::new(number).map(|block| &self.pages[block.number() as usize]);
-        let wanted = page.and_then(|page| page.sector);
+        let wanted = Block::new(number).and_then(|block| self.places.of(block));
         if wanted != Some(sector) {
             self.broken.get_or_insert(Broken::FirstAccess {
                 number,
@@ -286,26 +341,47 @@ impl Ledger {
             return;
         };
         let good = status[0] & 1 == 0;
-        let page = &mut self.pages[block.number() as usize];
+        if good && matches!(command.opcode, 0x00..=0x02) && !self.imaged {
+            self.broken.get_or_insert(Broken::NoTable(block));
+        }
         match command.opcode {
             0x00 if good => {
-                let found = page.found.and_then(|sector| self.sectors.get(sector));
-                let mut candidates = page.candidates.iter().chain(&found);
-                if candidates.any(|bytes| bytes[..] == *data) {
+                if self.is_candidate(block, data) {
                     self.good_reads += 1;
                 } else {
                     self.broken.get_or_insert(Broken::GoodRead(block));
                 }
-                page.only(data);
+                self.page(block).only(data);
             }
-            0x01 | 0x02 if good => page.only(&command.bytes),
-            0x01 | 0x02 if command.wrote => page.candidates.push(Rc::from(command.bytes)),
+            0x01 | 0x02 if good => self.page(block).only(&command.bytes),
+            0x01 | 0x02 if command.wrote => self.page(block).add(&command.bytes),
             _ => {}
         }
         if status[1] & (1 << 2) != 0 {
             if let Some(sector) = command.last_read {
-                self.place(block, sector);
+                self.put(block, sector);
             }
+        }
+    }
+}
+
+/// Ledgers that are wrong, for searches that have to find them out.
+#[cfg(test)]
+impl Ledger {
+    /// Lets the next image be the first one.
+    pub(crate) fn forget_first_image(&mut self) {
+        self.first = None;
+    }
+
+    /// Gives the sectors of the blocks, if there are any.
+    pub(crate) fn places_now(&self) -> Option<Places> {
+        self.first.as_ref().map(|_| self.places.clone())
+    }
+
+    /// Takes such sectors back.
+    pub(crate) fn keep_places(&mut self, places: Option<Places>) {
+        if let Some(places) = places {
+            self.places = places;
         }
     }
 }

@@ -7,6 +7,7 @@ use std::path::Path;
 use std::process::ExitCode;
 
 use reference::compare::{self, Plan, Verdict};
+use reference::world::{self, Size, Tally, LARGE, SMALL};
 use reference::{coverage, fixtures, images, script, scripts};
 
 const USAGE: &str = "\
@@ -22,6 +23,9 @@ usage: reference images-input              print the input of image cases
                                            command and its arguments in one word, and
                                            compare its transcripts with those made here;
                                            SEEDS and CALLS are at least 1
+       reference world [SIZE]              go all ways of small worlds; SIZE is small or
+                                           large, or plain, moved or bad with the
+                                           numbers of blocks, spares, commands and cuts
        reference regenerate ROOT           write the kept files below ROOT
        reference check ROOT                say whether the kept files are current
 ";
@@ -70,6 +74,7 @@ fn run(arguments: &[OsString]) -> Option<io::Result<ExitCode>> {
             };
             return Some(compare((*program)?, plan));
         }
+        (&"world", sizes) => return Some(world(&world_sizes(sizes)?)),
         (&"regenerate", [_]) => regenerate(Path::new(&arguments[1])),
         (&"check", [_]) => return Some(Ok(check(Path::new(&arguments[1])))),
         _ => return None,
@@ -121,6 +126,40 @@ fn compare(program: &str, plan: Plan) -> io::Result<ExitCode> {
             Ok(ExitCode::FAILURE)
         }
     }
+}
+
+/// Finds the worlds that the words name.
+fn world_sizes(words: &[Option<&str>]) -> Option<Vec<Size>> {
+    let words: Option<Vec<&str>> = words.iter().copied().collect();
+    match words?[..] {
+        [] | ["small"] => Some(SMALL.to_vec()),
+        ["large"] => Some(LARGE.to_vec()),
+        [table, blocks, spares, commands, cuts] => {
+            let numbers = [blocks, spares, commands, cuts].map(|word| word.parse().ok());
+            let [blocks, spares, commands, cuts] = numbers;
+            Size::new(table, blocks?, spares?, commands?, cuts?).map(|size| vec![size])
+        }
+        _ => None,
+    }
+}
+
+/// Searches worlds, and prints what was looked at.
+fn world(sizes: &[Size]) -> io::Result<ExitCode> {
+    let mut together = Tally::default();
+    for size in sizes {
+        match world::search(*size) {
+            Ok(tally) => {
+                print(&format!("{size}: {tally}\n"))?;
+                together.add(tally);
+            }
+            Err(violation) => {
+                print(&format!("{size}: not allowed: {violation}\n"))?;
+                return Ok(ExitCode::FAILURE);
+            }
+        }
+    }
+    print(&format!("together: {together}; all are allowed\n"))?;
+    Ok(ExitCode::SUCCESS)
 }
 
 fn regenerate(root: &Path) -> io::Result<()> {

@@ -5,6 +5,8 @@ mod bench;
 mod causes;
 mod commands;
 mod converts;
+mod cuts;
+mod endings;
 mod errors;
 mod form_b;
 mod handshake;
@@ -54,6 +56,8 @@ pub fn all() -> Vec<Stored> {
         short_data::all(),
         starts::all(),
         stores::all(),
+        endings::all(),
+        cuts::all(),
         table_read::all(),
         health::all(),
         reads::all(),
@@ -123,7 +127,7 @@ mod tests {
                 together += size;
             }
         }
-        assert!(together < 1_800_000, "{together} bytes");
+        assert!(together < 2_400_000, "{together} bytes");
     }
 
     #[test]
@@ -143,6 +147,27 @@ mod tests {
                 assert_eq!(lines, stored.tally.calls, "{}", stored.name);
             }
         }
+    }
+
+    #[test]
+    fn the_ledger_looks_on_at_stores_and_cuts() {
+        let about = |stored: &Stored| {
+            let name = stored.name;
+            name == "week" || name.starts_with("cuts-") || name.starts_with("stores")
+        };
+        let scripts: Vec<Stored> = all().into_iter().filter(about).collect();
+        assert_eq!(scripts.len(), 16);
+        let mut cuts = [0; 3];
+        for Stored { name, tally, .. } in scripts {
+            // The surface keeps its rules, so that every list has to be allowed.
+            assert!(tally.lists > 0 && tally.other_lists == 0, "{name}");
+            let none_good = matches!(name, "stores" | "cuts-without-a-table");
+            assert_eq!(tally.good_reads == 0, none_good, "{name}");
+            for (all, more) in cuts.iter_mut().zip(tally.cuts) {
+                *all += more;
+            }
+        }
+        assert!(cuts.iter().all(|&count| count >= 10), "{cuts:?}");
     }
 
     #[test]

@@ -3,7 +3,7 @@
 //!
 //! The policy keeps the surface's rules unless it is told to lie.
 
-use std::collections::HashMap;
+use std::collections::BTreeMap;
 use std::rc::Rc;
 
 use crate::geometry::{Sector, SECTOR_BYTES};
@@ -13,10 +13,10 @@ use crate::rng::Rng;
 pub type Bytes = Rc<[u8]>;
 
 /// All sectors.
-#[derive(Clone, Debug, Default)]
+#[derive(Clone, Debug, Default, PartialEq, Eq, Hash)]
 pub struct Sectors {
     /// Those that were changed; nothing stands for a spoiled one.
-    changed: HashMap<Sector, Option<Bytes>>,
+    changed: BTreeMap<Sector, Option<Bytes>>,
 }
 
 impl Sectors {
@@ -142,6 +142,37 @@ pub fn obeys(sectors: &Sectors, access: Access, sent: &[u8], outcome: &Outcome) 
     }
 }
 
+/// What a power cut leaves of the one write that is pending (document 02, request 7).
+#[derive(Clone, Copy, Debug, PartialEq, Eq, PartialOrd, Ord)]
+pub enum Fate {
+    /// What the sector held before.
+    Old,
+    /// The bytes that were sent.
+    New,
+    /// Nothing that can be read.
+    Spoiled,
+}
+
+/// All fates.
+pub const FATES: [Fate; 3] = [Fate::Old, Fate::New, Fate::Spoiled];
+
+impl Fate {
+    /// Gives what it does to the sector of a pending access, which a read leaves as it
+    /// is; a write was sent these bytes.
+    pub fn left(self, access: Access, sent: &[u8]) -> Left {
+        match (access, self) {
+            (Access::Read(_), _) | (_, Fate::Old) => Left::Alone,
+            (Access::Write(_), Fate::New) => Left::Held(sent.to_vec()),
+            (Access::Write(_), Fate::Spoiled) => Left::Spoiled,
+        }
+    }
+}
+
+/// Says whether a power cut may do this to the sector of a pending access.
+pub fn cut_obeys(access: Access, sent: &[u8], left: &Left) -> bool {
+    FATES.iter().any(|fate| fate.left(access, sent) == *left)
+}
+
 /// How the surface behaves for a while.
 #[derive(Clone, Copy, Debug, PartialEq, Eq)]
 pub enum Mood {
@@ -245,6 +276,14 @@ impl Policy {
             Mood::Faint => (14, 60, 33),
             Mood::Garbled => (0, 100, 100),
         }
+    }
+
+    /// Chooses what a power cut leaves of an access that is pending.
+    pub fn cut(&mut self, access: Access, sent: &[u8]) -> Left {
+        if self.lies && self.rng.one_in(6) {
+            return self.lie(access, sent).left;
+        }
+        self.rng.pick(&FATES).left(access, sent)
     }
 
     fn read(&mut self, sectors: &Sectors, sector: Sector) -> Outcome {
@@ -463,6 +502,29 @@ mod tests {
         assert!(pairs > 1000, "{pairs}");
         // With nothing to swap one byte is another.
         assert_ne!(near_miss(&mut rng, &[7]), [7]);
+    }
+
+    #[test]
+    fn rules_of_a_cut() {
+        let here = sector(17);
+        let sent = [7; 532];
+        let held = Left::Held(sent.to_vec());
+        let other = Left::Held(vec![8; 532]);
+        for (left, allowed) in [
+            (&Left::Alone, true),
+            (&held, true),
+            (&Left::Spoiled, true),
+            (&other, false),
+        ] {
+            assert_eq!(cut_obeys(Access::Write(here), &sent, left), allowed);
+            // A read changes nothing.
+            let alone = *left == Left::Alone;
+            assert_eq!(cut_obeys(Access::Read(here), &sent, left), alone);
+        }
+        for (fate, left) in FATES.iter().zip([Left::Alone, held, Left::Spoiled]) {
+            assert_eq!(fate.left(Access::Write(here), &sent), left);
+            assert_eq!(fate.left(Access::Read(here), &sent), Left::Alone);
+        }
     }
 
     /// How many of a thousand outcomes keep the rules.

@@ -43,6 +43,24 @@ fn agreement_says_how_many_calls() {
 }
 
 #[test]
+fn a_world_says_what_was_looked_at() {
+    let (status, out, message) = reference(&["world", "plain", "1", "1", "1", "1"]);
+    assert_eq!((status, message.as_str()), (0, ""));
+    let mut lines = out.lines();
+    let first = lines.next().expect("a line");
+    let size = "plain: blocks 1, spares 1, commands 1, cuts 1: ";
+    assert!(first.starts_with(size), "{first}");
+    let last = lines.next().expect("a line");
+    assert!(last.ends_with("; all are allowed"), "{last}");
+    for words in [
+        &["world", "huge"][..],
+        &["world", "plain", "3", "1", "1", "1"],
+    ] {
+        assert_eq!(reference(words).0, 2, "{words:?}");
+    }
+}
+
+#[test]
 fn a_difference_is_no_success() {
     let (status, out, _) = reference(&["compare", "cat", "2", "20"]);
     assert_eq!(status, 1);

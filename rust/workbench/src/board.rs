@@ -1,18 +1,25 @@
 //! The board: the proved controller over the platter. It does each access that the
 //! controller asks for as it was ordered, holds it against the surface's rules, and
-//! tells the history of every call.
+//! tells the history of every call. At an access at which the power fails it does no
+//! more, and is off.
 
-use controller::raw::kind;
+use controller::raw::{self, kind};
 use controller::{Answer, Drive, BUFFER, SECTOR_BYTES, STATUS};
 use reference::drive::Call;
 use reference::geometry::{Sector, TABLE};
 use reference::image::{form_b, Form, Table};
-use reference::surface::{obeys, Access, Left};
+use reference::surface::{cut_obeys, obeys, Access, Left};
 
 use crate::faults::Faults;
 use crate::history::History;
 use crate::platter::Platter;
+use crate::power::{Fate, Power};
 use crate::{surface, table_files};
+
+/// What stands in the words of the record and in the buffer of a drive that was switched
+/// off. A start may be given anything.
+const LOST_WORD: u16 = 0xA5A5;
+const LOST_BYTE: u8 = 0xA5;
 
 /// What an access is for.
 #[derive(Clone, Copy, Debug, PartialEq, Eq)]
@@ -44,14 +51,26 @@ pub struct Accessed {
     pub unreadable: bool,
 }
 
+/// An access at which the power failed.
+#[derive(Clone, Copy, Debug, PartialEq, Eq)]
+pub struct Cut {
+    pub purpose: Purpose,
+    pub sector: Sector,
+    /// Which access of its line of the host it is, the first being 1.
+    pub access: usize,
+    /// What a write left.
+    pub fate: Fate,
+}
+
 /// The board.
-#[derive(Debug)]
+#[derive(Clone, Debug)]
 pub struct Board {
     drive: Drive,
     buffer: [u8; BUFFER],
     platter: Platter,
     history: History,
     pub faults: Faults,
+    pub power: Power,
     /// It was started, and not switched off since.
     on: bool,
     /// The last answer that was neither an access nor a refusal.
@@ -67,6 +86,7 @@ impl Board {
             platter,
             history: History::default(),
             faults: Faults::default(),
+            power: Power::default(),
             on: false,
             last: Answer::Wait,
         }
@@ -111,8 +131,11 @@ impl Board {
         &self.buffer[STATUS..]
     }
 
-    /// The table that the controller knows. Its image is of form B.
+    /// The table that the controller knows; none if it is off. Its image is of form B.
     pub fn table(&self) -> Option<Table> {
+        if !self.on {
+            return None;
+        }
         let mut bytes = [0; SECTOR_BYTES];
         match self.drive.image(&mut bytes) {
             Answer::Wait => Some(form_b::read(&bytes).expect("the image call gives form B")),
@@ -125,24 +148,55 @@ impl Board {
     pub fn convert(&mut self) -> Result<Form, String> {
         let held = table_files::held(&self.platter)?;
         let (form, image) = table_files::turned(&held)?;
-        self.drive = Drive::new();
-        self.on = false;
-        self.last = Answer::Wait;
+        self.switch_off();
         let left = Left::Held(image.to_vec());
         self.platter.leave(Access::Write(TABLE), &image, &left);
         Ok(form)
     }
 
-    /// Makes a call and does the accesses that it leads to.
-    pub fn turn(&mut self, call: &Call, done: &mut Vec<Accessed>) -> Answer {
+    /// Switches the drive off: what the record and the buffer held is lost.
+    fn switch_off(&mut self) {
+        let words = [LOST_WORD; raw::WORDS];
+        self.drive = Drive::from(raw::Drive { words });
+        self.buffer = [LOST_BYTE; BUFFER];
+        self.on = false;
+        self.last = Answer::Wait;
+    }
+
+    /// Makes a call and does the accesses that it leads to, unless the power fails at one.
+    pub fn turn(&mut self, call: &Call, done: &mut Vec<Accessed>) -> Result<Answer, Cut> {
         let mut answer = self.call(call);
         while let Some((purpose, sector)) = asked(answer, self.drive.phase()) {
+            if let Some(fate) = self.power.fails(purpose) {
+                let access = done.len() + 1;
+                let cut = Cut {
+                    purpose,
+                    sector,
+                    access,
+                    fate,
+                };
+                self.cut(cut);
+                return Err(cut);
+            }
             answer = self.access(purpose, sector, done);
         }
         if !matches!(answer, Answer::Refused(_)) {
             self.last = answer;
         }
-        answer
+        Ok(answer)
+    }
+
+    /// Cuts the power at an access that was asked for.
+    fn cut(&mut self, cut: Cut) {
+        let (access, sent) = self.asked_for(cut.purpose, cut.sector);
+        let left = surface::left_at_a_cut(access, &sent, cut.fate);
+        assert!(
+            cut_obeys(access, &sent, &left),
+            "the simulated surface broke its rules at a power cut: {access:?} left {:?}",
+            cut.fate
+        );
+        self.platter.leave(access, &sent, &left);
+        self.switch_off();
     }
 
     /// Makes one call and tells the history.
@@ -160,7 +214,8 @@ impl Board {
         match call {
             Call::Start => {
                 self.on = true;
-                self.history.begin(self.platter.sectors());
+                let sectors = self.platter.sectors();
+                self.history.start(sectors, answer, &self.buffer);
             }
             _ => self.history.call(call, answer, &self.buffer),
         }
@@ -169,11 +224,7 @@ impl Board {
 
     /// Does one access as it is ordered, and tells the controller how it went.
     fn access(&mut self, purpose: Purpose, sector: Sector, done: &mut Vec<Accessed>) -> Answer {
-        let (access, sent) = match purpose {
-            Purpose::Read | Purpose::Reread => (Access::Read(sector), vec![]),
-            Purpose::Write | Purpose::TrialWrite => (Access::Write(sector), self.data().to_vec()),
-            Purpose::Store => (Access::Write(sector), self.image_to_store()),
-        };
+        let (access, sent) = self.asked_for(purpose, sector);
         let effect = self.faults.order(purpose, sector);
         let outcome = surface::outcome(&self.platter, access, &sent, effect);
         assert!(
@@ -188,6 +239,15 @@ impl Board {
             unreadable: outcome.left == Left::Spoiled,
         });
         self.call(&Call::Surface(outcome.answer, outcome.bytes))
+    }
+
+    /// The access for a purpose, with the bytes that a write is sent.
+    fn asked_for(&self, purpose: Purpose, sector: Sector) -> (Access, Vec<u8>) {
+        match purpose {
+            Purpose::Read | Purpose::Reread => (Access::Read(sector), vec![]),
+            Purpose::Write | Purpose::TrialWrite => (Access::Write(sector), self.data().to_vec()),
+            Purpose::Store => (Access::Write(sector), self.image_to_store()),
+        }
     }
 
     fn image_to_store(&self) -> Vec<u8> {

@@ -1,5 +1,5 @@
-//! The history: document 01's ledger, which runs along and begins anew at each
-//! start.
+//! The history: the ledger, which runs along from the first start to the end of the run.
+//! Each further start is one of its calls (document 02, request 7).
 
 use controller::{Answer, Code, Offer};
 use reference::controller as ledgers;
@@ -8,8 +8,8 @@ use reference::geometry::Sector;
 use reference::ledger::{Broken, Ledger};
 use reference::surface::Sectors;
 
-/// The ledgers of a run, one for each start.
-#[derive(Debug, Default)]
+/// The history of a run.
+#[derive(Clone, Debug, Default)]
 pub struct History {
     ledger: Option<Ledger>,
     starts: u32,
@@ -17,10 +17,14 @@ pub struct History {
 }
 
 impl History {
-    /// A start was accepted: a list begins, with these sectors.
-    pub fn begin(&mut self, sectors: &Sectors) {
-        self.ledger = Some(Ledger::new(sectors));
+    /// A start was accepted, with these sectors. The first begins the list; each further
+    /// one is a call of it, with its answer and the buffer it left.
+    pub fn start(&mut self, sectors: &Sectors, answer: Answer, buffer: &[u8]) {
         self.starts += 1;
+        match self.ledger {
+            None => self.ledger = Some(Ledger::new(sectors)),
+            Some(_) => self.call(&Call::Start, answer, buffer),
+        }
     }
 
     /// The next call of the list, with its answer and the buffer it left.
@@ -34,7 +38,7 @@ impl History {
         }
     }
 
-    /// Whether all lists are allowed.
+    /// Whether the list is allowed.
     pub fn allowed(&self) -> bool {
         self.broken.is_none()
     }

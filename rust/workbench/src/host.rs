@@ -5,7 +5,7 @@ use reference::drive::Call;
 use reference::geometry::{home, spare, Block, Sector};
 use reference::image::{three_bytes, Cause, Entry, Spare, Table};
 
-use crate::board::{Accessed, Board};
+use crate::board::{Accessed, Board, Cut};
 use crate::{bus, status};
 
 /// A read's retry count and threshold.
@@ -30,6 +30,8 @@ pub enum End {
     /// The controller waits for the host.
     Waits,
     Refused(Code),
+    /// The power failed, so that nothing was reported.
+    Cut(Cut),
 }
 
 /// A change of the table.
@@ -61,6 +63,11 @@ impl Report {
     pub fn good(&self) -> bool {
         matches!(self.end, End::Finished(bytes) if status::good(bytes))
     }
+
+    /// Whether the power failed.
+    pub fn cut(&self) -> bool {
+        matches!(self.end, End::Cut(_))
+    }
 }
 
 /// What was counted in a run.
@@ -69,13 +76,15 @@ pub struct Tally {
     /// Commands that were acted on and finished.
     pub commands: u64,
     pub failed: u64,
-    /// All accesses, those of starts and stores too.
+    /// All accesses that were answered, those of starts and stores too.
     pub accesses: u64,
     pub moves: u64,
+    /// Power cuts.
+    pub cuts: u64,
 }
 
 /// The host and its board.
-#[derive(Debug)]
+#[derive(Clone, Debug)]
 pub struct Host {
     pub board: Board,
     pub tally: Tally,
@@ -151,29 +160,31 @@ impl Host {
         report
     }
 
-    /// Makes calls until one finishes a command or is refused.
+    /// Makes calls until one finishes a command or is refused, or the power fails.
     fn perform(&mut self, calls: &[Call]) -> Report {
         let before = self.board.table();
         let mut accesses = vec![];
         let mut end = End::Waits;
         for call in calls {
             end = match self.board.turn(call, &mut accesses) {
-                Answer::Finished => {
+                Ok(Answer::Finished) => {
                     bus::carry(&self.board.status());
                     End::Finished(self.board.status())
                 }
-                Answer::Offer(offer) => {
+                Ok(Answer::Offer(offer)) => {
                     bus::carry(&[offer.byte()]);
                     End::Offered(offer)
                 }
-                Answer::Refused(code) => End::Refused(code),
-                _ => End::Waits,
+                Ok(Answer::Refused(code)) => End::Refused(code),
+                Ok(_) => End::Waits,
+                Err(cut) => End::Cut(cut),
             };
-            if matches!(end, End::Finished(_) | End::Refused(_)) {
+            if !matches!(end, End::Offered(_) | End::Waits) {
                 break;
             }
         }
         self.tally.accesses += accesses.len() as u64;
+        self.tally.cuts += u64::from(matches!(end, End::Cut(_)));
         let changes = match calls {
             [Call::Start] => vec![],
             _ => changes(before.as_ref(), self.board.table().as_ref()),
@@ -235,8 +246,10 @@ fn moved(old: &[Entry], block: Block, k: usize, cause: Cause) -> Change {
 #[cfg(test)]
 mod tests {
     use super::*;
+    use crate::board::Purpose;
     use crate::faults::{Effect, Fault, Kind};
     use crate::platter::Platter;
+    use crate::power::{Fate, Order, When};
     use reference::surface::{Access, Left};
 
     fn started() -> Host {
@@ -311,10 +324,7 @@ mod tests {
         let mut host = started();
         host.write(5, true, &[7; 532]);
         assert!(host.board.history().allowed());
-        let other = vec![8; 532];
-        let access = Access::Write(sector(5));
-        let platter = host.board.platter_mut();
-        platter.leave(access, &other, &Left::Held(other.clone()));
+        change(&mut host, 5, 8);
         assert!(host.read(5, USUAL).good());
         host.start();
         assert!(!host.board.history().allowed());
@@ -322,6 +332,72 @@ mod tests {
             host.board.history().verdict(),
             "broken, after start 1: a good read of block 5 gave other bytes"
         );
+    }
+
+    /// Writes these bytes over a sector that holds other ones.
+    fn change(host: &mut Host, number: u32, byte: u8) {
+        let other = vec![byte; 532];
+        let platter = host.board.platter_mut();
+        let left = Left::Held(other.clone());
+        platter.leave(Access::Write(sector(number)), &other, &left);
+    }
+
+    #[test]
+    fn the_history_reaches_across_starts() {
+        let mut host = started();
+        host.write(5, true, &[7; 532]);
+        host.start();
+        assert!(host.read(5, USUAL).good());
+        assert!(host.board.history().allowed());
+        host.start();
+        change(&mut host, 5, 8);
+        host.start();
+        assert!(host.board.history().allowed());
+        assert!(host.read(5, USUAL).good());
+        assert_eq!(host.board.history().starts(), 4);
+        assert_eq!(
+            host.board.history().verdict(),
+            "broken, after start 4: a good read of block 5 gave other bytes"
+        );
+    }
+
+    /// A write of block 5 at which the power fails, and what the next start and read find.
+    fn cut_write(fate: Fate) -> (Host, Report) {
+        let mut host = started();
+        host.write(5, false, &[7; 532]);
+        let when = When::Access(1);
+        host.board.power.order(Order { when, fate });
+        let cut = host.write(5, false, &[8; 532]);
+        assert_eq!(
+            cut.end,
+            End::Cut(Cut {
+                purpose: Purpose::Write,
+                sector: sector(5),
+                access: 1,
+                fate
+            })
+        );
+        assert!(cut.accesses.is_empty() && !host.board.is_on());
+        assert_eq!(host.board.table(), None);
+        assert!(host.board.data().iter().all(|&byte| byte == 0xA5));
+        assert_eq!(host.start().end, End::Waits);
+        let read = host.read(5, USUAL);
+        (host, read)
+    }
+
+    #[test]
+    fn a_write_that_the_power_cuts_is_old_new_or_unreadable() {
+        for (fate, byte) in [(Fate::Old, 7), (Fate::New, 8)] {
+            let (host, read) = cut_write(fate);
+            assert_eq!(read.end, End::Finished([0, 0, 0x80, 0]));
+            assert!(host.board.data().iter().all(|&held| held == byte));
+            assert!(host.board.history().allowed());
+            assert_eq!((host.tally.commands, host.tally.cuts), (2, 1));
+        }
+        let (host, read) = cut_write(Fate::Unreadable);
+        assert!(!read.good());
+        assert_eq!(host.board.platter().unreadable(), [sector(5)]);
+        assert!(host.board.history().allowed());
     }
 
     #[test]

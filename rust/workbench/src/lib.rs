@@ -1,9 +1,9 @@
 //! The workbench: a simulated drive on which outcomes can be ordered up.
 //!
 //! `platter` holds the sectors, `faults` what the surface is ordered to do, and
-//! `surface` answers an access by the two. `board` puts them under the proved
-//! controller, with `history` beside it, and `host` makes the host's commands; `bus`
-//! carries what it is sent, with the parity bit.
+//! `surface` answers an access by the two; `power` says at which access the power fails.
+//! `board` puts them under the proved controller, with `history` beside it, and `host`
+//! makes the host's commands; `bus` carries what it is sent, with the parity bit.
 //! `plan` reads a line of a plan, with its `data`, and `run` does it; `traffic` makes
 //! random commands. `health` has the figures of the health block, and `table` says the
 //! table in words. `show`, `status`, `trials`, `trace` and `summary` say what happened,
@@ -24,6 +24,7 @@ pub mod image_files;
 pub mod picture;
 pub mod plan;
 pub mod platter;
+pub mod power;
 pub mod progress;
 pub mod run;
 pub mod show;

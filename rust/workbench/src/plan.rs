@@ -1,12 +1,14 @@
 //! A line of a plan. `docs/WORKBENCH.md` describes each with an example.
 
 mod orders;
+mod power;
 #[cfg(test)]
 mod tests;
 mod words;
 
 use crate::data::{Blocks, Data};
 use crate::host::{Retry, USUAL};
+use crate::power as ordered;
 pub use orders::Order;
 use words::Words;
 
@@ -41,6 +43,12 @@ pub enum Line {
     Health,
     Traffic(Traffic),
     Fault(Order),
+    /// The power fails.
+    Power(ordered::Order),
+    /// The lines from here are done again with power cuts.
+    CutsFrom,
+    /// The lines up to here are.
+    CutsTo,
     Expect(Vec<Expectation>),
 }
 
@@ -61,11 +69,14 @@ pub enum Expectation {
     /// Moved to a spare, or not.
     Spared,
     InPlace,
-    /// A store was done.
+    /// A store was done, or none was.
     Stored,
+    NotStored,
+    /// The power failed in the line.
+    Cut,
     /// E.
     Errors(u8),
-    /// The command's own, without a store.
+    /// All that were answered, a store too.
     Accesses(u32),
     Status([u8; 4]),
 }
@@ -93,6 +104,8 @@ pub fn parse(line: &str) -> Result<Line, String> {
         "dump" => dump(words),
         "traffic" => traffic(words),
         "fault" => orders::parse(words).map(Line::Fault),
+        "power" => power::parse(words).map(Line::Power),
+        "cuts" => power::cuts(words),
         "expect" => expect(words),
         other => Err(format!("\"{other}\" begins no line of a plan; see --help")),
     }
@@ -208,6 +221,8 @@ fn expectation(word: &str, words: &mut Words) -> Result<Expectation, String> {
         "spared" => Ok(Expectation::Spared),
         "in-place" => Ok(Expectation::InPlace),
         "stored" => Ok(Expectation::Stored),
+        "not-stored" => Ok(Expectation::NotStored),
+        "cut" => Ok(Expectation::Cut),
         "errors" => Ok(Expectation::Errors(words.number("E", 255)? as u8)),
         "accesses" => Ok(Expectation::Accesses(words.number("a count", u32::MAX)?)),
         "status" => {

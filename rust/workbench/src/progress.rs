@@ -19,6 +19,11 @@ impl Progress {
         }
     }
 
+    /// Shown nowhere.
+    pub fn silent() -> Progress {
+        Progress { shown: false }
+    }
+
     /// So many commands of a line are done.
     pub fn tick(self, what: &str, done: usize, all: usize) {
         if self.shown && all > STEP && done.is_multiple_of(STEP) {

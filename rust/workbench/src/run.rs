@@ -1,6 +1,7 @@
 //! Runs a plan, line by line.
 
 mod blocks;
+mod cuts;
 mod expect;
 mod health;
 #[cfg(test)]
@@ -13,10 +14,11 @@ use std::path::PathBuf;
 use crate::board::Board;
 use crate::host::{End, Host, Report};
 use crate::picture::{Moment, Outcome};
-use crate::plan::{self, Line};
+use crate::plan::{self, Line, Order};
 use crate::platter::Platter;
 use crate::progress::Progress;
 use crate::{show, summary, table, trace};
+use cuts::{Again, Compared};
 
 /// How a plan is run.
 #[derive(Clone, Debug, Default)]
@@ -65,6 +67,11 @@ pub struct Run<W: Write> {
     expectations: u32,
     unmet: u32,
     moments: Vec<Moment>,
+    /// The line in which the power failed, if the drive was not started since.
+    failed_in: Option<usize>,
+    /// What is done again with power cuts.
+    again: Option<Again>,
+    compared: Compared,
 }
 
 impl<W: Write> Run<W> {
@@ -74,17 +81,26 @@ impl<W: Write> Run<W> {
             Some(path) => Platter::open(path)?,
             None => Platter::blank(),
         };
-        Ok(Run {
-            host: Host::new(Board::new(platter)),
+        let host = Host::new(Board::new(platter));
+        Ok(Run::over(host, settings, Progress::new(), out))
+    }
+
+    /// Runs over this host.
+    fn over(host: Host, settings: Settings, progress: Progress, out: W) -> Run<W> {
+        Run {
+            host,
             out,
             settings,
-            progress: Progress::new(),
+            progress,
             number: 0,
             last: vec![],
             expectations: 0,
             unmet: 0,
             moments: vec![],
-        })
+            failed_in: None,
+            again: None,
+            compared: Compared::default(),
+        }
     }
 
     /// The number of the line that was read last.
@@ -101,6 +117,7 @@ impl<W: Write> Run<W> {
             self.number += 1;
             let read = input.read_until(b'\n', &mut bytes);
             if read.map_err(|error| error.to_string())? == 0 {
+                self.cuts_are_over()?;
                 return self.save();
             }
             let line = std::str::from_utf8(&bytes).map_err(|_| String::from("no UTF-8 text"))?;
@@ -142,9 +159,22 @@ impl<W: Write> Run<W> {
     /// Does a line that was read from this text.
     fn line(&mut self, line: Line, text: &str) -> Result<(), Stop> {
         if needs_start(&line) && !self.host.board.is_on() {
-            let message = "the drive is not started yet: a line \"start\" comes first";
-            return Err(Stop::Line(String::from(message)));
+            let why = match self.failed_in {
+                Some(number) => format!("off since the power failed in line {number}"),
+                None => String::from("not started yet"),
+            };
+            let message = format!("the drive is {why}: a line \"start\" comes first");
+            return Err(Stop::Line(message));
         }
+        self.keep_for_cuts(&line)?;
+        if line == Line::Fault(Order::ClearAll) {
+            self.host.board.power.clear();
+        }
+        self.act(line, text)
+    }
+
+    /// Does a line that can be done.
+    fn act(&mut self, line: Line, text: &str) -> Result<(), Stop> {
         match line {
             Line::Nothing => Ok(()),
             Line::Say(text) => self.say(text),
@@ -152,6 +182,12 @@ impl<W: Write> Run<W> {
                 order.give(&mut self.host.board.faults);
                 Ok(writeln!(self.out, "{text}")?)
             }
+            Line::Power(order) => {
+                self.host.board.power.order(order);
+                Ok(writeln!(self.out, "{text}")?)
+            }
+            Line::CutsFrom => self.cuts_from(),
+            Line::CutsTo => self.cuts_to(),
             Line::Start => self.start(),
             Line::Reset => self.single("reset", Host::reset),
             Line::Raise => self.single("raise", Host::raise),
@@ -191,9 +227,13 @@ impl<W: Write> Run<W> {
 
     fn start(&mut self) -> Result<(), Stop> {
         let report = self.host.start();
-        let found = self.found().unwrap_or(String::from("no table found"));
-        let accesses = show::folded(&report.accesses).join(", ");
-        writeln!(self.out, "start: {accesses}, {found}")?;
+        let mut words = show::folded(&report.accesses);
+        words.push(match report.end {
+            End::Cut(_) => show::ending(report.end),
+            _ => self.found().unwrap_or(String::from("no table found")),
+        });
+        writeln!(self.out, "start: {}", words.join(", "))?;
+        self.failed_in = None;
         self.record("start", report)
     }
 
@@ -229,14 +269,21 @@ impl<W: Write> Run<W> {
         for line in trace::lines(&report.accesses) {
             writeln!(self.out, "    {line}")?;
         }
-        if let End::Finished(status) = report.end {
-            writeln!(self.out, "    {}", trace::status_line(status))?;
+        match report.end {
+            End::Finished(status) => writeln!(self.out, "    {}", trace::status_line(status))?,
+            End::Cut(cut) => writeln!(self.out, "    {}", trace::cut_line(cut))?,
+            _ => {}
         }
         Ok(())
     }
 
-    /// Keeps a report for the picture.
+    /// Keeps a report: that the power failed, its accesses if they are to be done again,
+    /// and all of it for the picture.
     fn remember(&mut self, name: &str, report: &Report) {
+        if report.cut() {
+            self.failed_in = Some(self.number);
+        }
+        self.count_for_cuts(report);
         if !self.settings.moments {
             return;
         }
@@ -277,6 +324,14 @@ impl<W: Write> Run<W> {
 fn needs_start(line: &Line) -> bool {
     !matches!(
         line,
-        Line::Nothing | Line::Say(_) | Line::Start | Line::Fault(_) | Line::Convert
+        Line::Nothing
+            | Line::Say(_)
+            | Line::Start
+            | Line::Fault(_)
+            | Line::Power(_)
+            | Line::CutsFrom
+            | Line::CutsTo
+            | Line::Convert
+            | Line::Expect(_)
     )
 }

@@ -3,11 +3,12 @@
 use controller::{Code, Offer};
 use reference::geometry::{spare, Sector, SPARES};
 
-use crate::board::{Accessed, Purpose};
+use crate::board::{Accessed, Cut, Purpose};
 use crate::health::Health;
 use crate::host::{Change, End, Report};
 use crate::picture::Outcome;
-use crate::{status, surface};
+use crate::power::Fate;
+use crate::{status, surface, trace};
 
 /// So many of a thing.
 pub fn count(number: u64, one: &str, more: &str) -> String {
@@ -23,7 +24,7 @@ pub fn count_or_no(number: u64, one: &str, more: &str) -> String {
     }
 }
 
-/// A store in words, then so many accesses and faults of each kind.
+/// So many accesses and faults of each kind, then a store in words.
 pub fn folded(accesses: &[Accessed]) -> Vec<String> {
     let own: Vec<&Accessed> = accesses.iter().filter(|a| !is_store(a)).collect();
     let reads = own.iter().filter(|a| a.purpose.reads()).count() as u64;
@@ -36,7 +37,7 @@ pub fn folded(accesses: &[Accessed]) -> Vec<String> {
         (answer(surface::NO_SETTLE), "no settle", "no settles"),
     ];
     let stores = accesses.iter().filter(|a| is_store(a));
-    stores.map(store).chain(met(counts)).collect()
+    met(counts).into_iter().chain(stores.map(store)).collect()
 }
 
 /// Counts in words, without those that are 0.
@@ -46,7 +47,7 @@ pub fn met<const N: usize>(counts: [(u64, &str, &str); N]) -> Vec<String> {
         .collect()
 }
 
-/// Whether an access is a store, which belongs to no command.
+/// Whether an access is a store.
 pub fn is_store(accessed: &Accessed) -> bool {
     accessed.purpose == Purpose::Store
 }
@@ -62,7 +63,7 @@ fn store(accessed: &Accessed) -> String {
 /// A command's accesses, its verdict, E if it had errors, and the other bits.
 pub fn command(report: &Report) -> String {
     let mut words = folded(&report.accesses);
-    if first_access(&report.accesses).is_none() {
+    if report.accesses.is_empty() && !report.cut() {
         words.push(String::from("no access"));
     }
     match report.end {
@@ -96,7 +97,7 @@ fn at_spare(report: &Report) -> Option<String> {
     Some(format!("in {}", spare_name(k)))
 }
 
-/// The first access that is the command's own.
+/// The first access that is no store.
 fn first_access(accesses: &[Accessed]) -> Option<&Accessed> {
     accesses.iter().find(|a| !is_store(a))
 }
@@ -127,6 +128,33 @@ pub fn ending(end: End) -> String {
         End::Offered(offer) => format!("offer {:02x}, {}", offer.byte(), offered(offer)),
         End::Waits => String::from("the controller waits"),
         End::Refused(code) => format!("refused, code {}: {}", code.number(), refused(code)),
+        End::Cut(cut) => power_cut(cut),
+    }
+}
+
+/// Says at which access the power failed, and what is left of a write.
+fn power_cut(cut: Cut) -> String {
+    let access = cut.access;
+    let place = match cut.purpose {
+        Purpose::Store => String::from("during the store"),
+        purpose => format!("at {} {}", trace::verb(purpose), cut.sector.number()),
+    };
+    match left(cut) {
+        Some(left) => format!("power fails {place} (access {access}), {left}"),
+        None => format!("power fails {place} (access {access})"),
+    }
+}
+
+/// Says what a write left at which the power failed. A read changes nothing.
+pub fn left(cut: Cut) -> Option<&'static str> {
+    match (cut.purpose, cut.fate) {
+        (Purpose::Read | Purpose::Reread, _) => None,
+        (Purpose::Store, Fate::Old) => Some("the old table stays"),
+        (Purpose::Store, Fate::New) => Some("the new table stands"),
+        (Purpose::Store, Fate::Unreadable) => Some("the table is unreadable"),
+        (_, Fate::Old) => Some("the sector keeps its old bytes"),
+        (_, Fate::New) => Some("the sector has the new bytes"),
+        (_, Fate::Unreadable) => Some("the sector is unreadable"),
     }
 }
 
@@ -223,6 +251,7 @@ pub fn outcome(report: &Report) -> Outcome {
     });
     match (report.end, moved) {
         (End::Refused(_), _) => Outcome::Refused,
+        (End::Cut(_), _) => Outcome::Cut,
         (End::Finished(bytes), _) if bytes[0] & status::NOT_55 != 0 => Outcome::None,
         (End::Finished(bytes), _) if !status::good(bytes) => Outcome::Failed,
         (End::Finished(_), Some((block, k, cause))) => Outcome::Spared {
@@ -310,29 +339,98 @@ mod tests {
     }
 
     #[test]
-    fn a_store_is_told_apart() {
-        let accesses = vec![done(Purpose::Store, 0), done(Purpose::Read, 0)];
+    fn a_store_is_told_behind_the_other_accesses() {
+        let accesses = vec![done(Purpose::Read, 0), done(Purpose::Store, 0)];
         assert_eq!(
             command(&report(accesses, [0; 4])),
-            "table stored, 1 read, good"
+            "1 read, table stored, good"
         );
-        let accesses = vec![done(Purpose::Store, 2)];
-        assert_eq!(folded(&accesses), ["table not stored (timeout)"]);
+        let alone = report(vec![done(Purpose::Store, 2)], [0x45, 0, 0, 0]);
+        assert_eq!(
+            command(&alone),
+            "table not stored (timeout), failed, more than 532 bytes, write aborted"
+        );
+    }
+
+    /// A command after so many reads at whose next access the power failed.
+    fn cut(purpose: Purpose, reads: usize, fate: Fate) -> Report {
+        let sector = Sector::new(4928).expect("a sector");
+        let access = reads + 1;
+        Report {
+            end: End::Cut(Cut {
+                purpose,
+                sector,
+                access,
+                fate,
+            }),
+            ..report(vec![done(Purpose::Read, 0); reads], [0; 4])
+        }
+    }
+
+    /// Accesses at which the power fails, and how that is told.
+    const CUTS: [(Purpose, Fate, &str); 8] = [
+        (
+            Purpose::Write,
+            Fate::Old,
+            "at write 4928 (access 3), the sector keeps its old bytes",
+        ),
+        (
+            Purpose::TrialWrite,
+            Fate::New,
+            "at write 4928 (access 3), the sector has the new bytes",
+        ),
+        (
+            Purpose::Write,
+            Fate::Unreadable,
+            "at write 4928 (access 3), the sector is unreadable",
+        ),
+        (
+            Purpose::Store,
+            Fate::Old,
+            "during the store (access 3), the old table stays",
+        ),
+        (
+            Purpose::Store,
+            Fate::New,
+            "during the store (access 3), the new table stands",
+        ),
+        (
+            Purpose::Store,
+            Fate::Unreadable,
+            "during the store (access 3), the table is unreadable",
+        ),
+        (Purpose::Read, Fate::New, "at read 4928 (access 3)"),
+        (
+            Purpose::Reread,
+            Fate::Unreadable,
+            "at reread 4928 (access 3)",
+        ),
+    ];
+
+    #[test]
+    fn power_that_fails() {
+        for (purpose, fate, words) in CUTS {
+            let report = cut(purpose, 2, fate);
+            assert_eq!(command(&report), format!("2 reads, power fails {words}"));
+            assert_eq!(outcome(&report), Outcome::Cut);
+            assert!(!report.good());
+        }
+        let first = cut(Purpose::Read, 0, Fate::Old);
+        assert_eq!(command(&first), "power fails at read 4928 (access 1)");
     }
 
     #[test]
-    fn figures_keep_a_store_and_the_bits() {
+    fn figures_keep_the_bits() {
         let figures = Health {
             unused: 31,
             bads: 1,
             latch: false,
             unstored: true,
         };
-        let stored = report(vec![done(Purpose::Store, 2)], [0, 0, 0x80, 0]);
         assert_eq!(
-            health(&stored, figures),
-            "table not stored (timeout), 31 spares unused, 1 bad block, no latch, \
-             unstored changes, first since start or reset"
+            health(&report(vec![], [0, 0, 0x80, 0]), figures),
+            "31 spares unused, 1 bad block, no latch, unstored changes, \
+             first since start or reset"
         );
     }
 

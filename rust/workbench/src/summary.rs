@@ -4,7 +4,7 @@ use reference::geometry::BLOCKS;
 use reference::image::{Spare, Table};
 
 use crate::host::Host;
-use crate::show::{count, ranges, spare_name};
+use crate::show::{count, met, ranges, spare_name};
 use crate::table;
 
 /// Whether all changes of the table are on the platter.
@@ -22,22 +22,36 @@ pub fn known_table(host: &Host, table: &Table) -> String {
 pub fn lines(host: &mut Host) -> Vec<String> {
     let tally = host.tally;
     let good = tally.commands - tally.failed;
-    let starts = count(host.board.history().starts().into(), "start", "starts");
-    let mut lines = vec![format!(
-        "{starts}, {}: {good} good, {} failed",
-        count(tally.commands, "command", "commands"),
-        tally.failed
+    let mut counts = vec![count(
+        host.board.history().starts().into(),
+        "start",
+        "starts",
     )];
+    counts.extend(met([(tally.cuts, "power cut", "power cuts")]));
+    counts.push(count(tally.commands, "command", "commands"));
+    let counts = counts.join(", ");
+    let mut lines = vec![format!("{counts}: {good} good, {} failed", tally.failed)];
+    lines.extend(not_come(host));
     match host.board.table() {
         Some(table) => {
             lines.push(format!("table: {}", known_table(host, &table)));
             lines.extend(places(&table));
             lines.extend(table::bad_blocks(&table));
         }
-        None => lines.push(String::from("no table")),
+        None if host.board.is_on() => lines.push(String::from("no table")),
+        None => lines.push(String::from("the drive is off")),
     }
     lines.push(unreadable(host));
     lines
+}
+
+/// Says which power cuts were ordered and did not come.
+fn not_come(host: &Host) -> Option<String> {
+    match host.board.power.ordered() {
+        0 => None,
+        1 => Some(String::from("a power cut was ordered and did not come")),
+        more => Some(format!("{more} power cuts were ordered and did not come")),
+    }
 }
 
 /// Which blocks live where; neighbours in neighbouring spares are one line.

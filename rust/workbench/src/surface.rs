@@ -1,9 +1,11 @@
-//! The surface: how an access goes, by what the platter holds and what is ordered.
+//! The surface: how an access goes, by what the platter holds and what is ordered, and
+//! what one leaves at which the power fails.
 
 use reference::surface::{Access, Left, Outcome};
 
 use crate::faults::Effect;
 use crate::platter::Platter;
+use crate::power::Fate;
 
 /// Answers of the surface, as document 01 numbers them.
 pub const GOOD: u8 = controller::surface::GOOD;
@@ -26,6 +28,16 @@ pub fn outcome(platter: &Platter, access: Access, sent: &[u8], effect: Effect) -
     }
 }
 
+/// What an access leaves at which the power fails; a write was sent these bytes. A read
+/// leaves its sector alone, whatever is ordered.
+pub fn left_at_a_cut(access: Access, sent: &[u8], fate: Fate) -> Left {
+    match (access, fate) {
+        (Access::Read(_), _) | (_, Fate::Old) => Left::Alone,
+        (_, Fate::New) => Left::Held(sent.to_vec()),
+        (_, Fate::Unreadable) => Left::Spoiled,
+    }
+}
+
 /// What a CRC error brings: the bytes with a bit turned over in every 128th.
 fn damaged(bytes: &[u8]) -> Vec<u8> {
     let mut bytes = bytes.to_vec();
@@ -39,7 +51,7 @@ fn damaged(bytes: &[u8]) -> Vec<u8> {
 mod tests {
     use super::*;
     use reference::geometry::Sector;
-    use reference::surface::obeys;
+    use reference::surface::{cut_obeys, obeys};
 
     const EFFECTS: [Effect; 5] = [
         Effect::Good,
@@ -68,6 +80,21 @@ mod tests {
         platter.leave(Access::Write(sector), &[7; 532], &Left::Spoiled);
         keeps_the_rules(&platter, Access::Read(sector));
         keeps_the_rules(&platter, Access::Write(sector));
+    }
+
+    #[test]
+    fn what_a_cut_leaves_keeps_the_rules() {
+        let sector = Sector::new(17).expect("a sector");
+        let (read, write) = (Access::Read(sector), Access::Write(sector));
+        let sent = [7; 532];
+        for fate in Fate::ALL {
+            assert_eq!(left_at_a_cut(read, &[], fate), Left::Alone);
+            let left = left_at_a_cut(write, &sent, fate);
+            assert!(cut_obeys(write, &sent, &left), "{fate:?}");
+        }
+        let lefts = Fate::ALL.map(|fate| left_at_a_cut(write, &sent, fate));
+        let new = Left::Held(sent.to_vec());
+        assert_eq!(lefts, [Left::Alone, new, Left::Spoiled]);
     }
 
     #[test]

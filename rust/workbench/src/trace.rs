@@ -1,8 +1,8 @@
 //! Accesses one by one, for a trace and for a picture. The rereads of a trial are one.
 
-use crate::board::{Accessed, Purpose};
+use crate::board::{Accessed, Cut, Purpose};
 use crate::picture::Mark;
-use crate::show::met;
+use crate::show::{self, met};
 use crate::{status, surface};
 
 /// Accesses for a trace, a line for each; the rereads of a trial are one line.
@@ -33,14 +33,28 @@ fn all_rereads(rereads: &[Accessed]) -> String {
     format!("reread sector {sector}, {} times: {words}", rereads.len())
 }
 
-/// One access, for a trace.
-fn access(accessed: &Accessed) -> String {
-    let purpose = match accessed.purpose {
+/// The word for an access.
+pub fn verb(purpose: Purpose) -> &'static str {
+    match purpose {
         Purpose::Read => "read",
         Purpose::Write | Purpose::TrialWrite => "write",
         Purpose::Reread => "reread",
         Purpose::Store => "store",
-    };
+    }
+}
+
+/// An access at which the power failed, for a trace.
+pub fn cut_line(cut: Cut) -> String {
+    let (verb, sector) = (verb(cut.purpose), cut.sector.number());
+    match show::left(cut) {
+        Some(left) => format!("{verb} sector {sector}: power fails, {left}"),
+        None => format!("{verb} sector {sector}: power fails"),
+    }
+}
+
+/// One access, for a trace.
+fn access(accessed: &Accessed) -> String {
+    let purpose = verb(accessed.purpose);
     let how = match accessed.answer {
         surface::GOOD if accessed.purpose.reads() => "good",
         surface::GOOD if accessed.unreadable => "done, and the sector is unreadable",
@@ -86,6 +100,7 @@ fn mark(accessed: &Accessed) -> Mark {
 #[cfg(test)]
 mod tests {
     use super::*;
+    use crate::power::Fate;
     use reference::geometry::Sector;
 
     fn done(purpose: Purpose, answer: u8) -> Accessed {
@@ -131,6 +146,27 @@ mod tests {
             marks(&accesses),
             [Mark::Write, Mark::CrcError, Mark::Write, rereads]
         );
+    }
+
+    #[test]
+    fn power_that_fails() {
+        let line = |purpose, number| {
+            cut_line(Cut {
+                purpose,
+                sector: Sector::new(number).expect("a sector"),
+                access: 3,
+                fate: Fate::Unreadable,
+            })
+        };
+        assert_eq!(
+            line(Purpose::TrialWrite, 17),
+            "write sector 17: power fails, the sector is unreadable"
+        );
+        assert_eq!(
+            line(Purpose::Store, 4960),
+            "store sector 4960: power fails, the table is unreadable"
+        );
+        assert_eq!(line(Purpose::Reread, 17), "reread sector 17: power fails");
     }
 
     #[test]

@@ -3,9 +3,9 @@
 use reference::geometry::Sector;
 
 use crate::board::{Accessed, Purpose};
-use crate::host::Report;
+use crate::host::{self, Report};
 use crate::show::{count, ranges, spare_at, spare_name, spare_names};
-use crate::surface;
+use crate::{status, surface};
 
 /// A trial: one write, then the rereads that were made.
 #[derive(Clone, Copy, Debug, PartialEq, Eq)]
@@ -31,6 +31,8 @@ pub enum End {
     NotPassed,
     WriteTimedOut,
     NoSettle,
+    /// The power failed before the controller said more.
+    Cut,
 }
 
 /// The trials of a command in their order.
@@ -41,12 +43,22 @@ pub fn of(report: &Report) -> Vec<Trial> {
         .chunk_by(|_, next| next.purpose == Purpose::Reread)
         .map(trial)
         .collect();
-    // A command is good by its last trial, and by no other.
-    match trials.last_mut() {
-        Some(last) if report.good() => last.course.end = End::Passed,
-        _ => {}
+    if let Some(last) = trials.last_mut() {
+        last.course.end = last_end(report, last.course.end);
     }
     trials
+}
+
+/// How the last trial of a command ended, which looks like this by itself. One that is
+/// not passed leaves no spare, or the next one is written.
+fn last_end(report: &Report, end: End) -> End {
+    match (end, report.end) {
+        (End::NotPassed, host::End::Finished([_, two, ..])) if two & status::NO_SPARE == 0 => {
+            End::Passed
+        }
+        (End::NotPassed, host::End::Cut(cut)) if cut.purpose != Purpose::TrialWrite => End::Cut,
+        _ => end,
+    }
 }
 
 /// The trial with these accesses, its write first, if it is not passed.
@@ -129,6 +141,7 @@ impl Course {
             End::NotPassed => format!("{rereads}, {failed} failed, not passed"),
             End::WriteTimedOut => String::from("write timed out"),
             End::NoSettle => format!("{rereads}, {failed} failed, ended by no settle"),
+            End::Cut => format!("{rereads}, {failed} failed, then the power failed"),
         }
     }
 }
@@ -136,7 +149,8 @@ impl Course {
 #[cfg(test)]
 mod tests {
     use super::*;
-    use crate::host;
+    use crate::board::Cut;
+    use crate::power::Fate;
 
     fn access(purpose: Purpose, number: u32, answer: u8) -> Accessed {
         Accessed {
@@ -176,10 +190,11 @@ mod tests {
     fn a_read_that_moves_its_block() {
         let read = access(Purpose::Read, 17, 1);
         let parts = [
-            vec![access(Purpose::Store, 4960, 0), read, read],
+            vec![read, read],
             tried(17, 0, &hundred(31)),
             tried(4928, 2, &[]),
             tried(4929, 0, &hundred(30)),
+            vec![access(Purpose::Store, 4960, 0)],
         ];
         let lines = lines(&[report(&parts, [0x0C, 0x04, 0, 4])]);
         assert_eq!(
@@ -221,6 +236,44 @@ mod tests {
             lines(&[no_spare]),
             ["trial of sector 17: 100 rereads, 100 failed, not passed"]
         );
+    }
+
+    #[test]
+    fn a_store_that_fails_takes_no_trial_back() {
+        let stored = |answer, status| {
+            let store = vec![access(Purpose::Store, 4960, answer)];
+            lines(&[report(&[tried(4928, 0, &hundred(0)), store], status)])
+        };
+        let words = "trial of spare 0 (sector 4928): 100 rereads, 0 failed, passed";
+        assert_eq!(stored(2, [0x0D, 0x04, 0, 0]), [words]);
+        assert_eq!(stored(3, [0x19, 0x04, 0, 0]), [words]);
+        // A read's own sector passed, and left the bad list.
+        assert_eq!(stored(2, [0x0D, 0, 0, 1]), [words]);
+    }
+
+    #[test]
+    fn the_power_fails_in_a_trial_or_behind_it() {
+        let cut = |parts: &[Vec<Accessed>], purpose| {
+            let cut = Cut {
+                purpose,
+                sector: Sector::new(4929).expect("a sector"),
+                access: 1,
+                fate: Fate::Old,
+            };
+            lines(&[Report {
+                end: host::End::Cut(cut),
+                ..report(parts, [0; 4])
+            }])
+        };
+        let parts = [tried(17, 0, &hundred(31)), tried(4928, 0, &[0, 1])];
+        let first = "trial of sector 17: 100 rereads, 31 failed, not passed";
+        let words = "trial of spare 0 (sector 4928): 2 rereads, 1 failed, then the power failed";
+        assert_eq!(cut(&parts, Purpose::Reread), [first, words]);
+        // The next spare is written, since this one is not passed.
+        assert_eq!(cut(&parts[..1], Purpose::TrialWrite), [first]);
+        let parts = [tried(17, 0, &hundred(0))];
+        let words = "trial of sector 17: 100 rereads, 0 failed, then the power failed";
+        assert_eq!(cut(&parts, Purpose::Store), [words]);
     }
 
     #[test]

@@ -28,13 +28,16 @@ fn agree(shown: &[&str], output: &str) {
 }
 
 #[test]
-fn the_readme_shows_the_week_and_the_spares() {
+fn the_readme_shows_the_week_the_spares_and_power_cuts() {
     let week = shown(README, "with faults ordered up day by day:\n");
     assert_eq!(week.len(), 9);
     agree(&week, include_str!("../../../plans/week.expected"));
     let spares = shown(README, "plays it:\n");
     assert_eq!(spares.len(), 10);
     agree(&spares, include_str!("../../../plans/spares.expected"));
+    let power = shown(README, "sector old, new or unreadable:\n");
+    assert_eq!(power.len(), 3);
+    agree(&power, include_str!("../../../plans/power.expected"));
 }
 
 #[test]
@@ -52,6 +55,17 @@ fn the_guide_shows_lines_of_health() {
     let lines = shown(GUIDE, "the output of `plans/health.plan`:\n");
     assert_eq!(lines.len(), 4);
     agree(&lines, include_str!("../../../plans/health.expected"));
+}
+
+#[test]
+fn the_guide_shows_power_cuts() {
+    let output = include_str!("../../../plans/power.expected");
+    let lines = shown(GUIDE, "in its record and in its buffer is lost.\n");
+    assert_eq!(lines.len(), 4);
+    agree(&lines, output);
+    let table = shown(GUIDE, "from Wednesday to Saturday:\n");
+    assert_eq!(table.len(), 11);
+    agree(&table, output);
 }
 
 #[test]

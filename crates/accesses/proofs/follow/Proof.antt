@@ -13,41 +13,41 @@ enum-known-x c = search needs
 start-requires : tie.Need-start-requires
 start-requires c κs = search needs
 
-enum-told : tie.Need-enum-told
-enum-told c = search needs
+enum-known-x-2 : tie.Need-enum-known-x-2
+enum-known-x-2 c = search needs
 
 store-requires : tie.Need-store-requires
 store-requires c κs = search needs
 
-enum-known-x-2 : tie.Need-enum-known-x-2
-enum-known-x-2 c = search needs
-
-read-requires : tie.Need-read-requires
-read-requires c κs = reading-ok _ _ _ (c .before .before .before .before .before .pre .1) _ (c .before .x2 .given .1)
-
 enum-known-x-3 : tie.Need-enum-known-x-3
 enum-known-x-3 c = search needs
 
-write-requires : tie.Need-write-requires
-write-requires c κs = search needs
+read-requires : tie.Need-read-requires
+read-requires c κs = reading-ok _ _ _ (c .before .before .before .before .before .pre .1) _ (c .before .x3 .given .1)
 
 enum-known-x-4 : tie.Need-enum-known-x-4
 enum-known-x-4 c = search needs
 
-verify-requires : tie.Need-verify-requires
-verify-requires c κs = search needs
+write-requires : tie.Need-write-requires
+write-requires c κs = search needs
 
 enum-known-x-5 : tie.Need-enum-known-x-5
 enum-known-x-5 c = search needs
 
-tried-requires : tie.Need-tried-requires
-tried-requires c κs = search needs
+verify-requires : tie.Need-verify-requires
+verify-requires c κs = search needs
 
 enum-known-x-6 : tie.Need-enum-known-x-6
 enum-known-x-6 c = search needs
 
+tried-requires : tie.Need-tried-requires
+tried-requires c κs = search needs
+
+enum-known-x-7 : tie.Need-enum-known-x-7
+enum-known-x-7 c = search needs
+
 checked-requires : tie.Need-checked-requires
-checked-requires c κs = (c .before .before .before .before .before .pre .0, reread-ok _ _ _ (c .before .before .before .before .before .pre .1) _ (c .before .x6 .given .1))
+checked-requires c κs = (c .before .before .before .before .before .pre .0, reread-ok _ _ _ (c .before .before .before .before .before .pre .1) _ (c .before .x7 .given .1))
 
 returns : tie.Need-returns
 unfolding follows
@@ -55,27 +55,27 @@ returns c = rw (c .start .ensures, c .before .before .x .given .1)
 
 returns-2 : tie.Need-returns-2
 unfolding follows
-returns-2 c = rw (c .store .ensures, c .before .enum-told .given .1)
+returns-2 c = rw (c .store .ensures, c .before .before .x2 .given .1)
 
 returns-3 : tie.Need-returns-3
 unfolding follows
-returns-3 c = rw (c .read .ensures, c .before .before .x2 .given .1) (read-bads _ _ [] _ _ _ _)
+returns-3 c = rw (c .read .ensures, c .before .before .x3 .given .1) (read-bads _ _ [] _ _ _ _)
 
 returns-4 : tie.Need-returns-4
 unfolding follows writeAnswered
-returns-4 c = rw (c .write .ensures, c .before .before .x3 .given .1)
+returns-4 c = rw (c .write .ensures, c .before .before .x4 .given .1)
 
 returns-5 : tie.Need-returns-5
 unfolding follows
-returns-5 c = rw (c .verify .ensures, c .before .before .x4 .given .1)
+returns-5 c = rw (c .verify .ensures, c .before .before .x5 .given .1)
 
 returns-6 : tie.Need-returns-6
 unfolding follows tried missed
-returns-6 c = rw (c .tried .ensures, c .before .before .x5 .given .1)
+returns-6 c = rw (c .tried .ensures, c .before .before .x6 .given .1)
 
 returns-7 : tie.Need-returns-7
 unfolding follows
-returns-7 c = rw (c .checked .ensures, c .before .before .x6 .given .1)
+returns-7 c = rw (c .checked .ensures, c .before .before .x7 .given .1)
 
 pub follow-spec : {M : Type 1} → statement M
 follow-spec =
@@ -83,17 +83,17 @@ follow-spec =
     (tie.spec
     enum-known-x
     start-requires
-    enum-told
-    store-requires
     enum-known-x-2
-    read-requires
+    store-requires
     enum-known-x-3
-    write-requires
+    read-requires
     enum-known-x-4
-    verify-requires
+    write-requires
     enum-known-x-5
-    tried-requires
+    verify-requires
     enum-known-x-6
+    tried-requires
+    enum-known-x-7
     checked-requires
     returns
     returns-2

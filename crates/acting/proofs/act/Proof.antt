@@ -13,33 +13,33 @@ use Rattle.acting.proofs.act.Tie as tie
 is-read-requires : tie.Need-is-read-requires
 is-read-requires c κs = search needs
 
-end-requires : tie.Need-end-requires
-end-requires c κs = search needs
+overrun-requires : tie.Need-overrun-requires
+overrun-requires c κs = search needs
 
 returns : tie.Need-returns
 unfolding acted
 returns c =
     let f = c .before in
-    rw (c .end .ensures, lt-ltb _ _ (f .if1 .taken))
+    rw (c .overrun .ensures, lt-ltb _ _ (f .if1 .taken))
 
 no-number-requires : tie.Need-no-number-requires
 no-number-requires c κs = search needs
 
-end-requires-2 : tie.Need-end-requires-2
-end-requires-2 c κs = search needs
+ends-requires : tie.Need-ends-requires
+ends-requires c κs = search needs
 
 returns-2 : tie.Need-returns-2
 unfolding acted
 returns-2 c =
     let n = c .before in
     let f = n .before .before in
-    rw (c .end2 .ensures, le-ltb _ _ (f .if1 .left), sym (n .before .no-number .ensures) ∙ n .if2 .taken)
+    rw (c .ends .ensures, le-ltb _ _ (f .if1 .left), sym (n .before .no-number .ensures) ∙ n .if2 .taken)
 
 asks-buffer-requires : tie.Need-asks-buffer-requires
 asks-buffer-requires c κs = search needs
 
-end-requires-3 : tie.Need-end-requires-3
-end-requires-3 c κs = search needs
+ends-requires-2 : tie.Need-ends-requires-2
+ends-requires-2 c κs = search needs
 
 returns-3 : tie.Need-returns-3
 unfolding acted
@@ -47,10 +47,10 @@ returns-3 c =
     let s = c .before in
     let n = s .before .before in
     let f = n .before .before in
-    rw (c .end3 .ensures, le-ltb _ _ (f .if1 .left), sym (n .before .no-number .ensures) ∙ n .if2 .left, sym (s .before .asks-buffer .ensures) ∙ s .if3 .taken)
+    rw (c .ends2 .ensures, le-ltb _ _ (f .if1 .left), sym (n .before .no-number .ensures) ∙ n .if2 .left, sym (s .before .asks-buffer .ensures) ∙ s .if3 .taken)
 
-end-requires-4 : tie.Need-end-requires-4
-end-requires-4 c κs = search needs
+ends-requires-3 : tie.Need-ends-requires-3
+ends-requires-3 c κs = search needs
 
 returns-4 : tie.Need-returns-4
 unfolding acted
@@ -59,13 +59,13 @@ returns-4 c =
     let s = k .before .before in
     let n = s .before .before in
     let f = n .before .before in
-    rw (c .end4 .ensures, f .before .before .is-read .ensures, le-ltb _ _ (f .if1 .left), sym (n .before .no-number .ensures) ∙ n .if2 .left, sym (s .before .asks-buffer .ensures) ∙ s .if3 .left, k .if4 .taken)
+    rw (c .ends3 .ensures, f .before .before .is-read .ensures, le-ltb _ _ (f .if1 .left), sym (n .before .no-number .ensures) ∙ n .if2 .left, sym (s .before .asks-buffer .ensures) ∙ s .if3 .left, k .if4 .taken)
 
 asks-table-requires : tie.Need-asks-table-requires
 asks-table-requires c κs = search needs
 
-end-requires-5 : tie.Need-end-requires-5
-end-requires-5 c κs = search needs
+ends-requires-4 : tie.Need-ends-requires-4
+ends-requires-4 c κs = search needs
 
 returns-5 : tie.Need-returns-5
 unfolding acted
@@ -75,7 +75,7 @@ returns-5 c =
     let s = k .before .before in
     let n = s .before .before in
     let f = n .before .before in
-    rw (c .end5 .ensures, le-ltb _ _ (f .if1 .left), sym (n .before .no-number .ensures) ∙ n .if2 .left, sym (s .before .asks-buffer .ensures) ∙ s .if3 .left, k .if4 .left, sym (t .before .asks-table .ensures) ∙ t .if5 .taken)
+    rw (c .ends4 .ensures, le-ltb _ _ (f .if1 .left), sym (n .before .no-number .ensures) ∙ n .if2 .left, sym (s .before .asks-buffer .ensures) ∙ s .if3 .left, k .if4 .left, sym (t .before .asks-table .ensures) ∙ t .if5 .taken)
 
 asks-health-requires : tie.Need-asks-health-requires
 asks-health-requires c κs = search needs
@@ -83,8 +83,8 @@ asks-health-requires c κs = search needs
 health-requires : tie.Need-health-requires
 health-requires c κs = search needs
 
-end-requires-6 : tie.Need-end-requires-6
-end-requires-6 c κs = search needs
+ends-requires-5 : tie.Need-ends-requires-5
+ends-requires-5 c κs = search needs
 
 returns-6 : tie.Need-returns-6
 unfolding acted
@@ -95,7 +95,7 @@ returns-6 c =
     let s = k .before .before in
     let n = s .before .before in
     let f = n .before .before in
-    rw (c .end6 .ensures, c .before .health .ensures, le-ltb _ _ (f .if1 .left), sym (n .before .no-number .ensures) ∙ n .if2 .left, sym (s .before .asks-buffer .ensures) ∙ s .if3 .left, k .if4 .left, sym (t .before .asks-table .ensures) ∙ t .if5 .left, sym (h .before .asks-health .ensures) ∙ h .if6 .taken)
+    rw (c .ends5 .ensures, c .before .health .ensures, le-ltb _ _ (f .if1 .left), sym (n .before .no-number .ensures) ∙ n .if2 .left, sym (s .before .asks-buffer .ensures) ∙ s .if3 .left, k .if4 .left, sym (t .before .asks-table .ensures) ∙ t .if5 .left, sym (h .before .asks-health .ensures) ∙ h .if6 .taken)
 
 cut-requires : tie.Need-cut-requires
 cut-requires c κs = search needs
@@ -123,8 +123,8 @@ returns-7 c =
     let f = n .before .before in
     rw (c .first-read .ensures, c .before .cut .ensures, le-ltb _ _ (f .if1 .left), sym (n .before .no-number .ensures) ∙ n .if2 .left, sym (s .before .asks-buffer .ensures) ∙ s .if3 .left, k .if4 .left, sym (t .before .asks-table .ensures) ∙ t .if5 .left, sym (h .before .asks-health .ensures) ∙ h .if6 .left, sym (f .before .before .is-read .ensures) ∙ c .before .before .if7 .taken)
 
-end-requires-7 : tie.Need-end-requires-7
-end-requires-7 c κs = search needs
+fail-requires : tie.Need-fail-requires
+fail-requires c κs = search needs
 
 returns-8 : tie.Need-returns-8
 unfolding acted
@@ -135,7 +135,7 @@ returns-8 c =
     let s = k .before .before in
     let n = s .before .before in
     let f = n .before .before in
-    rw (c .end7 .ensures, le-ltb _ _ (f .if1 .left), sym (n .before .no-number .ensures) ∙ n .if2 .left, sym (s .before .asks-buffer .ensures) ∙ s .if3 .left, k .if4 .left, sym (t .before .asks-table .ensures) ∙ t .if5 .left, sym (h .before .asks-health .ensures) ∙ h .if6 .left, sym (f .before .before .is-read .ensures) ∙ c .before .before .if7 .left, c .before .if8 .taken)
+    rw (c .fail .ensures, le-ltb _ _ (f .if1 .left), sym (n .before .no-number .ensures) ∙ n .if2 .left, sym (s .before .asks-buffer .ensures) ∙ s .if3 .left, k .if4 .left, sym (t .before .asks-table .ensures) ∙ t .if5 .left, sym (h .before .asks-health .ensures) ∙ h .if6 .left, sym (f .before .before .is-read .ensures) ∙ c .before .before .if7 .left, c .before .if8 .taken)
 
 write-requires : tie.Need-write-requires
 write-requires c κs =
@@ -164,27 +164,27 @@ act-spec =
     tie.close
     (tie.spec
     is-read-requires
-    end-requires
+    overrun-requires
     returns
     no-number-requires
-    end-requires-2
+    ends-requires
     returns-2
     asks-buffer-requires
-    end-requires-3
+    ends-requires-2
     returns-3
-    end-requires-4
+    ends-requires-3
     returns-4
     asks-table-requires
-    end-requires-5
+    ends-requires-4
     returns-5
     asks-health-requires
     health-requires
-    end-requires-6
+    ends-requires-5
     returns-6
     cut-requires
     first-read-requires
     returns-7
-    end-requires-7
+    fail-requires
     returns-8
     write-requires
     returns-9)

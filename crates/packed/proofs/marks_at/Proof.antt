@@ -27,13 +27,19 @@ shared-slice-read-flag-4 c = search needs
 flag-requires-4 : tie.Need-flag-requires-4
 flag-requires-4 c κs = search needs
 
+shared-slice-read-flag-5 : tie.Need-shared-slice-read-flag-5
+shared-slice-read-flag-5 c = search needs
+
+flag-requires-5 : tie.Need-flag-requires-5
+flag-requires-5 c κs = search needs
+
 returns : tie.Need-returns
 returns c =
     let c1 = c .before .before in
     let c2 = c1 .before .before in
     let c3 = c2 .before .before in
-    let c4 = c3 .before .before .before in
-    λ i. record { known = (c3 .flag .ensures) i; changed = (c2 .flag2 .ensures) i; latch = (c1 .flag3 .ensures) i; fresh = (c .flag4 .ensures) i }
+    let c4 = c3 .before .before in
+    λ i. record { known = (c4 .flag .ensures) i; changed = (c3 .flag2 .ensures) i; moved = (c2 .flag3 .ensures) i; latch = (c1 .flag4 .ensures) i; fresh = (c .flag5 .ensures) i }
 
 pub marks-at-spec : {M : Type 1} → statement M
 marks-at-spec =
@@ -47,4 +53,6 @@ marks-at-spec =
     flag-requires-3
     shared-slice-read-flag-4
     flag-requires-4
+    shared-slice-read-flag-5
+    flag-requires-5
     returns)

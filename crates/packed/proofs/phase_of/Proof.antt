@@ -7,6 +7,9 @@ use Rattle.packed.proofs.phase_of.Tie as tie
 offered-requires : tie.Need-offered-requires
 offered-requires c κs = search needs
 
+storing-requires : tie.Need-storing-requires
+storing-requires c κs = search needs
+
 retry-of-requires : tie.Need-retry-of-requires
 retry-of-requires c κs = search needs
 
@@ -41,7 +44,7 @@ returns-5 : tie.Need-returns-5
 returns-5 c = rw (c .match .keys5)
 
 returns-6 : tie.Need-returns-6
-returns-6 c = rw (c .match .keys6)
+returns-6 c = rw (c .storing .ensures, c .before .match .keys6)
 
 returns-7 : tie.Need-returns-7
 returns-7 c = rw (c .retry-of .ensures, c .before .match .keys7)
@@ -66,6 +69,7 @@ phase-of-spec =
     tie.close
     (tie.spec
     offered-requires
+    storing-requires
     retry-of-requires
     target-of-requires
     target-of-requires-2

@@ -1,6 +1,7 @@
 //! The baseline's record from the library's numbers and back, for the comparison
 //! on records that no call returned.
 
+use super::ending::Ending;
 use super::table::{Cause, Table};
 use super::{Drive, Failures, Phase, Read, Rereads, Seen, Trial, Write};
 use crate::fields::{Fields, Flags, Stage};
@@ -8,7 +9,7 @@ use crate::raw::kind;
 use crate::Offer;
 
 impl Drive {
-    /// Makes the record of these numbers, whose phase and offer must be some.
+    /// Makes the record of these numbers, whose phase, offer and ending must be some.
     pub fn unpacked(numbers: &Fields) -> Drive {
         let flags = numbers.flags;
         Drive {
@@ -22,6 +23,7 @@ impl Drive {
             },
             known: flags.known != 0,
             changed: flags.changed != 0,
+            moved: flags.moved != 0,
             latch: flags.latch != 0,
             fresh: flags.fresh != 0,
             command: numbers.command,
@@ -47,6 +49,7 @@ impl Drive {
             flags: Flags {
                 known: self.known.into(),
                 changed: self.changed.into(),
+                moved: self.moved.into(),
                 latch: self.latch.into(),
                 fresh: self.fresh.into(),
             },
@@ -62,7 +65,7 @@ fn phase(stage: &Stage) -> Phase {
         kind::COMMAND => Phase::Command,
         kind::DATA => Phase::Data,
         kind::START => Phase::Start(stage.detail),
-        kind::STORE => Phase::Store,
+        kind::STORE => Phase::Store(ending(stage.detail), seen(stage)),
         kind::READ => Phase::Read(Read {
             block: stage.block,
             sector: stage.sector.into(),
@@ -90,6 +93,13 @@ fn offer(byte: u8) -> Offer {
         0x04 => Offer::Verify,
         0x06 => Offer::Act,
         other => unreachable!("{other} is no offer"),
+    }
+}
+
+fn ending(number: u8) -> Ending {
+    match Ending::ALL.get(usize::from(number)) {
+        Some(ending) => *ending,
+        None => unreachable!("{number} is no ending"),
     }
 }
 
@@ -160,7 +170,11 @@ fn stage(phase: &Phase) -> Stage {
             detail: *reads,
             ..at(kind::START)
         },
-        Phase::Store => at(kind::STORE),
+        Phase::Store(ending, seen) => Stage {
+            kind: kind::STORE,
+            detail: *ending as u8,
+            ..of_seen(seen)
+        },
         Phase::Read(read) => of_read(read),
         Phase::Write(write) => of_write(kind::WRITE, false, write),
         Phase::VerifiedWrite(write) => of_write(kind::WRITE, true, write),

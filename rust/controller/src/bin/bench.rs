@@ -1,4 +1,4 @@
-//! The library against the baseline, ordinary Rust over a `&mut` record: four
+//! The library against the baseline, ordinary Rust over a `&mut` record: five
 //! commands, a start, the image call and converts, each with tables of three sizes.
 //! `tools/bench` has the instructions counted too.
 
@@ -16,15 +16,17 @@ const USAGE: &str = "\
 usage: bench                                    time, and the records' sizes
        bench WHO WHAT SPARES BADS TIMES         one kind of work, to count instructions:
                                                 library or baseline; read, write, table, longest,
-                                                start, image or convert
+                                                stores, start, image or convert
        bench calls WHAT SPARES                  how many calls the work has
 ";
 
 /// The seed of the tables' entries.
 const SEED: u64 = 1;
 
-/// The block that is read and written, which is in no list.
+/// The block that is read and written, and one that enters the bad list. Both are in
+/// no list.
 const BLOCK: u32 = 4000;
+const OTHER: u32 = 4001;
 
 /// The number of the table.
 const TABLE_IMAGE: u32 = 0xFF_FFFF;
@@ -87,6 +89,9 @@ enum What {
     Table,
     /// The longest read: R is 255 and all fails that may.
     Longest,
+    /// A plain write command at whose end the table is to be stored, with the image
+    /// call that gives its bytes. The store fails, so that it is to be stored again.
+    Stores,
     /// A start whose first read brings an image of form B.
     Start,
     /// The image call.
@@ -102,6 +107,7 @@ impl What {
             "write" => Some(What::Write),
             "table" => Some(What::Table),
             "longest" => Some(What::Longest),
+            "stores" => Some(What::Stores),
             "start" => Some(What::Start),
             "image" => Some(What::Image),
             "convert" => Some(What::Convert),
@@ -116,6 +122,7 @@ impl What {
             What::Write => 8 + 1,
             What::Table => 5,
             What::Longest => 5 + longest(spares),
+            What::Stores => 8 + 1 + 2,
             What::Start => 2,
             What::Image => 1,
             What::Convert => 2,
@@ -130,8 +137,13 @@ const READS: usize = 1 + 255 + 90;
 const REREADS: usize = 100;
 
 /// The accesses of the longest read: a trial of the present sector and of each
-/// unused spare.
+/// unused spare, and where one died the store.
 fn longest(spares: usize) -> usize {
+    tried(spares) + usize::from(spares < 32)
+}
+
+/// Those before the store.
+fn tried(spares: usize) -> usize {
     READS + (1 + REREADS) * (33 - spares)
 }
 
@@ -250,8 +262,8 @@ struct Work<D> {
 impl<D: Calls> Work<D> {
     fn new(what: What, spares: usize, bads: usize) -> Work<D> {
         let draft = Draft::of_size(&mut Rng::new(SEED), spares, bads);
-        let listed = draft.spares.contains(&BLOCK) || draft.bads.contains(&BLOCK);
-        assert!(!listed, "the block is in no list");
+        let listed = |block| draft.spares.contains(&block) || draft.bads.contains(&block);
+        assert!(!listed(BLOCK) && !listed(OTHER), "they are in no list");
         let image = draft.bytes();
         let mut drive = D::fresh();
         let mut buffer = [0; BUFFER];
@@ -260,7 +272,7 @@ impl<D: Calls> Work<D> {
         let mut stored = [0; SECTOR_BYTES];
         assert!(drive.image(&mut stored), "the table is known");
         let began = drive.clone();
-        Work {
+        let mut work = Work {
             what,
             began,
             drive,
@@ -270,7 +282,11 @@ impl<D: Calls> Work<D> {
             stored,
             lent: [0; SECTOR_BYTES],
             spares,
+        };
+        if what == What::Stores {
+            work.change(&draft.bads);
         }
+        work
     }
 
     /// All of a handshake before the data or the access; whether the command is
@@ -305,13 +321,57 @@ impl<D: Calls> Work<D> {
             drive.surface(buffer, 1, &self.bytes);
         }
         drive.surface(buffer, 0, &self.bytes);
-        for access in 0..longest(self.spares) - READS {
+        for access in 0..tried(self.spares) - READS {
             finished = match access % (1 + REREADS) {
                 0 => drive.surface(buffer, 0, &[]),
                 _ => drive.surface(buffer, 1, &self.bytes),
             };
         }
-        finished
+        match longest(self.spares) > tried(self.spares) {
+            true => drive.surface(buffer, 0, &[]),
+            false => finished,
+        }
+    }
+
+    /// A write command and its store, which fails; whether it is finished.
+    fn stores(&mut self) -> bool {
+        self.write();
+        self.drive.image(&mut self.lent);
+        self.drive.surface(&mut self.buffer, 2, &[])
+    }
+
+    /// Leaves changes unstored, and the lists as long as they were: a block enters the
+    /// bad list and leaves it, or the other way round where the list is full.
+    fn change(&mut self, bads: &[u32]) {
+        let finished = match bads {
+            [] => self.enter(OTHER) && self.leave(OTHER),
+            [bad, ..] => self.leave(*bad) && self.enter(*bad),
+        };
+        assert!(finished, "a store ends the command");
+    }
+
+    /// Reads a block that never comes, and does not store that; whether it is finished.
+    fn enter(&mut self, block: u32) -> bool {
+        self.begin(0, block);
+        for _ in 0..1 + 255 + 10 {
+            self.drive.surface(&mut self.buffer, 2, &[]);
+        }
+        self.drive.surface(&mut self.buffer, 2, &[])
+    }
+
+    /// Writes a bad block, whose sector passes its trial, and does not store that;
+    /// whether it is finished.
+    fn leave(&mut self, block: u32) -> bool {
+        self.begin(1, block);
+        let (drive, buffer) = (&mut self.drive, &mut self.buffer[..]);
+        drive.feed(buffer, &self.bytes);
+        drive.raise(buffer);
+        drive.lower(buffer);
+        drive.surface(buffer, 0, &[]);
+        for _ in 0..REREADS {
+            drive.surface(buffer, 0, &self.bytes);
+        }
+        drive.surface(buffer, 2, &[])
     }
 
     /// A start; whether it takes the image.
@@ -336,6 +396,7 @@ impl<D: Calls> Once for Work<D> {
             What::Write => self.write(),
             What::Table => self.begin(0, TABLE_IMAGE),
             What::Longest => self.longest(),
+            What::Stores => self.stores(),
             What::Start => self.start(),
             What::Image => self.drive.image(&mut self.lent),
             What::Convert => self.convert(),
@@ -346,11 +407,12 @@ impl<D: Calls> Once for Work<D> {
 
 const SIZES: [(usize, usize); 3] = [(0, 0), (10, 10), (32, 100)];
 
-const WORKS: [(&str, What, u32); 7] = [
+const WORKS: [(&str, What, u32); 8] = [
     ("read", What::Read, 2000),
     ("write", What::Write, 1500),
     ("table", What::Table, 1500),
     ("longest", What::Longest, 4),
+    ("stores", What::Stores, 1200),
     ("start", What::Start, 1500),
     ("image", What::Image, 5000),
     ("convert", What::Convert, 2500),

@@ -303,7 +303,7 @@ fn told(answer: other::Answer) -> Answer {
 /// How a call on a damaged record went.
 #[derive(Clone, Copy, Debug, PartialEq, Eq)]
 pub enum Fate {
-    /// Refused with 1: the phase or the offer is none.
+    /// Refused with 1: the phase, the offer or the ending is none.
     NoPhase,
     /// Refused with 1.
     Refused,

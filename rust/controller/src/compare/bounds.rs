@@ -111,7 +111,7 @@ impl Made {
         self.with(|drive| drive.bads[0] = drive.spares[0]);
     }
 
-    /// Counts of bytes, and whether there is a table.
+    /// Counts of bytes, whether there is a table, and the marks of unstored changes.
     fn numbers(&mut self) {
         for count in [6, 7] {
             self.with(|drive| drive.count = count);
@@ -122,12 +122,19 @@ impl Made {
         for known in [0, 1] {
             self.with(|drive| drive.flags.known = known);
         }
+        for changed in [0, 1] {
+            self.with(|drive| (drive.flags.changed, drive.flags.moved) = (changed, 1));
+        }
     }
 
     /// Adds the records of the awaited access's clauses.
     fn access(&mut self) {
         match self.sound.stage.kind {
             kind::START => self.details([10, 11]),
+            kind::STORE => {
+                self.details([0, 9]);
+                self.with(|drive| drive.stage.errors = 255);
+            }
             kind::READ => {
                 self.rereads();
                 self.block();

@@ -70,6 +70,7 @@ const LEFT: &[&str] = &["first-read", "reread"];
 
 /// Those in which E may be 255, with no reread left.
 const NONE_LEFT: &[&str] = &[
+    "storing",
     "first-read",
     "further-read",
     "present-write",
@@ -79,6 +80,7 @@ const NONE_LEFT: &[&str] = &[
 ];
 
 const START: &[&str] = &["starting"];
+const STORE: &[&str] = &["storing"];
 
 const fn side(
     name: &'static str,
@@ -132,6 +134,10 @@ const AT: &[Side] = &[
     side("table.known", ALL, |d| d.flags.known == 1),
     side("table.none", NO_TABLE, |d| d.flags.known == 0),
     side("start.reads-10", START, |d| d.stage.detail == 10),
+    side("store.ending-0", STORE, |d| d.stage.detail == 0),
+    side("store.ending-9", STORE, |d| d.stage.detail == 9),
+    side("marks.place-alone", ALL, |d| marks(d) == (0, 1)),
+    side("marks.both", ALL, |d| marks(d) == (1, 1)),
     side("trial.rereads-100", TRIAL, |d| d.stage.detail == 100),
     side("trial.failures-0-of-0", TRIAL, |d| failures(d) == (0, 0)),
     side("trial.failures-50-of-50", TRIAL, |d| {
@@ -283,6 +289,11 @@ fn same(one: u16, other: u16) -> bool {
 /// E and the rereads left.
 fn rereads(drive: &Fields) -> (u8, u8) {
     (drive.stage.errors, drive.stage.left)
+}
+
+/// The marks of unstored changes, and of a place among them. No clause asks for them.
+fn marks(drive: &Fields) -> (u16, u16) {
+    (drive.flags.changed, drive.flags.moved)
 }
 
 /// A trial's failures, and its rereads.

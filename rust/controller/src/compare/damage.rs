@@ -58,6 +58,7 @@ fn sound(rng: &mut Rng) -> Fields {
     drive.flags = Flags {
         known: u16::from(!rng.one_in(6)),
         changed: mark(rng),
+        moved: mark(rng),
         latch: u16::from(rng.one_in(4)),
         fresh: mark(rng),
     };
@@ -91,7 +92,7 @@ fn stage(drive: &Fields, rng: &mut Rng) -> Stage {
     }
     if matches!(
         stage.kind,
-        kind::READ | kind::TRIAL_WRITE | kind::TRIAL_READ
+        kind::STORE | kind::READ | kind::TRIAL_WRITE | kind::TRIAL_READ
     ) {
         stage.errors = rng.pick(&[0, 0, 1, 2, 155, 254, 255]);
         stage.crc = mark(rng);
@@ -106,6 +107,7 @@ fn numbers(stage: &mut Stage, rng: &mut Rng) {
     match stage.kind {
         kind::OFFER => stage.detail = rng.pick(&[1, 2, 3, 4, 6]),
         kind::START => stage.detail = rng.pick(&[0, 1, 9, 10, 11]),
+        kind::STORE => stage.detail = rng.below(11) as u8,
         kind::WRITE | kind::VERIFY => stage.first = mark(rng),
         kind::READ => {
             stage.first = mark(rng);
@@ -152,52 +154,77 @@ fn sector(drive: &Fields, rng: &mut Rng) -> u16 {
 
 /// Changes one field to a value at some bound, or to any.
 fn field(drive: &mut Fields, rng: &mut Rng) {
-    const COUNTS: [u16; 15] = [
-        0, 1, 5, 6, 7, 31, 32, 33, 99, 100, 101, 533, 534, 256, 65_535,
-    ];
-    const ENTRIES: [u16; 8] = [0, 17, 9727, 9728, 65_533, DEAD, 65_535, 512];
-    let byte = match rng.below(12) {
+    match rng.below(33) {
+        0..=10 => table_field(drive, rng),
+        11..=24 => stage_field(&mut drive.stage, rng),
+        25..=29 => flag_field(&mut drive.flags, rng),
+        30 => drive.count = rng.pick(&SOME_COUNTS),
+        31 => drive.fed = rng.pick(&[0, 1, 531, 532, 533, 534, 535, 65_535]),
+        _ => drive.command[rng.place(6)] = some_byte(rng),
+    }
+}
+
+const SOME_COUNTS: [u16; 15] = [
+    0, 1, 5, 6, 7, 31, 32, 33, 99, 100, 101, 533, 534, 256, 65_535,
+];
+const SOME_ENTRIES: [u16; 8] = [0, 17, 9727, 9728, 65_533, DEAD, 65_535, 512];
+
+fn some_byte(rng: &mut Rng) -> u8 {
+    match rng.below(12) {
         0 => rng.byte(),
         _ => rng.pick(&[0, 1, 2, 3, 6, 9, 10, 11, 30, 31, 89, 90, 99, 100, 101, 255]),
-    };
-    let mark = rng.pick(&[0, 1, 2, 255, 256, 65_535]);
-    let stage = &mut drive.stage;
-    let flags = &mut drive.flags;
-    match rng.below(32) {
-        0 | 1 => drive.spares[rng.place(32)] = rng.pick(&ENTRIES),
+    }
+}
+
+fn some_flag(rng: &mut Rng) -> u16 {
+    rng.pick(&[0, 1, 2, 255, 256, 65_535])
+}
+
+fn table_field(drive: &mut Fields, rng: &mut Rng) {
+    match rng.below(11) {
+        0 | 1 => drive.spares[rng.place(32)] = rng.pick(&SOME_ENTRIES),
         2 => drive.spares[rng.place(32)] = drive.spares[rng.place(32)],
-        3 | 4 => drive.bads[rng.place(100)] = rng.pick(&ENTRIES),
+        3 | 4 => drive.bads[rng.place(100)] = rng.pick(&SOME_ENTRIES),
         5 => drive.bads[rng.place(100)] = drive.bads[rng.place(100)],
-        6 => drive.nspares = rng.pick(&COUNTS),
-        7 => drive.nbads = rng.pick(&COUNTS),
-        8 => drive.count = rng.pick(&COUNTS),
-        9 => drive.fed = rng.pick(&[0, 1, 531, 532, 533, 534, 535, 65_535]),
-        10 => {
+        6 => drive.nspares = rng.pick(&SOME_COUNTS),
+        7 => drive.nbads = rng.pick(&SOME_COUNTS),
+        8 | 9 => drive.causes[rng.place(32)] = rng.pick(&[0, 3, 4, 255, 256, 65_535]),
+        _ => drive.run = rng.pick(&RUNS),
+    }
+}
+
+fn stage_field(stage: &mut Stage, rng: &mut Rng) {
+    match rng.below(14) {
+        0 => {
             stage.sector = match rng.below(4) {
                 0 => rng.word() as u16,
                 _ => rng.pick(&[0, 1, 4927, 4928, 4959, 4960, 9791, 9792, 65_535]),
             }
         }
-        11 => stage.block = rng.pick(&ENTRIES),
-        12 => stage.kind = rng.pick(&[0, 1, 2, 3, 4, 5, 6, 7, 8, 9, 10, 11, 12, 255]),
-        13 => stage.detail = byte,
-        14 => stage.first = mark,
-        15 => stage.left = byte,
-        16 => stage.spent = byte,
-        17 => stage.threshold = byte,
-        18 => stage.good = mark,
-        19 => stage.spare = mark,
-        20 => stage.errors = byte,
-        21 => stage.crc = mark,
-        22 => stage.timeout = mark,
-        23 => flags.known = mark,
-        24 => flags.changed = mark,
-        25 => flags.latch = mark,
-        26 => flags.fresh = mark,
-        27 | 28 => drive.causes[rng.place(32)] = rng.pick(&[0, 3, 4, 255, 256, 65_535]),
-        29 => drive.run = rng.pick(&RUNS),
-        30 => stage.remembered = rng.pick(&[0, 1, 21, 42, 63, 64, 256, 65_535]),
-        _ => drive.command[rng.place(6)] = byte,
+        1 => stage.block = rng.pick(&SOME_ENTRIES),
+        2 => stage.kind = rng.pick(&[0, 1, 2, 3, 4, 5, 6, 7, 8, 9, 10, 11, 12, 255]),
+        3 => stage.detail = some_byte(rng),
+        4 => stage.first = some_flag(rng),
+        5 => stage.left = some_byte(rng),
+        6 => stage.spent = some_byte(rng),
+        7 => stage.threshold = some_byte(rng),
+        8 => stage.good = some_flag(rng),
+        9 => stage.spare = some_flag(rng),
+        10 => stage.errors = some_byte(rng),
+        11 => stage.crc = some_flag(rng),
+        12 => stage.timeout = some_flag(rng),
+        _ => stage.remembered = rng.pick(&[0, 1, 21, 42, 63, 64, 256, 65_535]),
+    }
+}
+
+fn flag_field(flags: &mut Flags, rng: &mut Rng) {
+    let flag = some_flag(rng);
+    match rng.below(5) {
+        0 => flags.known = flag,
+        1 => flags.changed = flag,
+        2 => flags.moved = flag,
+        3 => flags.latch = flag,
+        _ => flags.fresh = flag,
     }
 }
 
@@ -218,7 +245,7 @@ const BYTES: [fn(&mut Fields) -> &mut u8; 12] = [
 ];
 
 /// The flags.
-const FLAGS: [fn(&mut Fields) -> &mut u16; 9] = [
+const FLAGS: [fn(&mut Fields) -> &mut u16; 10] = [
     |drive| &mut drive.stage.first,
     |drive| &mut drive.stage.good,
     |drive| &mut drive.stage.spare,
@@ -226,6 +253,7 @@ const FLAGS: [fn(&mut Fields) -> &mut u16; 9] = [
     |drive| &mut drive.stage.timeout,
     |drive| &mut drive.flags.known,
     |drive| &mut drive.flags.changed,
+    |drive| &mut drive.flags.moved,
     |drive| &mut drive.flags.latch,
     |drive| &mut drive.flags.fresh,
 ];
@@ -238,60 +266,73 @@ const COUNTS: [fn(&mut Fields) -> &mut u16; 4] = [
     |drive| &mut drive.fed,
 ];
 
-/// Sound records of each kind, one at a read of FFFFFD and one of a block that moves
-/// on, each with one field changed: a byte to each of its values, a flag and another
-/// number to some.
+/// Sound records of each kind and `others`, each with one field changed: a byte to
+/// each of its values, a flag and another number to some.
 pub fn sweep() -> Vec<Fields> {
     let mut records = Vec::new();
-    let others = [health_read(), moves_on()];
-    for sound in sound_ones().into_iter().chain(others) {
+    for sound in sound_ones().into_iter().chain(others()) {
         let mut with = |change: &dyn Fn(&mut Fields)| {
             let mut drive = sound;
             change(&mut drive);
             records.push(drive);
         };
-        for byte in BYTES {
-            for value in 0..=255 {
-                with(&|drive| *byte(drive) = value);
-            }
-        }
-        for flag in FLAGS {
-            for value in (0..=3).chain([128, 255, 256, 32_768, 65_535]) {
-                with(&|drive| *flag(drive) = value);
-            }
-        }
-        for count in COUNTS {
-            let wide = [256, 512, 32_768, 65_534, 65_535];
-            for value in (0..=110).chain(525..=540).chain(wide) {
-                with(&|drive| *count(drive) = value);
-            }
-        }
-        for block in (0..20).chain(9720..=9735).chain(65_530..=65_535) {
-            with(&|drive| drive.stage.block = block);
-            for place in [0, 2, 31] {
-                with(&|drive| drive.spares[place] = block);
-            }
-            for place in [0, 4, 99] {
-                with(&|drive| drive.bads[place] = block);
-            }
-        }
-        for cause in (0..=8).chain([255, 256, 259, 32_768, 65_535]) {
-            for place in [0, 2, 3, 31] {
-                with(&|drive| drive.causes[place] = cause);
-            }
-        }
-        for word in (0..=70).chain([255, 256, 32_768, 65_535]) {
-            with(&|drive| drive.stage.remembered = word);
-        }
-        for run in RUNS {
-            with(&|drive| drive.run = run);
-        }
-        let wide = [32_768, 65_534, 65_535];
-        for sector in (0..5).chain(4920..=4970).chain(9785..=9800).chain(wide) {
-            with(&|drive| drive.stage.sector = sector);
-        }
+        sweep_small(&mut with);
+        sweep_words(&mut with);
+        sweep_lists(&mut with);
     }
     records
+}
+
+/// What takes a change.
+type With<'a> = &'a mut dyn FnMut(&dyn Fn(&mut Fields));
+
+fn sweep_small(with: With) {
+    for byte in BYTES {
+        for value in 0..=255 {
+            with(&|drive| *byte(drive) = value);
+        }
+    }
+    for flag in FLAGS {
+        for value in (0..=3).chain([128, 255, 256, 32_768, 65_535]) {
+            with(&|drive| *flag(drive) = value);
+        }
+    }
+}
+
+fn sweep_words(with: With) {
+    for count in COUNTS {
+        let wide = [256, 512, 32_768, 65_534, 65_535];
+        for value in (0..=110).chain(525..=540).chain(wide) {
+            with(&|drive| *count(drive) = value);
+        }
+    }
+    for word in (0..=70).chain([255, 256, 32_768, 65_535]) {
+        with(&|drive| drive.stage.remembered = word);
+    }
+    for run in RUNS {
+        with(&|drive| drive.run = run);
+    }
+    let wide = [32_768, 65_534, 65_535];
+    for sector in (0..5).chain(4920..=4970).chain(9785..=9800).chain(wide) {
+        with(&|drive| drive.stage.sector = sector);
+    }
+}
+
+fn sweep_lists(with: With) {
+    for block in (0..20).chain(9720..=9735).chain(65_530..=65_535) {
+        with(&|drive| drive.stage.block = block);
+        for place in [0, 2, 31] {
+            with(&|drive| drive.spares[place] = block);
+        }
+        for place in [0, 4, 99] {
+            with(&|drive| drive.bads[place] = block);
+        }
+    }
+    for cause in (0..=8).chain([255, 256, 259, 32_768, 65_535]) {
+        for place in [0, 2, 3, 31] {
+            with(&|drive| drive.causes[place] = cause);
+        }
+    }
 }
 
 /// Sound records in every phase, with some entries in both lists.
@@ -300,6 +341,26 @@ pub fn sound_ones() -> Vec<Fields> {
     further_read.stage.left = 0;
     let kinds = kind::IDLE..=kind::TRIAL_READ;
     kinds.flat_map(specimens).chain([further_read]).collect()
+}
+
+/// Sound records at ends of commands that a record of each kind does not meet.
+fn others() -> [Fields; 4] {
+    [health_read(), moves_on(), overrun(), read_under_latch()]
+}
+
+/// At offer 06 of a write that was fed too much, with changes to store.
+fn overrun() -> Fields {
+    let [_, mut offer_06] = specimens(kind::OFFER);
+    (offer_06.fed, offer_06.flags.changed) = (533, 1);
+    offer_06
+}
+
+/// At the first read under the latch, with a place that is not stored.
+fn read_under_latch() -> Fields {
+    let [mut first_read, _] = specimens(kind::READ);
+    let flags = &mut first_read.flags;
+    (flags.latch, flags.changed, flags.moved) = (1, 1, 1);
+    first_read
 }
 
 /// At offer 02 of a read of FFFFFD, which shows counts and flags.
@@ -320,8 +381,48 @@ fn moves_on() -> Fields {
 
 /// Two sound records of a kind: for trials on the present sector and on a spare,
 /// for writes with none to verify and with one, for reads with the first read and a
-/// reread awaited.
+/// reread awaited, for the store after a good end and after a move.
 fn specimens(kind: u8) -> [Fields; 2] {
+    let mut drive = specimen(kind);
+    let mut other = drive;
+    match kind {
+        kind::OFFER => {
+            (drive.stage.detail, other.stage.detail) = (2, 6);
+            other.command[0] = 1;
+        }
+        kind::START => (drive.stage.detail, other.stage.detail) = (1, 10),
+        kind::STORE => {
+            (drive.flags.changed, other.flags.changed) = (1, 1);
+            (other.flags.moved, other.stage.detail, other.stage.crc) = (1, 1, 1);
+        }
+        kind::READ => {
+            (drive.stage.first, drive.stage.left) = (1, 2);
+            (other.stage.left, other.stage.errors) = (1, 1);
+        }
+        kind::WRITE => other.stage.first = 1,
+        kind::VERIFY => {
+            (drive.stage.first, other.stage.first) = (1, 1);
+            other.flags.changed = 1;
+        }
+        kind::TRIAL_WRITE | kind::TRIAL_READ => {
+            (other.stage.spare, other.stage.sector) = (1, 4931);
+            // Before it a CRC error, on the present sector a timeout.
+            other.stage.remembered = 4 + 16 * 2;
+        }
+        _ => other.flags.changed = 1,
+    }
+    if kind == kind::TRIAL_READ {
+        // The last reread, with as many failures as pass, the last a timeout.
+        for stage in [&mut drive.stage, &mut other.stage] {
+            (stage.detail, stage.spent) = (99, 30);
+            stage.remembered += 2;
+        }
+    }
+    [drive, other]
+}
+
+/// A record of a kind with some entries in both lists, without what a kind alone has.
+fn specimen(kind: u8) -> Fields {
     let mut drive = Fields {
         nspares: 3,
         nbads: 5,
@@ -340,42 +441,8 @@ fn specimens(kind: u8) -> [Fields; 2] {
     }
     drive.flags.known = 1;
     drive.stage.kind = kind;
-    let mut other = drive;
-    match kind {
-        kind::OFFER => (drive.stage.detail, other.stage.detail) = (2, 6),
-        kind::START => (drive.stage.detail, other.stage.detail) = (1, 10),
-        kind::READ => {
-            (drive.stage.first, drive.stage.left) = (1, 2);
-            (other.stage.left, other.stage.errors) = (1, 1);
-        }
-        kind::WRITE => other.stage.first = 1,
-        kind::VERIFY => {
-            (drive.stage.first, other.stage.first) = (1, 1);
-            other.flags.changed = 1;
-        }
-        kind::TRIAL_WRITE | kind::TRIAL_READ => {
-            other.stage.spare = 1;
-            // Before it a CRC error, on the present sector a timeout.
-            other.stage.remembered = 4 + 16 * 2;
-        }
-        _ => other.flags.changed = 1,
-    }
-    if kind == kind::TRIAL_READ {
-        // The last reread, with as many failures as pass, the last a timeout.
-        for stage in [&mut drive.stage, &mut other.stage] {
-            (stage.detail, stage.spent) = (99, 30);
-            stage.remembered += 2;
-        }
-    }
-    if kind == kind::OFFER {
-        other.command[0] = 1;
-    }
     if kind >= kind::READ {
-        (drive.stage.block, other.stage.block) = (17, 17);
-        (drive.stage.sector, other.stage.sector) = (17, 17);
+        (drive.stage.block, drive.stage.sector) = (17, 17);
     }
-    if other.stage.spare == 1 {
-        other.stage.sector = 4931;
-    }
-    [drive, other]
+    drive
 }

@@ -12,14 +12,14 @@ use reference::image::{Cause, DEAD};
 
 use crate::fields::{self, Fields};
 use crate::raw::kind;
-use crate::GO_ON;
+use crate::{GO_ON, STATUS};
 
 /// The first spare's sector, and how many there are.
 const FIRST_SPARE: u32 = 4928;
 const SPARES: u32 = 32;
 
-/// The record that these numbers are unpacked to, unless the phase or the offer is
-/// none, which code 1 refuses.
+/// The record that these numbers are unpacked to, unless the phase, the offer or the
+/// ending is none, which code 1 refuses.
 ///
 /// What the reference's record cannot hold becomes something that its own test
 /// refuses for the same clause of code 1.
@@ -38,6 +38,7 @@ pub fn record_of(numbers: &Fields) -> Option<Record> {
         bads: list(numbers.bad_list(), fields::BADS, u32::from),
         known: flag(flags.known),
         changed: flag(flags.changed),
+        placed: flag(flags.moved),
         latch: flag(flags.latch),
         fresh: flag(flags.fresh),
         command: list(
@@ -87,7 +88,9 @@ fn phase(stage: &fields::Stage) -> Option<Phase> {
         kind::START => Phase::Starting {
             reads: u32::from(stage.detail),
         },
-        kind::STORE => Phase::Storing,
+        kind::STORE => Phase::Storing {
+            status: ended(stage)?,
+        },
         kind::READ => Phase::Reading(job(stage), reading(stage)),
         kind::WRITE if !flag(stage.first) => Phase::Writing {
             job: clean_job(stage),
@@ -98,6 +101,28 @@ fn phase(stage: &fields::Stage) -> Option<Phase> {
         kind::TRIAL_WRITE | kind::TRIAL_READ => Phase::Trying(job(stage), trial(stage)),
         _ => return None,
     })
+}
+
+/// What the endings set of status 1, 2 and 3, each at its number.
+const ENDINGS: [[u8; 3]; 10] = [
+    [0x00, 0x00, 0x00],
+    [0x00, 0x04, 0x00],
+    [0x01, 0x00, 0x00],
+    [0x41, 0x00, 0x00],
+    [0x01, 0x00, 0x40],
+    [0x01, 0x08, 0x00],
+    [0x41, 0x08, 0x00],
+    [0x11, 0x00, 0x00],
+    [0x01, 0x10, 0x00],
+    [0x01, 0x40, 0x00],
+];
+
+/// Returns the status of a command that waits for its store: the reference has it in
+/// place of the ending and what was met.
+fn ended(stage: &fields::Stage) -> Option<[u8; STATUS]> {
+    let [one, two, three] = *ENDINGS.get(usize::from(stage.detail))?;
+    let met = u8::from(flag(stage.crc)) << 3 | u8::from(flag(stage.timeout)) << 2;
+    Some([one | met, two, three, stage.errors])
 }
 
 /// Returns the job of a write command before any trial, which has met nothing yet.
@@ -199,7 +224,7 @@ pub fn alike(one: &Record, other: &Record) -> bool {
         && (one.run, one.causes) == (other.run, other.causes)
         && one.spares == other.spares
         && one.bads == other.bads
-        && (one.known, one.changed) == (other.known, other.changed)
+        && (one.known, one.changed, one.placed) == (other.known, other.changed, other.placed)
         && (one.latch, one.fresh) == (other.latch, other.fresh)
         && (!command || one.command == other.command)
         && (!data || one.data_count == other.data_count)
@@ -265,7 +290,7 @@ mod tests {
     }
 
     #[test]
-    fn phases_and_offers_that_are_none() {
+    fn phases_offers_and_endings_that_are_none() {
         let at = |kind, detail| Fields {
             stage: fields::Stage {
                 kind,
@@ -281,6 +306,8 @@ mod tests {
         for byte in 0..=255 {
             let none = record_of(&at(kind::OFFER, byte)).is_none();
             assert_eq!(none, !matches!(byte, 1..=4 | 6), "{byte}");
+            let none = record_of(&at(kind::STORE, byte)).is_none();
+            assert_eq!(none, byte > 9, "{byte}");
         }
     }
 
@@ -288,9 +315,28 @@ mod tests {
     fn a_flag_that_is_not_0_is_true() {
         for number in [1, 2, 256, u16::MAX] {
             let mut drive = Fields::NEW;
-            drive.flags.latch = number;
-            assert!(record_of(&drive).is_some_and(|record| record.latch));
+            (drive.flags.latch, drive.flags.moved) = (number, number);
+            assert!(record_of(&drive).is_some_and(|record| record.latch && record.placed));
         }
+    }
+
+    #[test]
+    fn endings_wait_as_status_bytes() {
+        let mut drive = Fields::NEW;
+        drive.stage.kind = kind::STORE;
+        let mut all = Vec::new();
+        for detail in 0..10 {
+            for (crc, timeout, errors) in [(0, 0, 0), (1, 0, 2), (0, 2, 255)] {
+                drive.stage.detail = detail;
+                (drive.stage.crc, drive.stage.timeout) = (crc, timeout);
+                drive.stage.errors = errors;
+                let phase = record_of(&drive).expect("an ending").phase;
+                assert!(!all.contains(&phase), "{detail}");
+                all.push(phase);
+            }
+        }
+        let status = [0x08, 0x04, 0, 2];
+        assert_eq!(all[4], Phase::Storing { status });
     }
 
     #[test]

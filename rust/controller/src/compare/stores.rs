@@ -25,8 +25,8 @@ const RUNS: [u32; 9] = [
     u32::MAX,
 ];
 
-/// Answers to the stores.
-const STORES: [u8; 4] = [2, 3, 0, 0];
+/// Answers to the stores. After a 3 there are no more.
+const STORES: [u8; 4] = [2, 0, 0, 3];
 
 /// Starts from each run number and stores four times; says what is not as it must
 /// be. Gives the number of calls.
@@ -75,9 +75,11 @@ impl Run {
         }
     }
 
-    /// Reads a block that never comes, which enters the bad list.
+    /// Reads a block that never comes, which enters the bad list: the table is to be
+    /// stored.
     fn change(&mut self, block: u8) -> Result<(), String> {
         let (read, at) = (Offer::Read, crate::Sector(block.into()));
+        self.call(Call::Raise, Answer::Offer(Offer::Command))?;
         self.call(Call::Lower(0x55), Answer::Wait)?;
         self.call(Call::Feed(vec![0, 0, 0, block, 0, 1]), Answer::Wait)?;
         self.call(Call::Raise, Answer::Offer(read))?;
@@ -85,7 +87,7 @@ impl Run {
         for _ in 0..10 {
             self.call(Call::Surface(2, vec![]), Answer::Read(at))?;
         }
-        self.call(Call::Surface(2, vec![]), Answer::Finished)
+        self.call(Call::Surface(2, vec![]), Answer::Store)
     }
 }
 
@@ -98,17 +100,14 @@ fn stores(image: &[u8], mut run: u32) -> Result<u64, String> {
     made.call(Call::Start, Answer::Read(crate::TABLE))?;
     made.call(Call::Surface(0, image.to_vec()), Answer::Wait)?;
     made.is_at(run)?;
-    made.call(Call::Raise, Answer::Offer(Offer::Command))?;
     for (block, answer) in (100..).zip(STORES) {
         made.change(block)?;
-        made.is_at(run)?;
         run = run.saturating_add(1);
-        made.call(Call::Raise, Answer::Store)?;
         made.is_at(run)?;
-        let offer = Answer::Offer(Offer::Command);
-        made.call(Call::Surface(answer, vec![]), offer)?;
+        made.call(Call::Surface(answer, vec![]), Answer::Finished)?;
         made.is_at(run)?;
     }
+    made.call(Call::Raise, Answer::Offer(Offer::Command))?;
     Ok(made.calls)
 }
 

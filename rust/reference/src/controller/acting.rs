@@ -1,5 +1,5 @@
-//! Acting on a command: the checks before any access, the reads of a read
-//! command, and the finish.
+//! Acting on a command: the checks before any access, and the reads of a read
+//! command.
 
 use super::{
     data_mut, Answer, Job, Offer, Phase, Place, ReadOutcome, Reading, Record, Stage, Step, STATUS,
@@ -41,7 +41,7 @@ pub(super) mod two {
 }
 
 /// Bits of status 3.
-mod three {
+pub(super) mod three {
     pub const FRESH: u8 = 1 << 7;
     pub const NUMBER: u8 = 1 << 6;
 }
@@ -125,18 +125,17 @@ impl Record {
     pub(super) fn act(&mut self, buffer: &mut [u8], offer: Offer) -> Answer {
         let order = Order::new(offer, &self.command);
         if order.writes() && self.data_count > SECTOR_BYTES {
-            let kind = order.command.name();
-            met(&format!("act.too-much.{kind}.{}", self.number_name()));
-            return self.finish(buffer, [one::ABORTED | one::FAILED, 0, 0, 0]);
+            return self.too_much(buffer, order);
         }
         match order.target() {
             Target::Nothing => {
                 met(&invalid_name(order));
-                self.finish(buffer, [one::FAILED, 0, three::NUMBER, 0])
+                let status = [one::FAILED, 0, three::NUMBER, 0];
+                self.finish_other(buffer, "invalid", status)
             }
             Target::Ram => {
                 met(&self.ram_name(order));
-                self.finish(buffer, [0; STATUS])
+                self.finish_other(buffer, "fffffe", [0; STATUS])
             }
             target if !self.known => {
                 met(&no_table_name(order, target));
@@ -146,18 +145,29 @@ impl Record {
             Target::TableImage => {
                 self.met_table_image();
                 data_mut(buffer).copy_from_slice(&self.shown_image());
-                self.finish(buffer, [0; STATUS])
+                self.finish_other(buffer, "ffffff", [0; STATUS])
             }
             Target::Health => {
                 self.met_health();
                 data_mut(buffer).copy_from_slice(&self.health());
-                self.finish(buffer, [0; STATUS])
+                self.finish_other(buffer, "fffffd", [0; STATUS])
             }
             Target::Block(_) if order.writes() && self.latch => {
                 met(&self.latch_name(order));
-                self.finish(buffer, [one::NO_SETTLE | one::FAILED, 0, 0, 0])
+                self.end(buffer, [one::NO_SETTLE | one::FAILED, 0, 0, 0])
             }
             Target::Block(block) => self.begin(order, block),
+        }
+    }
+
+    /// Ends a command with more than 532 data bytes.
+    fn too_much(&mut self, buffer: &mut [u8], order: Order) -> Answer {
+        let kind = order.command.name();
+        met(&format!("act.too-much.{kind}.{}", self.number_name()));
+        let status = [one::ABORTED | one::FAILED, 0, 0, 0];
+        match order.target() {
+            Target::Block(_) => self.end(buffer, status),
+            _ => self.finish_other(buffer, "too-much", status),
         }
     }
 
@@ -418,38 +428,6 @@ impl Record {
         });
         self.latch = true;
         self.finish_job(buffer, job, one::NO_SETTLE | one::FAILED, 0)
-    }
-
-    /// The finish of a command that made accesses: what it met joins the bits.
-    pub(super) fn finish_job(&mut self, buffer: &mut [u8], job: Job, one: u8, two: u8) -> Answer {
-        let crc = if job.crc { one::CRC } else { 0 };
-        let timeout = if job.timeout { one::TIMEOUT } else { 0 };
-        // Code 1 and the rereads keep E at most 255.
-        let errors = job.errors.min(255) as u8;
-        met(match errors {
-            0 => "finish.errors.0",
-            255 => "finish.errors.255",
-            _ => "finish.errors.some",
-        });
-        self.finish(buffer, [one | crc | timeout, two, 0, errors])
-    }
-
-    /// The finish of any command.
-    fn finish(&mut self, buffer: &mut [u8], mut status: [u8; STATUS]) -> Answer {
-        let how = if status[0] & one::FAILED == 0 {
-            "good"
-        } else {
-            "failed"
-        };
-        let bit = if self.fresh { "bit-7" } else { "no-bit-7" };
-        met(&format!("finish.{how}.{bit}"));
-        if self.fresh {
-            status[2] |= three::FRESH;
-            self.fresh = false;
-        }
-        buffer[..STATUS].copy_from_slice(&status);
-        self.rest();
-        Answer::Finished
     }
 }
 

@@ -3,12 +3,12 @@
 //! Numbers in a record are plain ones, since a record that no call returned may
 //! hold any; `valid` is the test of code 1, and behind it they are in range.
 
-use super::{MOST_COMMAND, MOST_DATA, MOST_START_READS, TRIAL_REREADS};
+use super::{MOST_COMMAND, MOST_DATA, MOST_START_READS, STATUS, TRIAL_REREADS};
 use crate::geometry::{home, spare, Block, Sector, SECTOR_BYTES, SPARES};
 use crate::image::{form_a, form_b, Cause, Entry, Spare, Table, LENGTH, MOST_SPARES};
 
 /// What the controller offers to do next.
-#[derive(Clone, Copy, Debug, PartialEq, Eq)]
+#[derive(Clone, Copy, Debug, PartialEq, Eq, Hash)]
 pub enum Offer {
     /// Take a command.
     Command,
@@ -35,9 +35,9 @@ impl Offer {
     }
 }
 
-/// What the controller is doing. CMD is high while an offer stands and while the
-/// store of a raise is awaited, and low elsewhere.
-#[derive(Clone, Copy, Debug, PartialEq, Eq)]
+/// What the controller is doing. CMD is high while an offer stands, and low
+/// elsewhere.
+#[derive(Clone, Copy, Debug, PartialEq, Eq, Hash)]
 pub enum Phase {
     Idle,
     /// An offer stands.
@@ -50,8 +50,11 @@ pub enum Phase {
     Starting {
         reads: u32,
     },
-    /// The store of a raise is awaited.
-    Storing,
+    /// The store at the end of a command is awaited; these status bytes stand for
+    /// its ending so far (document 02, request 7).
+    Storing {
+        status: [u8; STATUS],
+    },
     /// A read of a read command is awaited.
     Reading(Job, Reading),
     /// The one write of a write command is awaited.
@@ -70,7 +73,7 @@ pub enum Phase {
 }
 
 /// A command with an access under way, and what it has met.
-#[derive(Clone, Copy, Debug, PartialEq, Eq)]
+#[derive(Clone, Copy, Debug, PartialEq, Eq, Hash)]
 pub struct Job {
     pub block: u32,
     /// Any CRC error.
@@ -84,7 +87,7 @@ pub struct Job {
 
 /// The failures that a command remembers, since entries may get their causes from
 /// them (document 02, request 6).
-#[derive(Clone, Copy, Debug, PartialEq, Eq)]
+#[derive(Clone, Copy, Debug, PartialEq, Eq, Hash)]
 pub struct Failures {
     /// The last one, wherever it was.
     pub last: Cause,
@@ -129,7 +132,7 @@ impl Job {
 }
 
 /// Where a read command stands before any trial.
-#[derive(Clone, Copy, Debug, PartialEq, Eq)]
+#[derive(Clone, Copy, Debug, PartialEq, Eq, Hash)]
 pub struct Reading {
     pub sector: u32,
     /// T.
@@ -138,7 +141,7 @@ pub struct Reading {
 }
 
 /// Which of its reads is awaited.
-#[derive(Clone, Copy, Debug, PartialEq, Eq)]
+#[derive(Clone, Copy, Debug, PartialEq, Eq, Hash)]
 pub enum Stage {
     /// The first; this many rereads would follow.
     First { rereads: u32 },
@@ -150,21 +153,21 @@ pub enum Stage {
 }
 
 /// Which access of a write/verify is awaited, before any trial.
-#[derive(Clone, Copy, Debug, PartialEq, Eq)]
+#[derive(Clone, Copy, Debug, PartialEq, Eq, Hash)]
 pub enum Step {
     Write,
     Verify,
 }
 
 /// Where the trial of a sector stands (document 02, request 4).
-#[derive(Clone, Copy, Debug, PartialEq, Eq)]
+#[derive(Clone, Copy, Debug, PartialEq, Eq, Hash)]
 pub struct Trial {
     pub place: Place,
     pub awaits: Awaits,
 }
 
 /// The sector of a trial.
-#[derive(Clone, Copy, Debug, PartialEq, Eq)]
+#[derive(Clone, Copy, Debug, PartialEq, Eq, Hash)]
 pub enum Place {
     /// The block's present sector.
     Present(u32),
@@ -173,7 +176,7 @@ pub enum Place {
 }
 
 /// Which access of a trial is awaited.
-#[derive(Clone, Copy, Debug, PartialEq, Eq)]
+#[derive(Clone, Copy, Debug, PartialEq, Eq, Hash)]
 pub enum Awaits {
     /// Its one write.
     Write,
@@ -182,7 +185,7 @@ pub enum Awaits {
 }
 
 /// The rereads of a trial that were answered.
-#[derive(Clone, Copy, Debug, Default, PartialEq, Eq)]
+#[derive(Clone, Copy, Debug, Default, PartialEq, Eq, Hash)]
 pub struct Rereads {
     pub made: u32,
     /// The failures among them.
@@ -190,7 +193,7 @@ pub struct Rereads {
 }
 
 /// What kind of access is awaited.
-#[derive(Clone, Copy, Debug, PartialEq, Eq)]
+#[derive(Clone, Copy, Debug, PartialEq, Eq, Hash)]
 pub enum Awaited {
     Read,
     Write,
@@ -213,7 +216,7 @@ impl Phase {
         match self {
             Phase::Idle | Phase::Offered(_) | Phase::Command | Phase::Data => None,
             Phase::Starting { .. } | Phase::Reading(..) => Some(Awaited::Read),
-            Phase::Storing | Phase::Writing { .. } => Some(Awaited::Write),
+            Phase::Storing { .. } | Phase::Writing { .. } => Some(Awaited::Write),
             Phase::Verifying { step, .. } => Some(match step {
                 Step::Write => Awaited::Write,
                 Step::Verify => Awaited::Read,
@@ -225,6 +228,14 @@ impl Phase {
         }
     }
 
+    /// Gives a word for it that tells the offers apart, for the coverage names.
+    pub fn full_name(self) -> String {
+        match self {
+            Phase::Offered(offer) => format!("offer-{:02x}", offer.byte()),
+            phase => String::from(phase.name()),
+        }
+    }
+
     /// A word for it, for the coverage names.
     pub fn name(self) -> &'static str {
         match self {
@@ -233,7 +244,7 @@ impl Phase {
             Phase::Command => "command",
             Phase::Data => "data",
             Phase::Starting { .. } => "starting",
-            Phase::Storing => "storing",
+            Phase::Storing { .. } => "storing",
             Phase::Reading(_, reading) => match reading.stage {
                 Stage::First { .. } => "first-read",
                 Stage::Again { .. } => "reread",
@@ -255,7 +266,7 @@ impl Phase {
 }
 
 /// The drive's record.
-#[derive(Clone, Debug, PartialEq, Eq)]
+#[derive(Clone, Debug, PartialEq, Eq, Hash)]
 pub struct Record {
     /// The run number: the stores asked for, up to its top.
     pub run: u32,
@@ -269,6 +280,9 @@ pub struct Record {
     pub known: bool,
     /// The table was changed since its last store or the start.
     pub changed: bool,
+    /// Some block's place is unstored: it was listed at a spare since the last store
+    /// or the start (document 02, request 7).
+    pub placed: bool,
     /// Writes are shut off after answer 3.
     pub latch: bool,
     /// Status 3 bit 7 is due.
@@ -296,6 +310,7 @@ impl Record {
             bads: vec![],
             known: false,
             changed: false,
+            placed: false,
             latch: false,
             fresh: false,
             command: vec![],
@@ -316,7 +331,7 @@ impl Record {
         match self.phase {
             Phase::Idle | Phase::Offered(_) | Phase::Command | Phase::Data => true,
             Phase::Starting { reads } => reads <= MOST_START_READS,
-            Phase::Storing => self.known,
+            Phase::Storing { .. } => self.known,
             Phase::Reading(job, reading) => {
                 let (left, spent) = match reading.stage {
                     Stage::First { rereads } => (u64::from(rereads), 0),

@@ -1,8 +1,10 @@
-//! Hand-computed cases from document 01, and from requests 1, 3, 4 and 6 of document 02.
+//! Hand-computed cases from document 01, and from requests 1, 3, 4, 6 and 7 of document
+//! 02.
 
 mod form_b;
 mod health;
 mod short_data;
+mod stores;
 mod trials;
 
 use super::*;
@@ -78,6 +80,13 @@ fn reads(drive: &mut Drive, answers: &str) -> Answer {
     last
 }
 
+/// The store at the end of a command, which is awaited, is done, and the command
+/// finishes.
+#[track_caller]
+fn store_done(drive: &mut Drive) {
+    assert_eq!(surface(drive, 0, &[]), Answer::Finished);
+}
+
 fn sector(number: u32) -> Sector {
     Sector::new(number).expect("a sector")
 }
@@ -141,10 +150,11 @@ fn eleven_timeouts() {
     let mut drive = worn(&[], &[]);
     command(&mut drive, 5, 0, 1);
     assert_eq!(reads(&mut drive, "tttttttttt"), read_of(5));
-    assert_eq!(reads(&mut drive, "t"), Answer::Finished);
-    assert_eq!(drive.status(), [0x05, 0, 0, 0]);
+    assert_eq!(reads(&mut drive, "t"), Answer::Store);
     assert_eq!(drive.record.bads, [5]);
     assert!(drive.record.changed);
+    store_done(&mut drive);
+    assert_eq!(drive.status(), [0x05, 0, 0, 0]);
 }
 
 #[test]
@@ -152,7 +162,8 @@ fn crc_nine_timeouts_nine_crc() {
     let mut drive = worn(&[], &[]);
     command(&mut drive, 5, 0, 1);
     assert_eq!(reads(&mut drive, "ctttttttttcccccccc"), read_of(5));
-    assert_eq!(reads(&mut drive, "c"), Answer::Finished);
+    assert_eq!(reads(&mut drive, "c"), Answer::Store);
+    store_done(&mut drive);
     assert_eq!(drive.status(), [0x0D, 0, 0, 0]);
 }
 
@@ -306,26 +317,6 @@ fn the_start() {
     assert_eq!(drive.buffer, vec![0; 536]);
 }
 
-#[test]
-fn stores() {
-    let mut drive = worn(&[], &[5]);
-    write(&mut drive, 1, 5, &GOOD);
-    surface(&mut drive, 0, &[]);
-    assert_eq!(reads(&mut drive, &"g".repeat(100)), Answer::Finished);
-    for answer in [2, 3, 0] {
-        assert_eq!(said(&mut drive, Call::Raise), Answer::Store);
-        assert!(drive.record.changed);
-        assert_eq!(
-            surface(&mut drive, answer, &[]),
-            Answer::Offer(Offer::Command)
-        );
-        assert!(!drive.record.latch);
-        said(&mut drive, Call::Lower(0));
-    }
-    assert!(!drive.record.changed);
-    assert_eq!(said(&mut drive, Call::Raise), Answer::Offer(Offer::Command));
-}
-
 // Code 1.
 
 /// The calls that test a record.
@@ -437,7 +428,7 @@ const STEPS: [Step; 2] = [Step::Write, Step::Verify];
 /// Each phase of a command's access, a store's too.
 fn accesses() -> Vec<Record> {
     let mut records = vec![
-        with(Phase::Storing),
+        with(Phase::Storing { status: [0; 4] }),
         reading(JOB, Stage::First { rereads: 0 }),
         reading(
             JOB,
@@ -496,7 +487,7 @@ fn damaged_counts() {
         Phase::Command,
         Phase::Data,
         Phase::Offered(Offer::Act),
-        Phase::Storing,
+        Phase::Storing { status: [0; 4] },
     ];
     for phase in phases {
         let counted = |command: usize, data_count: usize| Record {
@@ -760,7 +751,9 @@ fn any_record(rng: &mut Rng) -> Record {
         4 => Phase::Starting {
             reads: rng.pick(&[0, 1, 9, 10, 11]),
         },
-        5 => Phase::Storing,
+        5 => Phase::Storing {
+            status: rng.pick(&[[0; 4], [0x41, 0, 0, 0], [0x0C, 0x04, 0, 255], [0xFF; 4]]),
+        },
         6 => Phase::Reading(
             job,
             Reading {
@@ -792,6 +785,7 @@ fn any_record(rng: &mut Rng) -> Record {
         },
         known: !rng.one_in(4),
         changed: rng.one_in(2),
+        placed: rng.one_in(2),
         latch: rng.one_in(3),
         fresh: rng.one_in(2),
         command: (0..rng.place(8))
@@ -799,6 +793,22 @@ fn any_record(rng: &mut Rng) -> Record {
             .collect(),
         data_count: rng.pick(&[0, 1, 531, 532, 533, 534]),
         phase,
+    }
+}
+
+/// A start makes all anew, whatever record and buffer it is given.
+#[test]
+fn a_start_from_any_record() {
+    let mut rng = Rng::new(78);
+    let mut first = Drive::new();
+    assert_eq!(said(&mut first, Call::Start), Answer::Read(TABLE));
+    for _ in 0..1000 {
+        let mut drive = Drive {
+            record: any_record(&mut rng),
+            buffer: vec![rng.byte(); 536],
+        };
+        assert_eq!(said(&mut drive, Call::Start), Answer::Read(TABLE));
+        assert_eq!(drive, first);
     }
 }
 

@@ -241,6 +241,7 @@ impl Record {
         }
         self.enter_spare(job.block, job.failures.before);
         self.changed = true;
+        self.placed = true;
         self.leave_bads(buffer, job, two::MOVED)
     }
 

@@ -1,5 +1,8 @@
 //! Lists written by hand, most of which no controller makes.
 
+mod dense;
+mod starts;
+
 use super::*;
 use crate::controller::{Code, BUFFER};
 use crate::images::draft::Draft;
@@ -500,7 +503,7 @@ fn the_health_block_is_ignored() {
     }
     list.allowed();
     assert_eq!(list.ledger.good_reads(), 0);
-    assert!(list.ledger.pages == before.pages && list.ledger.owners == before.owners);
+    assert!(list.ledger.pages == before.pages && list.ledger.places == before.places);
     // Either candidate may still come, and no other bytes.
     for (read, allowed) in [(OLD, true), (NEW, true), ([0; 532], false)] {
         let mut list = List {
@@ -540,10 +543,13 @@ fn the_table_is_taken_when_it_comes() {
     list.read(5, 4930, GOOD, &held(4930));
     list.read(8, 8, GOOD, &held(8));
     list.allowed();
-    // An image that comes later is no table.
-    list.call(Call::Raise, Answer::Store);
+    // An image that comes to a store is no table.
+    list.command(&[0, 0, 0, 7, 0, 0]);
+    list.call(Call::Lower(0x55), Answer::Read(sector(4929)));
+    list.call(Call::Surface(0, held(4929)), Answer::Store);
     let other = Draft::new(&[], &[]).bytes();
-    list.call(Call::Surface(0, other), Answer::Offer(Offer::Command));
+    list.buffer[STATUS..].copy_from_slice(&held(4929));
+    list.call(Call::Surface(0, other), Answer::Finished);
     list.read(7, 4929, GOOD, &held(4929));
     list.allowed();
 }
@@ -719,6 +725,10 @@ fn in_words() {
         (
             Broken::SameSector(block(1), block(2), found),
             "blocks 1 and 2 had both sector 6",
+        ),
+        (
+            Broken::NoTable(block(5)),
+            "a command for block 5 was good without a table",
         ),
     ] {
         assert_eq!(broken.to_string(), words);

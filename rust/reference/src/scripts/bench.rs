@@ -9,7 +9,7 @@ use crate::images::draft::Draft;
 use crate::images::draft_b::DraftB;
 use crate::ledger::{Broken, Ledger};
 use crate::script::{self, Line};
-use crate::surface::{obeys, Access, Left, Outcome, Sectors};
+use crate::surface::{cut_obeys, obeys, Access, Fate, Left, Outcome, Sectors};
 
 /// The numbers of no block that have a meaning: the buffer, the table, and the
 /// health block.
@@ -23,14 +23,14 @@ pub const INVALID: [u8; 4] = [0x01, 0, 0x40, 0];
 /// What a command with too many bytes finishes with.
 pub const TOO_MUCH: [u8; 4] = [0x41, 0, 0, 0];
 
-/// No read makes more accesses: 1 + 255 + 90 reads, then 33 trials.
-pub const MOST_ACCESSES: usize = 346 + 33 * TRIAL_ACCESSES;
+/// No read makes more accesses: 1 + 255 + 90 reads, then 33 trials, and the store.
+pub const MOST_ACCESSES: usize = 346 + 33 * TRIAL_ACCESSES + 1;
 
 /// A write and the rereads of a trial.
 const TRIAL_ACCESSES: usize = 1 + TRIAL_REREADS as usize;
 
 /// A write/verify makes two accesses before its trials, and a read more of them.
-const _: () = assert!(MOST_ACCESSES == 3679);
+const _: () = assert!(MOST_ACCESSES == 3680);
 
 /// What the ledger said of the lists on this bench.
 #[derive(Clone, Copy, Debug, Default, PartialEq, Eq)]
@@ -47,17 +47,24 @@ pub struct Tally {
     pub disallowed: usize,
     /// The most accesses that a command asked for.
     pub most_accesses: usize,
+    /// The starts that stand in lists on which the surface kept its rules.
+    pub starts: usize,
+    /// Cuts that left the sector of a pending write old, new or spoiled.
+    pub cuts: [usize; 3],
 }
 
 /// The bench.
 pub struct Bench {
     pub drive: Drive,
-    pub sectors: Sectors,
+    sectors: Sectors,
     text: String,
     ledger: Option<Ledger>,
-    /// The surface kept its rules since the start.
+    /// The next start begins another list.
+    anew: bool,
+    /// The surface kept its rules in this list.
     obeyed: bool,
     list_calls: usize,
+    list_starts: usize,
     pending: Option<Access>,
     last: Answer,
     accesses: usize,
@@ -75,8 +82,10 @@ impl Bench {
             sectors,
             text: format!("# {about}\n"),
             ledger: None,
+            anew: true,
             obeyed: true,
             list_calls: 0,
+            list_starts: 0,
             pending: None,
             last: Answer::Wait,
             accesses: 0,
@@ -108,6 +117,29 @@ impl Bench {
     /// The access that is awaited.
     pub fn pending(&self) -> Option<Access> {
         self.pending
+    }
+
+    /// Gives the sectors as they are.
+    pub fn sectors(&self) -> &Sectors {
+        &self.sectors
+    }
+
+    /// Lets a sector hold these bytes, which no access did: the next start begins
+    /// another list.
+    pub fn hold(&mut self, sector: Sector, bytes: &[u8]) {
+        self.sectors.hold(sector, bytes);
+        self.anew = true;
+    }
+
+    /// Spoils a sector in the same way.
+    pub fn spoil(&mut self, sector: Sector) {
+        self.sectors.spoil(sector);
+        self.anew = true;
+    }
+
+    /// Lets the next start begin another list.
+    pub fn list_anew(&mut self) {
+        self.anew = true;
     }
 
     /// A comment line after an empty one.
@@ -153,6 +185,16 @@ impl Bench {
         self.make(line, &spelled, Some(outcome.left))
     }
 
+    /// Starts, which cuts off the pending access; this is done to its sector.
+    pub fn cut_leaving(&mut self, left: Left) -> Answer {
+        let line = Line {
+            lend: None,
+            call: Call::Start,
+        };
+        let spelled = script::show(&line);
+        self.make(line, &spelled, Some(left))
+    }
+
     fn make(&mut self, line: Line, spelled: &str, left: Option<Left>) -> Answer {
         self.text += spelled;
         self.text.push('\n');
@@ -173,29 +215,58 @@ impl Bench {
         if refused {
             let code = Answer::Refused(Code::Record);
             assert_ne!(answer, code, "{spelled}: a call left a damaged record");
-        } else if line.call == Call::Start {
-            self.end_list();
-            self.ledger = Some(Ledger::new(&self.sectors));
-            self.obeyed = true;
-            self.list_calls = 0;
-        } else if line.call.may_change() {
-            if let (Some(access), Call::Surface(number, bytes)) = (self.pending, &line.call) {
-                self.settle(access, &before, *number, bytes, left);
+        } else if let Some(access) = self.pending {
+            match &line.call {
+                Call::Start => self.settle_cut(access, &before, left),
+                Call::Surface(number, bytes) => {
+                    self.settle(access, &before, *number, bytes, left);
+                }
+                _ => {}
             }
         }
-        if !line.call.may_change() {
-            return answer;
-        }
-        if line.call != Call::Start || refused {
-            if let Some(ledger) = &mut self.ledger {
-                ledger.call(&line.call, answer, &self.drive.buffer);
-                self.list_calls += 1;
+        if line.call.may_change() {
+            self.enlist(&line.call, answer);
+            if !refused {
+                self.follow(&line.call, answer);
             }
-        }
-        if !refused {
-            self.follow(&line.call, answer);
         }
         answer
+    }
+
+    /// Shows a call to the ledger, or begins another list with it.
+    fn enlist(&mut self, call: &Call, answer: Answer) {
+        let start = *call == Call::Start && !matches!(answer, Answer::Refused(_));
+        if start && self.anew {
+            self.end_list();
+            self.ledger = Some(Ledger::new(&self.sectors));
+            self.anew = false;
+            self.obeyed = true;
+            self.list_calls = 0;
+            self.list_starts = 0;
+        } else if let Some(ledger) = &mut self.ledger {
+            ledger.call(call, answer, &self.drive.buffer);
+            self.list_calls += 1;
+            self.list_starts += usize::from(start);
+        }
+    }
+
+    /// Does to the sector of an access what its cut leaves, and sees whether that keeps
+    /// the rules.
+    fn settle_cut(&mut self, access: Access, asked: &Drive, left: Option<Left>) {
+        let sent = sent(asked, access);
+        let left = left.unwrap_or(Left::Alone);
+        if !cut_obeys(access, &sent, &left) {
+            self.obeyed = false;
+        }
+        if let Access::Write(_) = access {
+            let which = match left {
+                Left::Alone => 0,
+                Left::Held(_) => 1,
+                Left::Spoiled => 2,
+            };
+            self.tally.cuts[which] += 1;
+        }
+        self.sectors.leave(access, &left);
     }
 
     /// An accepted answer: does it keep the rules, and what does it leave?
@@ -234,7 +305,8 @@ impl Bench {
         if matches!(call, Call::Lower(_) | Call::Start) {
             self.accesses = 0;
         }
-        if matches!(answer, Answer::Read(_) | Answer::Write(_)) && *call != Call::Start {
+        let read_or_write = matches!(answer, Answer::Read(_) | Answer::Write(_));
+        if (read_or_write || answer == Answer::Store) && *call != Call::Start {
             self.accesses += 1;
             assert!(self.accesses <= MOST_ACCESSES, "a command goes on and on");
             self.tally.most_accesses = self.tally.most_accesses.max(self.accesses);
@@ -250,6 +322,7 @@ impl Bench {
             Ok(()) if self.obeyed => {
                 self.tally.lists += 1;
                 self.tally.listed_calls += self.list_calls;
+                self.tally.starts += self.list_starts;
                 self.tally.good_reads += ledger.good_reads();
             }
             Ok(()) => self.tally.other_lists += 1,
@@ -271,6 +344,12 @@ impl Bench {
 
     pub fn start(&mut self) -> Answer {
         self.call(Call::Start)
+    }
+
+    /// Starts, which cuts off the pending access, with this fate of its sector.
+    pub fn cut(&mut self, fate: Fate) -> Answer {
+        let access = self.pending.expect("an access is awaited");
+        self.cut_leaving(fate.left(access, &self.sent()))
     }
 
     pub fn raise(&mut self) -> Answer {
@@ -377,7 +456,7 @@ impl Bench {
 
     /// Starts with these bytes in 4960.
     fn started_from(&mut self, image: &[u8]) {
-        self.sectors.hold(TABLE, image);
+        self.hold(TABLE, image);
         self.restarted();
     }
 
@@ -395,11 +474,16 @@ impl Bench {
         assert_eq!(self.last, Answer::Wait);
     }
 
-    /// From idle to command bytes being taken; a store is done.
+    /// Answers the store at the end of a command, which is awaited, as done.
+    #[track_caller]
+    pub fn stored(&mut self) -> Answer {
+        self.said(Answer::Store);
+        self.good()
+    }
+
+    /// From idle to command bytes being taken.
     pub fn ready(&mut self) {
-        if self.raise() == Answer::Store {
-            self.good();
-        }
+        self.raise();
         assert_eq!(self.last, Answer::Offer(Offer::Command));
         self.lower(GO_ON);
         assert_eq!(self.last, Answer::Wait);
@@ -490,6 +574,14 @@ impl Bench {
     pub fn finished(&self, status: [u8; 4]) {
         self.said(Answer::Finished);
         assert_eq!(self.drive.status(), status, "{}", self.tail());
+    }
+
+    /// Answers the store at the end of a command as done, and asserts that the command
+    /// finishes with these status bytes.
+    #[track_caller]
+    pub fn ended(&mut self, status: [u8; 4]) {
+        self.stored();
+        self.finished(status);
     }
 
     /// The data part is this byte over and over.

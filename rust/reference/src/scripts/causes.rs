@@ -55,14 +55,16 @@ fn of_live() -> Bench {
     bench.timeout();
     bench.said_write(4928);
     trial(&mut bench, "ccc");
+    bench.stored();
     bench.said(Answer::Finished);
-    bench.history_is(0, &[(20, 2)]);
+    bench.history_is(1, &[(20, 2)]);
     bench.note("The first write of a write/verify times out.");
     bench.verify(21, &DATA);
     bench.timeout();
     trial(&mut bench, "oc");
+    bench.stored();
     bench.said(Answer::Finished);
-    bench.history_is(1, &[(20, 2), (21, 2)]);
+    bench.history_is(2, &[(20, 2), (21, 2)]);
     bench.note("A first verify fails with a CRC error; then the trial's write times out.");
     bench.verify(22, &DATA);
     bench.good();
@@ -70,8 +72,9 @@ fn of_live() -> Bench {
     bench.said_write(22);
     bench.timeout();
     trial(&mut bench, "");
+    bench.stored();
     bench.said(Answer::Finished);
-    bench.history_is(2, &[(20, 2), (21, 2), (22, 2)]);
+    bench.history_is(3, &[(20, 2), (21, 2), (22, 2)]);
     bench.note("A read meets CRC errors, and the write of its trial times out.");
     bench.read(23, 0, 0);
     bench.crc(0x6D);
@@ -79,9 +82,10 @@ fn of_live() -> Bench {
     bench.said_write(23);
     bench.timeout();
     trial(&mut bench, "c");
+    bench.stored();
     bench.said(Answer::Finished);
     let spares = [(20, 2), (21, 2), (22, 2), (23, 2)];
-    bench.history_is(3, &spares);
+    bench.history_is(4, &spares);
     bench.note("Until the spare has passed there is no entry.");
     bench.write(24, &DATA);
     bench.timeout();
@@ -89,7 +93,7 @@ fn of_live() -> Bench {
     bench.good_rereads(99);
     bench.history_is(4, &spares);
     bench.good();
-    bench.history_is(4, &[&spares[..], &[(24, 2)]].concat());
+    bench.history_is(5, &[&spares[..], &[(24, 2)]].concat());
     bench
 }
 
@@ -108,9 +112,10 @@ fn of_live_by_trial() -> Bench {
         bench.said_write(block);
         trial(&mut bench, &answers);
         trial(&mut bench, if cause == 1 { "t" } else { "c" });
+        bench.stored();
         bench.said(Answer::Finished);
         spares.push((block, cause));
-        let run = spares.len() as u32 - 1;
+        let run = spares.len() as u32;
         bench.history_is(run, &spares);
     }
     bench
@@ -147,12 +152,11 @@ fn of_dead() -> Bench {
     }
     bench.note("The live entry after them has the last failure on the last of them.");
     trial(&mut bench, "t");
-    bench.said(Answer::Finished);
-    spares.push((40, 1));
-    bench.history_is(0, &spares);
-    bench.raise();
     bench.said(Answer::Store);
+    spares.push((40, 1));
+    bench.history_is(1, &spares);
     bench.good();
+    bench.said(Answer::Finished);
     bench.restarted();
     bench.history_is(1, &spares);
     bench
@@ -213,8 +217,9 @@ fn of_moved_on() -> Bench {
     bench.timeout();
     bench.history_is(1, &[(8, 3), (60, 3), (DEAD, 2)]);
     trial(&mut bench, "c");
+    bench.stored();
     bench.said(Answer::Finished);
-    bench.history_is(1, &[(8, 3), (DEAD, 1), (DEAD, 2), (60, 2)]);
+    bench.history_is(2, &[(8, 3), (DEAD, 1), (DEAD, 2), (60, 2)]);
 
     bench.note("The other way round: a timeout there, other bytes in between.");
     bench.started_b(&DraftB::new(1, &[(60, 1)], &[]));
@@ -225,8 +230,9 @@ fn of_moved_on() -> Bench {
     bench.history_is(1, &[(60, 1), (DEAD, 1)]);
     bench.said_write(4930);
     trial(&mut bench, "t");
+    bench.stored();
     bench.said(Answer::Finished);
-    bench.history_is(1, &[(DEAD, 2), (DEAD, 1), (60, 1)]);
+    bench.history_is(2, &[(DEAD, 2), (DEAD, 1), (60, 1)]);
 
     bench.note("With no spare in between both have the same failure, and not the former cause.");
     for former in [0, 1, 2, 3] {
@@ -234,8 +240,9 @@ fn of_moved_on() -> Bench {
         bench.write(60, &DATA);
         bench.timeout();
         trial(&mut bench, if former == 2 { "c" } else { "" });
+        bench.stored();
         bench.said(Answer::Finished);
-        bench.history_is(1, &[(DEAD, 2), (60, 2)]);
+        bench.history_is(2, &[(DEAD, 2), (60, 2)]);
     }
     bench
 }
@@ -253,8 +260,9 @@ fn that_stay() -> Bench {
     bench.write(70, &DATA);
     bench.said_write(4929);
     trial(&mut bench, "ctc");
+    bench.stored();
     bench.said(Answer::Finished);
-    bench.history_is(1, &spares);
+    bench.history_is(2, &spares);
     bench.note("Answer 3 on its present spare.");
     bench.verify(70, &DATA);
     bench.good();
@@ -270,9 +278,9 @@ fn that_stay() -> Bench {
     trial(&mut bench, &thirty_and("c", "c"));
     bench.said_write(4959);
     trial(&mut bench, &thirty_and("c", "t"));
-    bench.finished([0x0D, 0x40, 0x80, 0]);
+    bench.ended([0x0D, 0x40, 0x80, 0]);
     spares.push((DEAD, 2));
-    bench.history_is(1, &spares);
+    bench.history_is(2, &spares);
     bench.note("A command that was broken off by a start leaves nothing to the next.");
     bench.started_b(&DraftB::new(1, &[(72, 1)], &[]));
     bench.read(73, 3, 1);
@@ -282,8 +290,9 @@ fn that_stay() -> Bench {
     bench.write(72, &DATA);
     bench.timeout();
     trial(&mut bench, "");
+    bench.stored();
     bench.said(Answer::Finished);
-    bench.history_is(1, &[(DEAD, 2), (72, 2)]);
+    bench.history_is(2, &[(DEAD, 2), (72, 2)]);
     bench
 }
 
@@ -296,14 +305,16 @@ fn together() -> Bench {
     bench.good();
     trial(&mut bench, &thirty_and("t", "c"));
     trial(&mut bench, "");
+    bench.stored();
     bench.said(Answer::Finished);
     bench.write(81, &DATA);
     bench.timeout();
     bench.timeout();
     trial(&mut bench, "");
+    bench.stored();
     bench.said(Answer::Finished);
     let mut spares = vec![(80, 1), (DEAD, 2), (81, 2)];
-    bench.history_is(1, &spares);
+    bench.history_is(2, &spares);
     bench.note("A spare dead by answer 3; the latch lets no store through.");
     bench.write(82, &DATA);
     bench.timeout();
@@ -323,16 +334,13 @@ fn together() -> Bench {
     bench.said_write(4928);
     bench.timeout();
     trial(&mut bench, "c");
-    bench.said(Answer::Finished);
+    bench.said(Answer::Store);
     spares[0] = (DEAD, 2);
     spares.push((80, 2));
-    bench.raise();
-    bench.said(Answer::Store);
     bench.history_is(3, &spares);
     bench.good();
-    bench.lower(0);
     let stored = DraftB::new(3, &spares, &[]);
-    let held = bench.sectors.get(TABLE).expect("an image");
+    let held = bench.sectors().get(TABLE).expect("an image");
     assert_eq!(held[..], stored.bytes());
     bench.note("FFFFFF in form A, and the stored image converted: the same bytes.");
     bench.read(TABLE_IMAGE, 0, 0);

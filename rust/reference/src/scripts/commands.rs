@@ -83,7 +83,7 @@ fn clean() -> Bench {
     for _ in 0..11 {
         bench.timeout();
     }
-    bench.finished([0x05, 0, 0, 0]);
+    bench.ended([0x05, 0, 0, 0]);
     bench.table_is(&[100, 0xFF_FFFE, 9727], &[7, 99]);
     bench
 }
@@ -155,7 +155,7 @@ fn numbers_with_a_meaning(bench: &mut Bench) {
     bench.write(600, &[0x26; 532]);
     bench.said_write(600);
     bench.trial_passes();
-    bench.finished([0; 4]);
+    bench.ended([0; 4]);
     bench.table_is(&[17, 0xFF_FFFE], &[0, 9727]);
     bench.read(TABLE_IMAGE, 0, 0);
     bench.finished([0; 4]);
@@ -227,7 +227,7 @@ fn data_bytes() -> Bench {
 
 fn no_table() -> Bench {
     let mut bench = Bench::new("No table: ten reads fail at the start, each in one of its ways.");
-    bench.sectors.hold(TABLE, &[0; 532]);
+    bench.hold(TABLE, &[0; 532]);
     bench.start();
     for read in 0..9 {
         bench.said_read(4960);

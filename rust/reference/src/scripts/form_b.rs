@@ -3,7 +3,7 @@
 
 use super::bench::{Bench, TABLE_IMAGE};
 use super::Stored;
-use crate::controller::{Answer, Code, Offer, GO_ON};
+use crate::controller::{Answer, Code, Offer};
 use crate::drive::Call;
 use crate::geometry::TABLE;
 use crate::image::{form_b, DEAD, TOP_RUN};
@@ -11,6 +11,7 @@ use crate::images::draft::Draft;
 use crate::images::draft_b::DraftB;
 use crate::images::{of_form_b, Case, Expect};
 use crate::rng::Rng;
+use crate::surface::Fate;
 use crate::text::show_bytes;
 
 pub fn all() -> Vec<Stored> {
@@ -100,8 +101,10 @@ fn spares_of_form_b(bench: &mut Bench) {
     bench.write(17, &[0xB1; 532]);
     bench.said_write(4931);
     bench.trial_passes();
-    bench.finished([0; 4]);
-    bench.history_is(12, &spares);
+    bench.said(Answer::Store);
+    bench.timeout();
+    bench.finished([0x05, 0, 0, 0]);
+    bench.history_is(13, &spares);
     bench.note("A start drops what was not stored, and a start without a table all of it.");
     bench.restarted();
     bench.table_is(&[9727, DEAD, 4928, 17, DEAD, 0], &[4928, 17]);
@@ -115,7 +118,7 @@ fn spares_of_form_b(bench: &mut Bench) {
 fn whole_images(bench: &mut Bench) {
     bench.note("Whole images of other kinds: what was read is written again.");
     for image in cases(|expect| expect == Expect::Table, 5, 200) {
-        bench.sectors.hold(TABLE, &image);
+        bench.hold(TABLE, &image);
         bench.restarted();
         bench.image();
         assert_eq!(bench.drive.record.table(), form_b::read(&image).ok());
@@ -173,24 +176,30 @@ fn damaged() -> Bench {
     bench
 }
 
-/// Makes a read that fails and enters its block in the bad list.
+/// Makes a read that fails and enters its block in the bad list, up to its store.
 fn enter(bench: &mut Bench, block: u32) {
     bench.read(block, 0, 1);
     for _ in 0..11 {
         bench.timeout();
     }
-    bench.said(Answer::Finished);
+    bench.said(Answer::Store);
 }
 
-/// Makes a raise that asks for a store, which has this run number and is answered so.
+/// Makes a good read, at whose end the table is stored.
+fn read_on(bench: &mut Bench) {
+    bench.read(9, 0, 1);
+    bench.good();
+    bench.said(Answer::Store);
+}
+
+/// Asserts that the store that is awaited has this run number, and answers it so.
 #[track_caller]
 fn stores(bench: &mut Bench, run: u32, answer: u8) {
-    bench.raise();
     bench.said(Answer::Store);
     let spares = spares_now(bench);
     bench.history_is(run, &spares);
     bench.surface(answer, &[]);
-    bench.said(Answer::Offer(Offer::Command));
+    bench.said(Answer::Finished);
     bench.history_is(run, &spares);
 }
 
@@ -205,25 +214,23 @@ fn run_numbers() -> Bench {
     let mut bench = Bench::new("The run number goes up with each store asked for.");
     bench.started(&[8], &[]);
     bench.history_is(0, &[(8, 0)]);
-    enter(&mut bench, 70);
-    bench.history_is(0, &[(8, 0)]);
     bench.note("The image that is fetched for a store has the new number, and keeps it when");
     bench.skipped("# the store fails.");
-    for (run, answer) in [(1, 2), (2, 3), (3, 2), (4, 0)] {
+    enter(&mut bench, 70);
+    stores(&mut bench, 1, 2);
+    for (run, answer) in [(2, 2), (3, 2), (4, 0)] {
+        read_on(&mut bench);
         stores(&mut bench, run, answer);
-        bench.lower(0);
     }
     bench.note("With nothing to store it stays.");
-    bench.raise();
-    bench.said(Answer::Offer(Offer::Command));
+    bench.read(9, 0, 1);
+    bench.good();
+    bench.finished([0; 4]);
     bench.history_is(4, &[(8, 0)]);
-    bench.lower(0);
-    bench.note("Refused answers to a store and refused raises count nothing.");
+    bench.note("Refused answers to a store and refused calls count nothing.");
     enter(&mut bench, 71);
-    bench.lend(Some(535), Call::Raise);
+    bench.lend(Some(535), Call::Surface(0, vec![]));
     bench.refused(Code::Buffer);
-    bench.raise();
-    bench.said(Answer::Store);
     bench.raise();
     bench.refused(Code::Place);
     bench.surface(1, &[]);
@@ -232,7 +239,6 @@ fn run_numbers() -> Bench {
     bench.refused(Code::Bytes);
     bench.history_is(5, &[(8, 0)]);
     bench.good();
-    bench.lower(0);
     bench.note("A start takes the number of the image.");
     bench.restarted();
     bench.history_is(5, &[(8, 0)]);
@@ -243,26 +249,22 @@ fn run_numbers() -> Bench {
 }
 
 fn broken_off(bench: &mut Bench) {
-    bench.note("A start while a store is awaited: the old image has the old number.");
-    enter(bench, 72);
-    bench.raise();
-    bench.said(Answer::Store);
-    bench.history_is(6, &[(8, 0)]);
-    bench.restarted();
-    bench.history_is(5, &[(8, 0)]);
+    bench.note("A start while a store is awaited: the old image has the old number, and the");
+    bench.skipped("# new one the new number.");
+    for (fate, run) in [(Fate::Old, 5), (Fate::New, 6)] {
+        enter(bench, 72);
+        bench.history_is(6, &[(8, 0)]);
+        bench.cut(fate);
+        bench.good();
+        bench.history_is(run, &[(8, 0)]);
+    }
     bench.note("Under the latch there is no store and no run.");
     enter(bench, 73);
-    bench.raise();
-    bench.timeout();
-    bench.lower(GO_ON);
-    bench.feed(&[0, 0, 0, 9, 0, 0]);
-    bench.raise();
-    bench.lower(GO_ON);
-    bench.no_settle();
-    bench.said(Answer::Finished);
-    bench.raise();
-    bench.said(Answer::Offer(Offer::Command));
-    bench.history_is(6, &[(8, 0)]);
+    stores(bench, 7, 3);
+    bench.read(9, 0, 0);
+    bench.good();
+    bench.finished([0; 4]);
+    bench.history_is(7, &[(8, 0)]);
 }
 
 fn carries(bench: &mut Bench) {
@@ -283,17 +285,15 @@ fn at_the_top(bench: &mut Bench) {
     for (block, answer) in [(75, 0), (76, 2), (77, 0)] {
         enter(bench, block);
         stores(bench, TOP_RUN, answer);
-        bench.lower(0);
         if answer != 0 {
+            read_on(bench);
             stores(bench, TOP_RUN, 0);
-            bench.lower(0);
         }
     }
     bench.restarted();
     bench.history_is(TOP_RUN, &[(8, 1)]);
     enter(bench, 78);
     stores(bench, TOP_RUN, 0);
-    bench.lower(0);
     bench.read(TABLE_IMAGE, 0, 0);
     bench.said(Answer::Finished);
     assert_eq!(
@@ -312,19 +312,18 @@ fn form_a_to_b() -> Bench {
     bench.raise();
     bench.said(Answer::Offer(Offer::Command));
     bench.lower(0);
-    let held = |bench: &Bench| bench.sectors.get(TABLE).expect("an image").to_vec();
+    let held = |bench: &Bench| bench.sectors().get(TABLE).expect("an image").to_vec();
     assert_eq!(held(&bench), of_a);
     bench.note("A block moves, and the store writes form B.");
     bench.write(17, &[0xB2; 532]);
     bench.timeout();
     bench.said_write(4929);
     bench.trial_passes();
-    bench.finished([0x04, 0x04, 0, 0]);
     assert_eq!(held(&bench), of_a);
     let stored = DraftB::new(1, &[(8, 0), (17, 2)], &[9]);
     stores(&mut bench, 1, 0);
+    bench.finished([0x04, 0x04, 0, 0]);
     assert_eq!(held(&bench), stored.bytes());
-    bench.lower(0);
     bench.note("A new start reads it; the block is at its spare, and FFFFFF shows form A.");
     bench.restarted();
     shown(&mut bench, &stored);
@@ -344,8 +343,8 @@ fn form_a_to_b() -> Bench {
     bench.timeout();
     bench.said_write(4930);
     bench.trial_passes();
-    bench.finished([0x04, 0x04, 0, 0]);
     stores(&mut bench, 2, 0);
+    bench.finished([0x04, 0x04, 0, 0]);
     bench.restarted();
     shown(
         &mut bench,

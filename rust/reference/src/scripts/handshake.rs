@@ -287,20 +287,21 @@ fn resets() -> Bench {
     bench.started(&[4928], &[17, 18]);
     bench.verify(17, &[0x61; 532]);
     bench.trial_passes();
-    bench.finished([0, 0, 0x80, 0]);
+    bench.said(Answer::Store);
+    bench.reset();
+    bench.refused(Code::Place);
+    bench.timeout();
+    bench.finished([0x05, 0, 0x80, 0]);
     bench.table_is(&[4928], &[18]);
     bench.reset();
     bench.holds(0x61);
     bench.table_is(&[4928], &[18]);
     bench.raise();
-    bench.said(Answer::Store);
+    bench.said(Answer::Offer(Offer::Command));
     bench.reset();
-    bench.refused(Code::Place);
+    bench.read(17, 0, 1);
     bench.good();
-    bench.said(Answer::Offer(Offer::Command));
-    bench.reset();
-    bench.raise();
-    bench.said(Answer::Offer(Offer::Command));
+    bench.ended([0, 0, 0x80, 0]);
 
     bench.note("A reset keeps the latch.");
     bench.reset();

@@ -61,7 +61,7 @@ fn shown(bench: &Bench, first: [u8; 4]) {
     holds(bench, first);
 }
 
-/// Reads FFFFFD, which shows this; a store before it is done.
+/// Reads FFFFFD, which shows this and stores nothing.
 #[track_caller]
 fn shows(bench: &mut Bench, first: [u8; 4]) {
     bench.read(HEALTH, 0, 1);
@@ -76,32 +76,30 @@ fn shows_first(bench: &mut Bench, first: [u8; 4]) {
     holds(bench, first);
 }
 
-/// From idle to command bytes being taken; the store on the way is answered so.
-fn stored(bench: &mut Bench, answer: u8) {
-    bench.raise();
+/// Enters this block in the bad list by a read that fails; the store is answered so.
+#[track_caller]
+fn enter(bench: &mut Bench, block: u32, answer: u8) {
+    never_read(bench, block);
     bench.said(Answer::Store);
     bench.surface(answer, &[]);
-    bench.said(Answer::Offer(Offer::Command));
-    bench.lower(GO_ON);
+    let settled = if answer == 3 { 0x10 } else { 0 };
+    bench.finished([0x05 | settled, 0, 0, 0]);
 }
 
-/// Reads FFFFFD, which shows this; the store before it is answered so.
-#[track_caller]
-fn shows_after_store(bench: &mut Bench, answer: u8, first: [u8; 4]) {
-    stored(bench, answer);
-    bench.feed(&READ);
-    bench.raise();
-    bench.lower(GO_ON);
-    shown(bench, first);
-}
-
-/// A read of this block fails, and the bad list has it.
-fn enter(bench: &mut Bench, block: u32) {
+/// Makes a read of this block of which none is good.
+fn never_read(bench: &mut Bench, block: u32) {
     bench.read(block, 0, 1);
     for _ in 0..11 {
         bench.timeout();
     }
-    bench.finished([0x05, 0, 0, 0]);
+}
+
+/// Makes a good read of a block, at whose end the store is done.
+#[track_caller]
+fn read_and_stored(bench: &mut Bench) {
+    bench.read(BLOCK, 0, 1);
+    bench.good();
+    bench.ended([0; 4]);
 }
 
 /// An access of a read is answered 3.
@@ -165,40 +163,44 @@ fn dead_spares(bench: &mut Bench) {
 }
 
 fn bad_entry(bench: &mut Bench) {
-    bench.note("A bad entry was made, and the store is answered 2, then 3, then done.");
+    bench.note("A bad entry was made, and its store is answered 2.");
     bench.started(&[], &[]);
     bench.fill(&[0x34; SECTOR_BYTES]);
-    enter(bench, 70);
-    shows_after_store(bench, 2, [32, 1, 0, 1]);
-    shows_after_store(bench, 3, [32, 1, 0, 1]);
-    shows_after_store(bench, 0, [32, 1, 0, 0]);
-    bench.note("With nothing to store it stays so.");
+    enter(bench, 70, 2);
+    for _ in 0..2 {
+        shows(bench, [32, 1, 0, 1]);
+    }
+    bench.note("A block's command makes up for it.");
+    read_and_stored(bench);
     shows(bench, [32, 1, 0, 0]);
     bench.note("The block fails again: it is listed already, so nothing is added or marked.");
-    enter(bench, 70);
+    never_read(bench, 70);
+    bench.finished([0x05, 0, 0, 0]);
     shows(bench, [32, 1, 0, 0]);
     bench.table_is(&[], &[70]);
+    bench.note("The store is done at once, and one is answered 3.");
+    enter(bench, 71, 0);
+    shows(bench, [32, 2, 0, 0]);
+    enter(bench, 72, 3);
+    shows(bench, [32, 3, 1, 1]);
 }
 
 fn same_table(bench: &mut Bench) {
     bench.note("An entry is made and removed with no store done: the table is as it was read.");
     bench.started(&[], &[]);
     bench.fill(&[0x35; SECTOR_BYTES]);
-    enter(bench, 70);
-    stored(bench, 2);
-    bench.feed(&[2, 0, 0, 70]);
-    bench.raise();
-    bench.lower(GO_ON);
-    bench.feed(&[0x36; SECTOR_BYTES]);
-    bench.raise();
-    bench.lower(GO_ON);
+    enter(bench, 70, 2);
+    bench.verify(70, &[0x36; SECTOR_BYTES]);
     bench.trial_passes();
-    bench.finished([0; 4]);
+    bench.said(Answer::Store);
+    bench.timeout();
+    bench.finished([0x05, 0, 0, 0]);
     bench.table_is(&[], &[]);
-    let held = bench.sectors.get(TABLE).expect("a table");
+    let held = bench.sectors().get(TABLE).expect("a table");
     assert_eq!(held[..], Draft::new(&[], &[]).bytes());
     bench.note("The mark shows all the same, until a store is done.");
-    shows_after_store(bench, 3, [32, 0, 0, 1]);
+    shows(bench, [32, 0, 0, 1]);
+    read_and_stored(bench);
     shows(bench, [32, 0, 0, 0]);
 }
 
@@ -209,8 +211,11 @@ fn moved(bench: &mut Bench) {
     bench.timeout();
     bench.said_write(4928);
     bench.trial_passes();
-    bench.finished([0x04, 0x04, 0x80, 0]);
-    shows_after_store(bench, 2, [31, 0, 0, 1]);
+    bench.said(Answer::Store);
+    bench.timeout();
+    bench.finished([0x05, 0x04, 0x80, 0]);
+    shows(bench, [31, 0, 0, 1]);
+    read_and_stored(bench);
     shows(bench, [31, 0, 0, 0]);
     bench.note("It moves on: its old spare and the next one are dead, the third is its own.");
     bench.verify(71, &[0x38; SECTOR_BYTES]);
@@ -219,14 +224,14 @@ fn moved(bench: &mut Bench) {
     }
     bench.said_write(4930);
     bench.trial_passes();
-    bench.finished([0x04, 0x04, 0, 0]);
-    shows_after_store(bench, 3, [29, 0, 0, 1]);
+    bench.ended([0x04, 0x04, 0, 0]);
     shows(bench, [29, 0, 0, 0]);
     bench.table_is(&[DEAD, DEAD, 71], &[]);
     bench.note("Verified where it is, a block that is in no list marks nothing.");
     bench.verify(BLOCK, &[0x39; SECTOR_BYTES]);
     bench.good();
     bench.good();
+    bench.finished([0; 4]);
     shows(bench, [29, 0, 0, 0]);
 }
 
@@ -237,20 +242,16 @@ fn latched(bench: &mut Bench) {
     latch(bench);
     shows(bench, [31, 1, 1, 0]);
     bench.note("The latch with a change that no store will take.");
-    enter(bench, 72);
+    never_read(bench, 72);
+    bench.finished([0x05, 0, 0, 0]);
     for _ in 0..2 {
         shows(bench, [31, 2, 1, 1]);
     }
     bench.note("The change came first: its store times out, and then the latch comes.");
     bench.started(&[], &[]);
     bench.fill(&[0x3B; SECTOR_BYTES]);
-    enter(bench, 72);
-    stored(bench, 2);
-    bench.feed(&[0, 0, 0, 73, 0, 1]);
-    bench.raise();
-    bench.lower(GO_ON);
-    bench.no_settle();
-    bench.finished([0x11, 0, 0, 0]);
+    enter(bench, 72, 2);
+    latch(bench);
     shows(bench, [32, 1, 1, 1]);
     bench.note("A start ends the latch and the mark.");
     bench.restarted();

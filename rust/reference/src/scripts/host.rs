@@ -55,6 +55,11 @@ const AIMS: [u32; 8] = [0, 12, 29, 30, 30, 31, 31, 32];
 /// unused, since the longest read needs them all.
 const UNUSED: u32 = 4;
 
+/// Of a store: it is not done, besides what the mood brings. Of one that is not done:
+/// it is a no settle, else a timeout. One in so many.
+const STORE_FAILS: u32 = 6;
+const STORE_NO_SETTLE: u32 = 4;
+
 /// Of a stray start while a trial is under way: it is made. One in so many.
 const BROKEN_OFF: u32 = 8;
 
@@ -157,7 +162,9 @@ impl Host {
     /// A raise, or a restart when not much can be done any more.
     fn idle(&mut self) {
         let record = &self.bench.drive.record;
-        let dull = !record.known || record.latch || record.spares.len() == 32;
+        // The latch is not dull while it fails every block's command.
+        let latched = record.latch && !record.placed;
+        let dull = !record.known || latched || record.spares.len() == 32;
         let Temper {
             restart,
             dull_restart,
@@ -170,8 +177,11 @@ impl Host {
         }
     }
 
-    /// The surface answers.
+    /// Answers for the surface, or cuts the power.
     fn answer(&mut self) {
+        if !self.longest && self.rng.one_in(self.cut_chance()) {
+            return self.cut();
+        }
         let access = self.bench.pending().expect("an access is awaited");
         let sent = self.bench.sent();
         if let Phase::Trying(_, trial) = self.bench.drive.record.phase {
@@ -179,16 +189,53 @@ impl Host {
                 self.plan_trial(trial.place);
             }
         }
-        let rare = if self.rereads().is_some() { 10 } else { 1 };
-        self.policy.no_settle = self.temper.no_settle * rare;
+        self.policy.no_settle = match self.bench.drive.record.phase {
+            Phase::Storing { .. } => STORE_NO_SETTLE,
+            _ if self.rereads().is_some() => self.temper.no_settle * 10,
+            _ => self.temper.no_settle,
+        };
         let mood = self.policy.mood;
         self.policy.mood = self.steered().unwrap_or(mood);
         let outcome = match self.near_verify() {
             Some(bytes) => Outcome::new(0, bytes),
-            None => self.policy.answer(&self.bench.sectors, access, &sent),
+            None => self.policy.answer(self.bench.sectors(), access, &sent),
         };
         self.policy.mood = mood;
         self.bench.outcome(outcome);
+    }
+
+    /// Gives the chance that the power is cut at the access that is awaited, one in so
+    /// many: more often at writes than at reads.
+    fn cut_chance(&self) -> u32 {
+        let often = match self.bench.drive.record.phase {
+            Phase::Starting { .. } | Phase::Reading(..) => 8,
+            Phase::Trying(_, trial) if trial.awaits != Awaits::Write => 120,
+            _ => 1,
+        };
+        self.temper.cut * often
+    }
+
+    /// Cuts the power and switches it on again. The sectors are as the cut leaves them,
+    /// so that the list goes on.
+    fn cut(&mut self) {
+        let access = self.bench.pending().expect("an access is awaited");
+        let sent = self.bench.sent();
+        let left = self.policy.cut(access, &sent);
+        self.longest = false;
+        self.bench.cut_leaving(left);
+        self.calm_or_not();
+        // What was under way is often looked at.
+        if self.rng.one_in(2) {
+            self.policy.mood = Mood::Fine;
+        }
+    }
+
+    /// Chooses the mood in which a start is answered.
+    fn calm_or_not(&mut self) {
+        self.policy.mood = Mood::Calm;
+        if self.rng.one_in(self.temper.bad_start) {
+            self.policy.turn();
+        }
     }
 
     /// Chooses how a trial is to go whose write is awaited.
@@ -209,6 +256,9 @@ impl Host {
                 Phase::Reading(_, reading) if reading.stage == LAST => Mood::Fine,
                 _ => Mood::Garbled,
             });
+        }
+        if matches!(phase, Phase::Storing { .. }) {
+            return self.rng.one_in(STORE_FAILS).then_some(Mood::Stuck);
         }
         let (aim, rereads) = (self.aim?, self.rereads()?);
         // Of the rereads that are left so many are still to fail.
@@ -320,28 +370,30 @@ impl Host {
         self.command = vec![vec![0, high, middle, low, 255, threshold]];
     }
 
-    /// A start, with the surface as it is or prepared in some way.
+    /// Starts with the surface as it is or prepared in some way. Where it is prepared, or
+    /// begins or ceases to lie, another list begins.
     fn restart(&mut self) {
-        let held = self.bench.sectors.get(TABLE);
+        let held = self.bench.sectors().get(TABLE);
         let whole = held.is_some_and(|held| image::read(&held).is_ok());
         match self.rng.below(16) {
-            0 => self.bench.sectors.spoil(TABLE),
+            0 => self.bench.spoil(TABLE),
             1 => {
                 let bytes = self.damaged_image();
-                self.bench.sectors.hold(TABLE, &bytes);
+                self.bench.hold(TABLE, &bytes);
             }
             2..=8 if whole => {}
             _ => {
                 let bytes = self.whole_image();
-                self.bench.sectors.hold(TABLE, &bytes);
+                self.bench.hold(TABLE, &bytes);
             }
         }
-        self.policy.lies = self.rng.below(4) < self.lies;
-        self.longest = false;
-        self.policy.mood = Mood::Calm;
-        if self.rng.one_in(self.temper.bad_start) {
-            self.policy.turn();
+        let lies = self.rng.below(4) < self.lies;
+        if lies != self.policy.lies {
+            self.bench.list_anew();
         }
+        self.policy.lies = lies;
+        self.longest = false;
+        self.calm_or_not();
         self.say(None, Call::Start);
     }
 

@@ -29,10 +29,10 @@ fn moves() -> Bench {
     bench.trial(31);
     bench.said_write(4928);
     bench.trial_passes();
-    bench.finished([0x0C, 0x04, 0x80, 1]);
+    bench.ended([0x0C, 0x04, 0x80, 1]);
     assert_eq!(bench.drive.data()[..3], [0, 17, 17]);
     bench.table_is(&[17], &[]);
-    bench.note("The next raise stores the table; the block is read at its spare.");
+    bench.note("The table was stored; the block is read at its spare.");
     bench.read(17, 0, 1);
     bench.said_read(4928);
     bench.good();
@@ -74,7 +74,7 @@ fn spares_die(bench: &mut Bench) {
     bench.table_is(&[17, DEAD, DEAD], &[]);
     bench.note("Its trial passes with 12 failures: the spare is live.");
     bench.trial(12);
-    bench.finished([0x04, 0x04, 0, 0]);
+    bench.ended([0x04, 0x04, 0, 0]);
     bench.table_is(&[17, DEAD, DEAD, 4928], &[]);
     bench.read(4928, 0, 1);
     bench.said_read(4931);
@@ -96,7 +96,7 @@ fn moves_on() -> Bench {
     bench.good_rereads(99);
     bench.table_is(&[8, 17], &[]);
     bench.good();
-    bench.finished([0x04, 0x04, 0x80, 0]);
+    bench.ended([0x04, 0x04, 0x80, 0]);
     bench.table_is(&[8, DEAD, 17], &[]);
     bench.note("By a read at its threshold whose trial fails.");
     bench.read(17, 0, 0);
@@ -107,7 +107,7 @@ fn moves_on() -> Bench {
     bench.trial_fails();
     bench.said_write(4931);
     bench.trial_passes();
-    bench.finished([0x04, 0x04, 0, 0]);
+    bench.ended([0x04, 0x04, 0, 0]);
     bench.table_is(&[8, DEAD, DEAD, 17], &[]);
     bench.holds(0x66);
     listed_and_back(&mut bench);
@@ -121,14 +121,14 @@ fn listed_and_back(bench: &mut Bench) {
     for _ in 0..11 {
         bench.timeout();
     }
-    bench.finished([0x05, 0, 0, 0]);
+    bench.ended([0x05, 0, 0, 0]);
     bench.table_is(&[8, DEAD, DEAD, 17], &[8]);
     bench.write(8, &[0x6B; 532]);
     bench.said_write(4928);
     bench.trial_fails();
     bench.said_write(4932);
     bench.trial_passes();
-    bench.finished([0x04, 0x04, 0, 0]);
+    bench.ended([0x04, 0x04, 0, 0]);
     bench.table_is(&[DEAD, DEAD, DEAD, 17, 8], &[]);
     bench.note("A listed moved block that is read, and whose trial passes where it is.");
     bench.started(&[8, 9], &[9]);
@@ -139,7 +139,7 @@ fn listed_and_back(bench: &mut Bench) {
     bench.verify(9, &[0x6C; 532]);
     bench.said_write(4929);
     bench.trial(1);
-    bench.finished([0x04, 0, 0, 0]);
+    bench.ended([0x04, 0, 0, 0]);
     bench.table_is(&[8, 9], &[]);
     bench.read(0xFF_FFFF, 0, 0);
     bench.image();
@@ -154,7 +154,7 @@ fn write_timeouts() -> Bench {
     bench.timeout();
     bench.said_write(4928);
     bench.trial_passes();
-    bench.finished([0x04, 0x04, 0x80, 0]);
+    bench.ended([0x04, 0x04, 0x80, 0]);
     bench.table_is(&[17], &[20, 21]);
     bench.read(17, 0, 1);
     bench.said_read(4928);
@@ -170,7 +170,7 @@ fn write_timeouts() -> Bench {
         bench.crc(0x83);
     }
     bench.good_rereads(70);
-    bench.finished([0x0C, 0x04, 0, 0]);
+    bench.ended([0x0C, 0x04, 0, 0]);
     bench.table_is(&[DEAD, 17], &[20, 21]);
     verified_writes(&mut bench);
     writes_of_trials(&mut bench);
@@ -186,7 +186,7 @@ fn verified_writes(bench: &mut Bench) {
     bench.timeout();
     bench.said_write(4931);
     bench.trial_passes();
-    bench.finished([0x04, 0x04, 0, 0]);
+    bench.ended([0x04, 0x04, 0, 0]);
     bench.table_is(&[DEAD, 17, DEAD, 18], &[20, 21]);
 }
 
@@ -197,14 +197,14 @@ fn writes_of_trials(bench: &mut Bench) {
     bench.timeout();
     bench.said_write(4932);
     bench.trial_passes();
-    bench.finished([0x04, 0x04, 0, 0]);
+    bench.ended([0x04, 0x04, 0, 0]);
     bench.table_is(&[DEAD, 17, DEAD, 18, 20], &[21]);
     bench.verify(21, &[0x86; 532]);
     bench.said_write(21);
     bench.timeout();
     bench.said_write(4933);
     bench.trial_passes();
-    bench.finished([0x04, 0x04, 0, 0]);
+    bench.ended([0x04, 0x04, 0, 0]);
     bench.table_is(&[DEAD, 17, DEAD, 18, 20, 21], &[]);
     bench.note("Of a write/verify whose first verify failed, and of a read.");
     bench.verify(22, &[0x87; 532]);
@@ -235,7 +235,7 @@ fn last_spares() -> Bench {
     bench.timeout();
     bench.said_write(4958);
     bench.trial_passes();
-    bench.finished([0x04, 0x04, 0x80, 0]);
+    bench.ended([0x04, 0x04, 0x80, 0]);
     spares.extend([DEAD, 41]);
     bench.table_is(&spares, &[]);
     bench.note("The last spare takes a moved block.");
@@ -244,7 +244,7 @@ fn last_spares() -> Bench {
     bench.timeout();
     bench.said_write(4959);
     bench.trial_passes();
-    bench.finished([0x04, 0x04, 0, 0]);
+    bench.ended([0x04, 0x04, 0, 0]);
     spares[3] = DEAD;
     spares.push(40);
     bench.table_is(&spares, &[]);
@@ -336,7 +336,7 @@ fn last_two_die(bench: &mut Bench) {
     bench.timeout();
     bench.said_write(4959);
     bench.trial(31);
-    bench.finished([0x05, 0x40, 0x80, 0]);
+    bench.ended([0x05, 0x40, 0x80, 0]);
     spares.extend([DEAD; 2]);
     bench.table_is(&spares, &[50]);
     bench.read(50, 0, 1);
@@ -356,7 +356,7 @@ fn last_one_dies(bench: &mut Bench) {
         bench.crc(0x79);
     }
     bench.good_rereads(69);
-    bench.finished([0x0D, 0x40, 0x80, 0]);
+    bench.ended([0x0D, 0x40, 0x80, 0]);
     bench.table_is(&[DEAD; 32], &[]);
     bench.note("And by the timeout of its write.");
     bench.started(&[DEAD; 31], &[]);
@@ -364,7 +364,7 @@ fn last_one_dies(bench: &mut Bench) {
     bench.timeout();
     bench.said_write(4959);
     bench.timeout();
-    bench.finished([0x05, 0x40, 0x80, 0]);
+    bench.ended([0x05, 0x40, 0x80, 0]);
     bench.table_is(&[DEAD; 32], &[]);
     bench.read(51, 0, 1);
     bench.said_read(51);

@@ -44,11 +44,11 @@ fn retries() -> Bench {
     bench.finished([0x08, 0, 0, 1]);
     bench.note("R 0, eleven timeouts: failed.");
     read(&mut bench, 18, 0, 1, "ttttttttttt");
-    bench.finished([0x05, 0, 0, 0]);
+    bench.ended([0x05, 0, 0, 0]);
     bench.table_is(&[], &[18]);
     bench.note("R 0, CRC, nine timeouts, nine CRC: failed; the last CRC bytes stay.");
     read(&mut bench, 19, 0, 1, "ctttttttttccccccccc");
-    bench.finished([0x0D, 0, 0, 0]);
+    bench.ended([0x0D, 0, 0, 0]);
     bench.table_is(&[], &[18, 19]);
     bench.holds(0x80 + 18);
 
@@ -99,14 +99,14 @@ fn retries() -> Bench {
     read(&mut bench, 23, 0, 1, "ttttttttttccccccccg");
     bench.finished([0x0C, 0, 0, 0]);
     read(&mut bench, 24, 0, 1, "ttttttttttccccccccc");
-    bench.finished([0x0D, 0, 0, 0]);
+    bench.ended([0x0D, 0, 0, 0]);
     read(&mut bench, 25, 0, 1, "ttttttttttcccccccct");
-    bench.finished([0x0D, 0, 0, 0]);
+    bench.ended([0x0D, 0, 0, 0]);
     bench.note("82 spent and a timeout: past 90. 81 and a timeout: 90.");
     read(&mut bench, 26, 0, 1, "tttttttttcccccccccct");
-    bench.finished([0x0D, 0, 0, 0]);
+    bench.ended([0x0D, 0, 0, 0]);
     read(&mut bench, 27, 0, 1, "tcccccccccttttttttt");
-    bench.finished([0x0D, 0, 0, 0]);
+    bench.ended([0x0D, 0, 0, 0]);
     bench.note("80 spent, a timeout makes 89, a good one ends it.");
     read(&mut bench, 28, 0, 1, "tcccccccctttttttttg");
     bench.finished([0x0C, 0, 0, 0]);
@@ -115,11 +115,11 @@ fn retries() -> Bench {
     bench.finished([0x0C, 0, 0, 12]);
     bench.note("All fail, after rereads: E is R.");
     read(&mut bench, 30, 3, 1, "cttctttttttttt");
-    bench.finished([0x0D, 0, 0, 3]);
+    bench.ended([0x0D, 0, 0, 3]);
     bench.holds(0x83);
     bench.note("All time out: the data part is as it was.");
     read(&mut bench, 31, 1, 1, "tttttttttttt");
-    bench.finished([0x05, 0, 0, 1]);
+    bench.ended([0x05, 0, 0, 1]);
     bench.holds(0x83);
     bench.table_is(&[], &[18, 19, 24, 25, 26, 27, 30, 31]);
     bench.note("A listed bad block that reads good stays listed, unless it was rewritten.");
@@ -131,7 +131,7 @@ fn retries() -> Bench {
     read(&mut bench, 24, 1, 1, "tcg");
     bench.said_write(24);
     bench.trial_passes();
-    bench.finished([0x0C, 0, 0, 1]);
+    bench.ended([0x0C, 0, 0, 1]);
     bench.table_is(&[], &[18, 19, 25, 26, 27, 30, 31]);
 
     bench.note("A surface that breaks its rules: good rereads with other bytes. The first stay.");
@@ -151,8 +151,9 @@ fn retries() -> Bench {
 }
 
 fn longest_read() -> Bench {
-    let mut bench =
-        Bench::new("The longest read: 1 + 255 + 90 reads, then 33 trials of 101 accesses each.");
+    let mut bench = Bench::new(
+        "The longest read: 1 + 255 + 90 reads, 33 trials of 101 accesses each, a store.",
+    );
     bench.started(&[], &[]);
     bench.read(17, 255, 255);
     for _ in 0..1 + 255 + 89 {
@@ -165,7 +166,7 @@ fn longest_read() -> Bench {
         bench.said_write(sector);
         bench.trial_fails();
     }
-    bench.finished([0x0D, 0x40, 0x80, 255]);
+    bench.ended([0x0D, 0x40, 0x80, 255]);
     assert_eq!(bench.accesses(), MOST_ACCESSES);
     assert_eq!(bench.drive.data()[..3], [0, 17, 17]);
     bench.table_is(&[DEAD; 32], &[]);
@@ -198,7 +199,6 @@ fn many_rereads() -> Bench {
 /// A read that fails for good.
 fn fails(bench: &mut Bench, block: u32) {
     read(bench, block, 0, 1, "ttttttttttt");
-    bench.said(Answer::Finished);
 }
 
 fn bad_list() -> Bench {
@@ -207,9 +207,9 @@ fn bad_list() -> Bench {
     let mut bads: Vec<u32> = (512..610).collect();
     bench.started(&[600, 7], &bads);
     fails(&mut bench, 17);
-    bench.finished([0x05, 0, 0x80, 0]);
+    bench.ended([0x05, 0, 0x80, 0]);
     fails(&mut bench, 9727);
-    bench.finished([0x05, 0, 0, 0]);
+    bench.ended([0x05, 0, 0, 0]);
     bads.extend([17, 9727]);
     bench.table_is(&[600, 7], &bads);
     bench.note("100 are held: status 2 bit 4, and no entry.");
@@ -228,11 +228,11 @@ fn bad_list() -> Bench {
     bench.verify(550, &[0x37; 532]);
     bench.said_write(550);
     bench.trial_passes();
-    bench.finished([0; 4]);
+    bench.ended([0; 4]);
     bads.retain(|&bad| bad != 550);
     bench.table_is(&[600, 7], &bads);
     fails(&mut bench, 19);
-    bench.finished([0x05, 0, 0, 0]);
+    bench.ended([0x05, 0, 0, 0]);
     bads.push(19);
     bench.table_is(&[600, 7], &bads);
     fails(&mut bench, 20);
@@ -244,7 +244,7 @@ fn bad_list() -> Bench {
     bench.good();
     bench.said_read(19);
     bench.good_rereads(100);
-    bench.finished([0; 4]);
+    bench.ended([0; 4]);
     bads.pop();
     bench.table_is(&[600, 7], &bads);
     bench.note("Not listed any more: one write.");
@@ -254,10 +254,12 @@ fn bad_list() -> Bench {
     bench.note("The first goes; a moved block that is listed; one that moves.");
     bench.write(512, &[0x3A; 532]);
     bench.trial_passes();
+    bench.stored();
     bads.remove(0);
     bench.write(600, &[0x3B; 532]);
     bench.said_write(4928);
     bench.trial_passes();
+    bench.stored();
     bads.retain(|&bad| bad != 600);
     bench.table_is(&[600, 7], &bads);
     bench.write(513, &[0x3C; 532]);
@@ -265,7 +267,7 @@ fn bad_list() -> Bench {
     bench.timeout();
     bench.said_write(4930);
     bench.trial_passes();
-    bench.finished([0x04, 0x04, 0, 0]);
+    bench.ended([0x04, 0x04, 0, 0]);
     bads.remove(0);
     bench.table_is(&[600, 7, 513], &bads);
     bench.note("A write to a listed block that fails in every place stays listed.");

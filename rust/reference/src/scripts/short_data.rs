@@ -211,7 +211,7 @@ fn moved(bench: &mut Bench) {
     bench.timeout();
     bench.said_write(4928);
     bench.trial_passes();
-    bench.finished([0x04, 0x04, 0, 0]);
+    bench.ended([0x04, 0x04, 0, 0]);
     bench.read(19, 0, 1);
     bench.said_read(4928);
     bench.good();
@@ -270,6 +270,6 @@ fn verified(bench: &mut Bench) {
     bench.lower(GO_ON);
     bench.said_write(18);
     bench.trial_passes();
-    bench.finished([0; 4]);
+    bench.ended([0; 4]);
     bench.table_is(&[], &[]);
 }

@@ -91,7 +91,7 @@ fn damaged_images() -> Bench {
 fn whole_images() -> Bench {
     let mut bench = Bench::new("Whole images: what was read is written again, and gives sectors.");
     for image in cases(Expect::Table, 3, 260) {
-        bench.sectors.hold(TABLE, &image);
+        bench.hold(TABLE, &image);
         bench.restarted();
         bench.image();
         assert_eq!(bench.drive.record.table(), form_a::read(&image));

@@ -1,6 +1,7 @@
-//! Stores: when a raise asks for one, and what its answers do; image calls.
+//! Stores at the end of commands (document 02, request 7): which commands ask for
+//! one, and what its answers do; image calls.
 
-use super::bench::Bench;
+use super::bench::{Bench, HEALTH, INVALID, RAM, TABLE_IMAGE, TOO_MUCH};
 use super::ways;
 use super::Stored;
 use crate::controller::{Answer, Code, Offer, GO_ON};
@@ -13,76 +14,48 @@ pub fn all() -> Vec<Stored> {
     ]
 }
 
-/// A write/verify of a bad block whose trial passes.
+/// Makes a write/verify of a bad block whose trial passes, up to its store.
 fn passed(bench: &mut Bench, block: u32) {
     bench.verify(block, &[0x51; 532]);
     bench.trial_passes();
-    bench.said(Answer::Finished);
+    bench.said(Answer::Store);
 }
 
-/// A read that fails and enters its block in the bad list.
-fn enter(bench: &mut Bench, block: u32) {
+/// Makes a read that fails, up to the store or the finish.
+fn never_read(bench: &mut Bench, block: u32) {
     bench.read(block, 0, 1);
     for _ in 0..11 {
         bench.timeout();
     }
-    bench.said(Answer::Finished);
 }
 
 fn stores() -> Bench {
-    let mut bench = Bench::new("The store goes first at a raise in idle, until it is done.");
+    let mut bench = Bench::new("The store at a command's end, until it is done.");
     bench.started(&[], &[1, 2, 3, 4, 5]);
+    bench.note("Verified in place, not in the bad list: no mark, no store.");
     bench.verify(9, &[0x51; 532]);
     bench.good();
     bench.good();
-    bench.said(Answer::Finished);
-    bench.note("Verified in place, not in the bad list: no mark, no store.");
-    bench.raise();
-    bench.said(Answer::Offer(Offer::Command));
-    bench.lower(0);
+    bench.finished([0, 0, 0x80, 0]);
+    bench.note("Removed from the bad list: a store that fails leaves the mark, moves nothing.");
     passed(&mut bench, 3);
-    bench.note(
-        "Removed from the bad list: stores that fail leave the mark. A timeout moves nothing.",
-    );
-    for answer in [2, 3, 2] {
-        bench.raise();
-        bench.said(Answer::Store);
-        bench.image();
-        bench.surface(answer, &[]);
-        bench.said(Answer::Offer(Offer::Command));
-        bench.table_is(&[], &[1, 2, 4, 5]);
-        bench.lower(0);
-        bench.finished([0x80, 0, 0, 0]);
-    }
-    bench.note("Answer 3 to a store made no latch.");
-    bench.raise();
+    bench.image();
     bench.timeout();
-    bench.lower(GO_ON);
-    bench.feed(&[1, 0, 0, 9]);
+    bench.finished([0x05, 0, 0, 0]);
+    bench.table_is(&[], &[1, 2, 4, 5]);
+    raises(&mut bench);
+    made_up(&mut bench);
+    marks(&mut bench);
+    bench
+}
+
+fn raises(bench: &mut Bench) {
+    bench.note("A raise offers 01 at once, in idle and after bytes that are dropped.");
     bench.raise();
-    bench.lower(GO_ON);
-    bench.feed(&[0x52; 532]);
-    bench.raise();
-    bench.lower(GO_ON);
-    bench.said_write(9);
-    bench.good();
-    bench.finished([0; 4]);
-    bench.note("Done: no store at the next raise, and a start finds the table.");
-    bench.raise();
-    bench.said(Answer::Store);
-    bench.good();
     bench.said(Answer::Offer(Offer::Command));
     bench.lower(0);
-    bench.raise();
-    bench.said(Answer::Offer(Offer::Command));
-    bench.restarted();
-    bench.table_is(&[], &[1, 2, 4, 5]);
-
-    bench.note("A raise that drops command bytes makes no store.");
-    enter(&mut bench, 6);
-    bench.raise();
-    bench.timeout();
-    bench.lower(GO_ON);
+    bench.finished([0x80, 0, 0, 0]);
+    bench.ready();
     bench.feed(&[0, 0, 0]);
     bench.raise();
     bench.said(Answer::Offer(Offer::Command));
@@ -91,61 +64,84 @@ fn stores() -> Bench {
     bench.raise();
     bench.said(Answer::Offer(Offer::Command));
     bench.reset();
-    bench.raise();
-    bench.said(Answer::Store);
-    bench.good();
-    bench.lower(0);
+    bench.note("Numbers of no block store nothing.");
+    for (number, status) in [
+        (RAM, [0, 0, 0x80, 0]),
+        (TABLE_IMAGE, [0; 4]),
+        (HEALTH, [0; 4]),
+        (9728, INVALID),
+        (0xFF_FFFC, INVALID),
+    ] {
+        bench.read(number, 0, 0);
+        bench.finished(status);
+    }
+    for opcode in [1, 2] {
+        bench.send(opcode, RAM, &[&[0x52; 532]]);
+        bench.finished([0; 4]);
+        bench.send(opcode, RAM, &[&[0x52; 533]]);
+        bench.finished(TOO_MUCH);
+        bench.send(opcode, TABLE_IMAGE, &[&[0x52; 532]]);
+        bench.finished(INVALID);
+        bench.send(opcode, 9728, &[&[0x52; 533]]);
+        bench.finished(TOO_MUCH);
+    }
+}
 
-    bench.note("A bad entry, a move and a dead spare each mark the table.");
-    enter(&mut bench, 70);
-    bench.finished([0x05, 0, 0x80, 0]);
-    bench.raise();
-    bench.said(Answer::Store);
+fn made_up(bench: &mut Bench) {
+    bench.note("A plain write makes up for it; its own data is good only with the store done.");
+    for answer in [2, 0] {
+        bench.write(9, &[0x52; 532]);
+        bench.said_write(9);
+        bench.good();
+        bench.said(Answer::Store);
+        bench.surface(answer, &[]);
+        let failed = if answer == 0 { 0 } else { 0x05 };
+        bench.finished([failed, 0, 0, 0]);
+    }
+    bench.note("Done: no store at the next end, and a start finds the table.");
+    bench.write(9, &[0x53; 532]);
     bench.good();
-    bench.lower(0);
+    bench.finished([0; 4]);
+    bench.restarted();
+    bench.table_is(&[], &[1, 2, 4, 5]);
+}
+
+fn marks(bench: &mut Bench) {
+    bench.note("A bad entry, a move and dead spares each mark the table.");
+    never_read(bench, 70);
+    bench.ended([0x05, 0, 0x80, 0]);
     bench.verify(71, &[0x53; 532]);
     bench.timeout();
     bench.said_write(4928);
     bench.trial_passes();
-    bench.finished([0x04, 0x04, 0, 0]);
-    bench.raise();
-    bench.said(Answer::Store);
-    bench.good();
-    bench.lower(0);
-    bench.table_is(&[71], &[1, 2, 4, 5, 6, 70]);
+    bench.ended([0x04, 0x04, 0, 0]);
+    bench.table_is(&[71], &[1, 2, 4, 5, 70]);
     bench.verify(72, &[0x54; 532]);
     bench.timeout();
     bench.no_settle();
+    bench.note("A command that latched stores nothing, and none does under the latch.");
     bench.finished([0x15, 0, 0, 0]);
-    bench.table_is(&[71, DEAD], &[1, 2, 4, 5, 6, 70]);
-    bench.note("Under the latch there is no store, whatever is entered.");
-    bench.raise();
-    bench.said(Answer::Offer(Offer::Command));
-    bench.lower(0);
-    enter(&mut bench, 73);
-    bench.table_is(&[71, DEAD], &[1, 2, 4, 5, 6, 70, 73]);
-    bench.raise();
-    bench.said(Answer::Offer(Offer::Command));
-    bench.lower(0);
-    bench.note("A bad block that is listed already marks nothing, nor does a full list.");
+    bench.table_is(&[71, DEAD], &[1, 2, 4, 5, 70]);
+    never_read(bench, 73);
+    bench.finished([0x05, 0, 0, 0]);
+    bench.table_is(&[71, DEAD], &[1, 2, 4, 5, 70, 73]);
+    bench.note("A bad block that is listed already marks nothing.");
     bench.restarted();
-    bench.table_is(&[71], &[1, 2, 4, 5, 6, 70]);
-    enter(&mut bench, 70);
-    bench.raise();
-    bench.said(Answer::Offer(Offer::Command));
+    bench.table_is(&[71], &[1, 2, 4, 5, 70]);
+    never_read(bench, 70);
+    bench.finished([0x05, 0, 0x80, 0]);
     bench.note("A store answered wrongly is still awaited.");
-    ways::to_store(&mut bench);
+    ways::to_store(bench);
     bench.said(Answer::Store);
     bench.surface(1, &[0; 532]);
     bench.refused(Code::Answer);
     bench.surface(0, &[0; 532]);
     bench.refused(Code::Bytes);
     bench.good();
-    bench.said(Answer::Offer(Offer::Command));
+    bench.finished([0x05, 0, 0x80, 0]);
     bench.note("The store's bytes are the table's, not the buffer's.");
     bench.restarted();
     bench.table_is(&[], &[ways::BLOCK]);
-    bench
 }
 
 fn image_calls() -> Bench {
@@ -174,25 +170,28 @@ fn image_calls() -> Bench {
     bench.good_rereads(99);
     bench.table_is(&[4, DEAD, DEAD], &[17, 18]);
     bench.good();
+    bench.said(Answer::Store);
+    bench.table_is(&[4, DEAD, DEAD, 17], &[18]);
+    bench.good();
     bench.finished([0x04, 0x04, 0x80, 0]);
     bench.table_is(&[4, DEAD, DEAD, 17], &[18]);
-    bench.raise();
-    bench.said(Answer::Store);
-    bench.image();
-    bench.good();
-    bench.image();
+    bad_entry(&mut bench);
+    bench
+}
+
+fn bad_entry(bench: &mut Bench) {
     bench.note("A bad entry, and the same bytes in the data part.");
-    bench.lower(0);
     bench.read(4, 0, 1);
     bench.said_read(4928);
-    for _ in 0..10 {
-        bench.timeout();
+    for _ in 0..11 {
         bench.image();
+        bench.timeout();
     }
+    bench.said(Answer::Store);
+    bench.image();
     bench.timeout();
     bench.finished([0x05, 0, 0, 0]);
     bench.image();
-    bench.read(0xFF_FFFF, 0, 0);
+    bench.read(TABLE_IMAGE, 0, 0);
     bench.table_is(&[4, DEAD, DEAD, 17], &[18, 4]);
-    bench
 }

@@ -131,27 +131,26 @@ fn over_an_older_image(bench: &mut Bench) {
     for _ in 0..11 {
         bench.timeout();
     }
-    bench.finished([0x05, 0, 0, 0]);
     assert_eq!(bench.drive.data(), Draft::new(&[5], &[6]).bytes());
-    bench.note("The store before it times out; the read shows the change all the same.");
-    bench.raise();
+    bench.note("Its store times out; a read of FFFFFF shows the change all the same.");
     bench.said(Answer::Store);
     bench.timeout();
-    bench.said(Answer::Offer(Offer::Command));
-    bench.lower(GO_ON);
-    bench.feed(&[0, 0xFF, 0xFF, 0xFF, 0, 0]);
-    bench.raise();
-    bench.lower(GO_ON);
+    bench.finished([0x05, 0, 0, 0]);
+    assert_eq!(bench.drive.data(), Draft::new(&[5], &[6]).bytes());
+    bench.read(TABLE_IMAGE, 0, 0);
     bench.finished([0; 4]);
     shown(bench, &Draft::new(&[5], &[6, 70]));
-    bench.note("The store is done now, and the image is the same.");
+    bench.note("The store is done at the end of a block's read, and the image is the same.");
+    bench.read(BLOCK, 0, 1);
+    bench.good();
+    bench.ended([0; 4]);
     bench.read(TABLE_IMAGE, 0, 0);
     bench.finished([0; 4]);
     shown(bench, &Draft::new(&[5], &[6, 70]));
     bench.note("A block in the list is written: a shorter image over the block's bytes.");
     bench.write(6, &[0x63; SECTOR_BYTES]);
     bench.trial_passes();
-    bench.finished([0; 4]);
+    bench.ended([0; 4]);
     bench.read(TABLE_IMAGE, 0, 0);
     shown(bench, &Draft::new(&[5], &[70]));
 }

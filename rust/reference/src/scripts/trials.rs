@@ -92,7 +92,7 @@ fn at_the_bound(kind: &Kind) -> Bench {
     bench.good();
     kind.fail(&mut bench, 30);
     bench.good_rereads(70);
-    bench.finished([kind.bit, 0, 0x80, 0]);
+    bench.ended([kind.bit, 0, 0x80, 0]);
     bench.table_is(&[], &[18]);
     bench.note("The present sector fails with 31, and so does a spare. The next passes with 30.");
     bench.write(18, &DATA);
@@ -110,7 +110,7 @@ fn at_the_bound(kind: &Kind) -> Bench {
     bench.good();
     kind.fail(&mut bench, 30);
     bench.good_rereads(70);
-    bench.finished([kind.bit, 0x04, 0, 0]);
+    bench.ended([kind.bit, 0x04, 0, 0]);
     bench.table_is(&[DEAD, 18], &[]);
     bench
 }
@@ -144,7 +144,7 @@ fn of_reads() -> Bench {
     bench.note("A listed bad block leaves the list.");
     read_to_trial(&mut bench, 19, 19);
     bench.trial_passes();
-    bench.finished([0x04, 0, 0, 0]);
+    bench.ended([0x04, 0, 0, 0]);
     bench.table_is(&[], &[]);
     failed_reads(&mut bench);
     bench
@@ -163,7 +163,7 @@ fn failed_reads(bench: &mut Bench) {
     }
     bench.said_write(4928);
     bench.trial_passes();
-    bench.finished([0x0C, 0x04, 0, 0]);
+    bench.ended([0x0C, 0x04, 0, 0]);
     bench.table_is(&[18], &[]);
     assert_eq!(bench.drive.data()[..3], [0, 18, 18]);
     bench.note("The write spoils the sector: no reread is good, and the spare has the bytes.");
@@ -174,7 +174,7 @@ fn failed_reads(bench: &mut Bench) {
     }
     bench.said_write(4929);
     bench.trial_passes();
-    bench.finished([0x04, 0x04, 0, 0]);
+    bench.ended([0x04, 0x04, 0, 0]);
     bench.read(20, 0, 1);
     bench.said_read(4929);
     bench.good();
@@ -215,7 +215,7 @@ fn of_verifies() -> Bench {
     bench.trial(31);
     bench.said_write(4928);
     bench.trial(29);
-    bench.finished([0x0C, 0x04, 0, 0]);
+    bench.ended([0x0C, 0x04, 0, 0]);
     bench.table_is(&[9727], &[]);
     bench
 }
@@ -264,6 +264,7 @@ fn of_bad_blocks() -> Bench {
         bench.send(opcode, block, &[&DATA]);
         bench.said_write(sector);
         bench.trial(opcode.into());
+        bench.stored();
         bench.said(Answer::Finished);
         assert_eq!(bench.drive.status()[..2], [0x04, 0]);
     }
@@ -283,14 +284,14 @@ fn of_bad_blocks() -> Bench {
     bench.said_write(4929);
     bench.table_is(&[24], &[21, 23]);
     bench.trial_passes();
-    bench.finished([0x04, 0x04, 0, 0]);
+    bench.ended([0x04, 0x04, 0, 0]);
     bench.table_is(&[24, 21], &[23]);
     bench.verify(23, &DATA);
     bench.said_write(23);
     bench.trial_fails();
     bench.said_write(4930);
     bench.trial_passes();
-    bench.finished([0x04, 0x04, 0, 0]);
+    bench.ended([0x04, 0x04, 0, 0]);
     bench.table_is(&[24, 21, 23], &[]);
     bench
 }

@@ -102,6 +102,10 @@ fn near_trial(bench: &mut Bench, nears: &[(String, Bytes)], failures: usize, dat
     }
     match failures {
         30 => {
+            // A block that was in the bad list leaves it.
+            if bench.pending().is_some() {
+                bench.stored();
+            }
             bench.said(Answer::Finished);
             assert_eq!(bench.drive.status()[..2], [0x0C, 0]);
         }

@@ -137,7 +137,6 @@ fn storing(bench: &mut Bench, spares: &[u32]) {
     for _ in 0..11 {
         bench.timeout();
     }
-    bench.raise();
 }
 
 fn first_read(bench: &mut Bench, spares: &[u32]) {

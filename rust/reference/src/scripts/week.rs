@@ -4,6 +4,7 @@ use super::bench::Bench;
 use super::Stored;
 use crate::controller::{Answer, Offer};
 use crate::image::DEAD;
+use crate::surface::Fate;
 
 pub fn all() -> Vec<Stored> {
     vec![Stored::new("week", week())]
@@ -68,14 +69,16 @@ fn week() -> Bench {
     bench.said_read(4928);
     bench.crc(0x60);
     bench.good_rereads(39);
-    bench.finished([0x0C, 0x04, 0, 4]);
     assert_eq!(bench.drive.data(), layout(17, b'M'));
-
-    bench.note("Thursday: the host raises CMD once more and the table goes to disk.");
-    bench.raise();
+    bench.note("The table goes to disk before the command is finished.");
     bench.said(Answer::Store);
     bench.image();
     bench.good();
+    bench.finished([0x0C, 0x04, 0, 4]);
+    assert_eq!(bench.drive.data(), layout(17, b'M'));
+
+    bench.note("Thursday: the host raises CMD once more; there is nothing left to store.");
+    bench.raise();
     bench.said(Answer::Offer(Offer::Command));
     bench.lower(0);
     bench.finished([0x80, 0, 0, 0]);
@@ -107,10 +110,33 @@ fn week() -> Bench {
     bench.timeout();
     bench.said_write(4929);
     bench.trial_passes();
-    bench.finished([0x04, 0x04, 0, 0]);
+    bench.ended([0x04, 0x04, 0, 0]);
     bench.table_is(&[DEAD, 17], &[]);
     read_clean(&mut bench, 17, 4929, b'S');
+    switched_off(&mut bench);
     bench
+}
+
+fn switched_off(bench: &mut Bench) {
+    bench.note("The power is cut while a store is awaited: the start finds the table before it.");
+    bench.read(16, 0, 3);
+    for _ in 0..11 {
+        bench.timeout();
+    }
+    bench.said(Answer::Store);
+    bench.image();
+    bench.cut(Fate::Old);
+    bench.good();
+    bench.table_is(&[DEAD, 17], &[]);
+    bench.note("It is cut while a write is awaited, which left its bytes.");
+    bench.write(18, &layout(18, b'S'));
+    bench.said_write(18);
+    bench.cut(Fate::New);
+    bench.good();
+    bench.read(18, 10, 3);
+    bench.good();
+    bench.finished([0, 0, 0x80, 0]);
+    assert_eq!(bench.drive.data(), layout(18, b'S'));
 }
 
 fn read_clean(bench: &mut Bench, block: u32, sector: u32, day: u8) {

@@ -92,11 +92,13 @@ pub fn timeline(title: &str, moments: &[Moment]) -> String {
     canvas.finish(title, end + 20)
 }
 
-/// "162 commands (1 moved a block, 0 failed), 223 surface accesses (9 errors)".
-/// Commands count when they finished, accesses whatever asked for them.
+/// "162 commands (1 moved a block, 0 failed), 223 surface accesses (9 errors)", and power
+/// cuts, if there are any. Commands count when they finished, accesses when they were
+/// answered, whatever asked for them.
 fn summary(moments: &[Moment]) -> String {
     let count = |wanted: fn(Outcome) -> bool| moments.iter().filter(|m| wanted(m.outcome)).count();
-    let commands = count(|outcome| !matches!(outcome, Outcome::Refused | Outcome::None));
+    let finished = |outcome| !matches!(outcome, Outcome::Refused | Outcome::Cut | Outcome::None);
+    let commands = count(finished);
     let moved = count(|outcome| matches!(outcome, Outcome::Spared { .. }));
     let failed = count(|outcome| outcome == Outcome::Failed);
     let marks = || moments.iter().flat_map(|moment| &moment.accesses);
@@ -104,7 +106,11 @@ fn summary(moments: &[Moment]) -> String {
     let commands = counted(commands, "command");
     let accesses = counted(accesses_of(marks()), "surface access");
     let errors = counted(errors, "error");
-    format!("{commands} ({moved} moved a block, {failed} failed), {accesses} ({errors})")
+    let cuts = match count(|outcome| outcome == Outcome::Cut) {
+        0 => String::new(),
+        cuts => format!(", {}", counted(cuts, "power cut")),
+    };
+    format!("{commands} ({moved} moved a block, {failed} failed), {accesses} ({errors}){cuts}")
 }
 
 /// How many accesses the marks stand for.
@@ -258,6 +264,9 @@ impl Card {
         let marks = &self.marks;
         let all: i32 = marks.iter().map(|mark| mark.room()).sum();
         let ones = |marks: &[Mark]| marks.iter().copied().map(Piece::One).collect();
+        if marks.is_empty() && self.outcome == Outcome::Cut {
+            return vec![];
+        }
         if marks.is_empty() {
             return vec![Piece::Words("no access".to_string())];
         }
@@ -397,7 +406,7 @@ mod tests {
         };
         let rereads = |failed| Rereads { all: 100, failed };
         let long = [CrcError, Read, CrcError, Timeout, Read, Write, rereads(31)];
-        let moved = [&long[..], &[Write, rereads(0)]].concat();
+        let moved = [&long[..], &[Write, rereads(0), Store]].concat();
         [
             vec![heading("Monday: the host writes the file")],
             each("write", 0..40, &[Write]),
@@ -410,8 +419,8 @@ mod tests {
             )],
             vec![heading("Wednesday: the block moves")],
             vec![moment("read 17", &moved, spared)],
-            vec![heading("Thursday: the table goes to disk")],
-            vec![moment("raise", &[Store], Outcome::None)],
+            vec![heading("Thursday: nothing is left to store")],
+            vec![moment("raise", &[], Outcome::None)],
             vec![heading("Friday: written with verify")],
             each("write/verify", 0..40, &[Write, Read]),
             vec![heading("Saturday: it is cut")],
@@ -426,8 +435,8 @@ mod tests {
         for words in [
             "40 writes, blocks 0–39: 40 accesses, 0 errors, good",
             "read 17: 3 accesses, 2 errors, good",
-            "read 17: 207 accesses, 34 errors, spared: 17 → sector 4928, timeout",
-            "raise: 1 access, 0 errors",
+            "read 17: 208 accesses, 34 errors, spared: 17 → sector 4928, timeout",
+            "raise: 0 accesses, 0 errors",
             "40 write/verifies, blocks 0–39: 80 accesses, 0 errors, good",
         ] {
             assert!(svg.contains(&format!("<title>{words}</title>")), "{words}");
@@ -503,8 +512,8 @@ mod tests {
             labels(&[health.clone(), health.clone()]),
             ["health, 2 times"]
         );
-        let stored = moment("health", &[Store], Outcome::Good);
-        assert_eq!(labels(&[stored, health]), ["health", "health"]);
+        let failed = moment("health", &[], Outcome::Failed);
+        assert_eq!(labels(&[failed, health]), ["health", "health"]);
     }
 
     #[test]
@@ -515,6 +524,23 @@ mod tests {
         assert_eq!(labels(&[failed.clone(), failed]), ["read 1", "read 1"]);
         let refused = moment("raise", &[], Outcome::Refused);
         assert_eq!(labels(&[refused.clone(), refused]), ["raise", "raise"]);
+    }
+
+    #[test]
+    fn power_cuts() {
+        let cut = moment("read 17", &[CrcError, Read, Write], Outcome::Cut);
+        let svg = drawn(&[heading("Wednesday"), cut.clone()]);
+        let words = "read 17: 3 accesses, 1 error, power fails";
+        assert!(svg.contains(&format!("<title>{words}</title>")));
+        // Its card and the legend have the words.
+        assert_eq!(svg.matches(">power fails</text>").count(), 2);
+        let sum =
+            "0 commands (0 moved a block, 0 failed), 3 surface accesses (1 error), 1 power cut";
+        assert!(svg.contains(&format!(">{sum}</text>")));
+        assert_eq!(labels(&[cut.clone(), cut]), ["read 17", "read 17"]);
+        let first = drawn(&[moment("start", &[], Outcome::Cut)]);
+        assert!(first.contains("<title>start: 0 accesses, 0 errors, power fails</title>"));
+        assert!(!first.contains(">no access</text>"));
     }
 
     #[test]
@@ -554,17 +580,17 @@ mod tests {
                 failed: 31,
             },
         ];
-        let marks = [vec![CrcError; 346], trial.repeat(33)].concat();
+        let marks = [vec![CrcError; 346], trial.repeat(33), vec![Store]].concat();
         let moment = moment("read 1", &marks, Outcome::Failed);
         let card = card(&[&moment]);
-        assert_eq!(card.told(), "read 1: 3679 accesses, 1369 errors, failed");
+        assert_eq!(card.told(), "read 1: 3680 accesses, 1369 errors, failed");
         assert!(card.width() <= CARDS_END - CARDS);
         let pieces = card.pieces();
         let shown = pieces.iter().map(|piece| match piece {
             Piece::One(mark) => mark.accesses(),
             Piece::Words(_) => 0,
         });
-        let words = format!("… {} more …", 3679 - shown.sum::<usize>());
+        let words = format!("… {} more …", 3680 - shown.sum::<usize>());
         let left = |piece: &Piece| matches!(piece, Piece::Words(said) if *said == words);
         assert!(pieces.iter().any(left), "{words}");
         drawn(&[moment]);

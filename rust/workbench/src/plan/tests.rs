@@ -135,6 +135,29 @@ fn faults_of_rereads() {
 }
 
 #[test]
+fn power() {
+    use crate::power::{Fate, Order, When};
+    let order = |when, fate| Ok(Line::Power(Order { when, fate }));
+    for (words, fate) in [
+        ("", Fate::Old),
+        (" old", Fate::Old),
+        (" new", Fate::New),
+        (" unreadable\r\n", Fate::Unreadable),
+    ] {
+        let line = format!("power fails at access 105{words}");
+        assert_eq!(parse(&line), order(When::Access(105), fate));
+        let line = format!("power fails during the store{words}");
+        assert_eq!(parse(&line), order(When::Store, fate));
+    }
+    assert_eq!(
+        parse("power fails at access $10"),
+        order(When::Access(16), Fate::Old)
+    );
+    assert_eq!(parse("cuts from here"), Ok(Line::CutsFrom));
+    assert_eq!(parse("cuts to here"), Ok(Line::CutsTo));
+}
+
+#[test]
 fn expectations_and_traffic() {
     assert_eq!(
         parse("expect good spared errors 4 status 0c 04 00 04"),
@@ -143,6 +166,14 @@ fn expectations_and_traffic() {
             Expectation::Spared,
             Expectation::Errors(4),
             Expectation::Status([0x0C, 4, 0, 4]),
+        ]))
+    );
+    assert_eq!(
+        parse("expect cut stored not-stored"),
+        Ok(Line::Expect(vec![
+            Expectation::Cut,
+            Expectation::Stored,
+            Expectation::NotStored,
         ]))
     );
     let traffic = Traffic {
@@ -157,7 +188,51 @@ fn expectations_and_traffic() {
 }
 
 /// Lines with a fault in them, and a part of what is said of each.
-const WRONG: [(&str, &str); 54] = [
+const WRONG: [(&str, &str); 71] = [
+    ("power", "\"fails\" is missing"),
+    ("power off", "after power comes \"fails\", not \"off\""),
+    (
+        "power fails",
+        "at access N, or during the store, is missing",
+    ),
+    (
+        "power fails now",
+        "the power fails at access N, or during the store, not \"now\"",
+    ),
+    ("power fails at", "\"access\" is missing"),
+    (
+        "power fails at 5",
+        "after \"power fails at\" comes \"access\", not \"5\"",
+    ),
+    (
+        "power fails at access",
+        "the number of the access is missing",
+    ),
+    (
+        "power fails at access 0",
+        "the number of the access is 1 at least",
+    ),
+    (
+        "power fails at access old",
+        "the number of the access is a number, and \"old\" is none",
+    ),
+    (
+        "power fails during store",
+        "after \"power fails during\" comes \"the store\", not \"store\"",
+    ),
+    ("power fails during the", "\"the store\" is missing"),
+    (
+        "power fails during the store spoiled",
+        "a write leaves its sector old, new or unreadable, not \"spoiled\"",
+    ),
+    ("power fails at access 3 old new", "\"new\" is too much"),
+    ("cuts", "\"from here\" or \"to here\" is missing"),
+    (
+        "cuts here",
+        "after cuts comes \"from here\" or \"to here\", not \"here\"",
+    ),
+    ("cuts from", "\"here\" is missing"),
+    ("cuts to here 5", "\"5\" is too much"),
     ("convert shop.platter", "\"shop.platter\" is too much"),
     ("red 17", "\"red\" begins no line of a plan"),
     ("Start", "\"Start\" begins no line"),
@@ -266,7 +341,7 @@ fn no_line_breaks_the_parser() {
     let mut rng = reference::rng::Rng::new(9);
     let words: Vec<&str> = WRONG.iter().flat_map(|(line, _)| line.split(' ')).collect();
     let mut lines = 0;
-    for _ in 0..20_000 {
+    for _ in 0..40_000 {
         let count = 1 + rng.place(7);
         let line: Vec<&str> = (0..count).map(|_| rng.pick(&words)).collect();
         lines += usize::from(parse(&line.join(" ")).is_ok());
@@ -298,7 +373,7 @@ fn guide_examples() -> Vec<&'static str> {
 #[test]
 fn the_examples_of_help_and_guide_are_lines() {
     let (help, guide) = (help_examples(), guide_examples());
-    assert_eq!((help.len(), guide.len()), (24, 24));
+    assert_eq!((help.len(), guide.len()), (28, 28));
     for line in help.into_iter().chain(guide) {
         assert!(parse(line).is_ok(), "{line}: {:?}", parse(line));
     }

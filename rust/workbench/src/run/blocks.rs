@@ -30,6 +30,10 @@ impl<W: Write> Run<W> {
             report
         })?;
         match to {
+            Some(path) if self.last_cut() => Ok(writeln!(
+                self.out,
+                "  not written to {path}, since the power failed"
+            )?),
             Some(path) => self.keep(blocks, path, &bytes),
             None => Ok(()),
         }
@@ -55,42 +59,66 @@ impl<W: Write> Run<W> {
         let wanted = data.load(blocks, &self.settings.folder)?;
         let mut wanted = wanted.iter();
         let mut others = vec![];
+        let mut compared = self.compared;
         self.each("read", blocks, |host, number| {
             let report = host.read(number, retry);
             let same = wanted
                 .next()
                 .is_some_and(|w| host.board.data().starts_with(w));
-            if !(same && report.good()) {
+            match (report.good(), same) {
+                (true, true) => {}
+                (true, false) => compared.other += 1,
+                (false, _) => compared.failed += u32::from(!report.cut()),
+            }
+            if !(same && report.good() || report.cut()) {
                 others.push(number);
             }
             report
         })?;
-        self.expectations += 1;
+        self.compared = compared;
+        self.show_compared(blocks, data, &others)
+    }
+
+    /// Says whether blocks hold the data, of which these are not so. Blocks that the power
+    /// kept from being read are neither.
+    fn show_compared(&mut self, blocks: Blocks, data: &Data, others: &[u32]) -> Result<(), Stop> {
         let name = data.name();
-        if others.is_empty() {
-            let blocks = match blocks.count() {
-                1 => String::from("the bytes are"),
-                count => format!("all {count} blocks are"),
-            };
-            writeln!(self.out, "  {blocks} {name}")?;
-        } else {
+        if !others.is_empty() {
+            self.expectations += 1;
             self.unmet += 1;
-            writeln!(self.out, "  NOT {name}: {}", ranges(&others))?;
+            return Ok(writeln!(self.out, "  NOT {name}: {}", ranges(others))?);
         }
-        Ok(())
+        if self.last_cut() {
+            return Ok(());
+        }
+        self.expectations += 1;
+        let blocks = match blocks.count() {
+            1 => String::from("the bytes are"),
+            count => format!("all {count} blocks are"),
+        };
+        Ok(writeln!(self.out, "  {blocks} {name}")?)
+    }
+
+    /// Whether the power failed in the host's last line.
+    fn last_cut(&self) -> bool {
+        self.last.last().is_some_and(Report::cut)
     }
 
     /// Reads a block and shows its bytes.
     pub fn dump(&mut self, number: u32) -> Result<(), Stop> {
         let block = Blocks::one(number);
         self.each("dump", block, |host, number| host.read(number, USUAL))?;
+        if self.last_cut() {
+            return Ok(());
+        }
         for line in dump_lines(self.host.board.data()) {
             writeln!(self.out, "  {line}")?;
         }
         Ok(())
     }
 
-    /// Makes a command for each block and shows what they came to.
+    /// Makes a command for each block and shows what they came to. A power cut ends the
+    /// line.
     fn each(
         &mut self,
         name: &str,
@@ -101,13 +129,32 @@ impl<W: Write> Run<W> {
         for number in blocks.numbers() {
             let report = command(&mut self.host, number);
             self.remember(&format!("{name} {number}"), &report);
+            let cut = report.cut();
             reports.push(report);
+            if cut {
+                break;
+            }
             self.progress.tick(name, reports.len(), blocks.count());
         }
         self.progress.end(blocks.count());
         self.show_groups(name, blocks.first, &reports)?;
+        let done = reports.len();
         self.last = reports;
-        Ok(())
+        self.show_not_reached(blocks, done)
+    }
+
+    /// Names the blocks behind so many that were done, if the power failed.
+    fn show_not_reached(&mut self, blocks: Blocks, done: usize) -> Result<(), Stop> {
+        let left: Vec<u32> = blocks.numbers().skip(done).collect();
+        match left[..] {
+            [] => Ok(()),
+            [one] => Ok(writeln!(self.out, "  not reached: block {one}")?),
+            _ => Ok(writeln!(
+                self.out,
+                "  not reached: blocks {}",
+                ranges(&left)
+            )?),
+        }
     }
 
     /// A line for each group of commands that came to the same.

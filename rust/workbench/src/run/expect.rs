@@ -16,7 +16,7 @@ impl<W: Write> Run<W> {
             let message = "there is no line of the host before this one";
             return Err(Stop::Line(String::from(message)));
         }
-        let fails = |e: &&Expectation| !self.last.iter().all(|report| holds(**e, report));
+        let fails = |e: &&Expectation| !holds(**e, &self.last);
         let failing: Vec<String> = expectations.iter().filter(fails).map(named).collect();
         self.expectations += 1;
         if !failing.is_empty() {
@@ -28,8 +28,17 @@ impl<W: Write> Run<W> {
     }
 }
 
+/// Whether the reports of a line are as expected: each of them, but for a power cut,
+/// which ends the line.
+fn holds(expectation: Expectation, reports: &[Report]) -> bool {
+    match expectation {
+        Expectation::Cut => reports.last().is_some_and(Report::cut),
+        other => reports.iter().all(|report| fits(other, report)),
+    }
+}
+
 /// Whether a report is as expected.
-fn holds(expectation: Expectation, report: &Report) -> bool {
+fn fits(expectation: Expectation, report: &Report) -> bool {
     let finished = match report.end {
         End::Finished(bytes) => Some(bytes),
         _ => None,
@@ -41,15 +50,12 @@ fn holds(expectation: Expectation, report: &Report) -> bool {
         Expectation::Spared => finished.is_some_and(status::spared),
         Expectation::InPlace => finished.is_some_and(|bytes| !status::spared(bytes)),
         Expectation::Errors(errors) => finished.is_some_and(|bytes| bytes[3] == errors),
-        Expectation::Accesses(count) => own_accesses(report) == count as usize,
+        Expectation::Accesses(count) => report.accesses.len() == count as usize,
         Expectation::Stored => report.accesses.iter().any(stored),
+        Expectation::NotStored => !report.accesses.iter().any(stored),
+        Expectation::Cut => report.cut(),
         Expectation::Status(wanted) => finished == Some(wanted),
     }
-}
-
-/// The accesses of a command; a store before it is none of them.
-fn own_accesses(report: &Report) -> usize {
-    report.accesses.iter().filter(|a| !is_store(a)).count()
 }
 
 /// Whether an access is a store that was done.
@@ -66,6 +72,8 @@ fn named(expectation: &Expectation) -> String {
         Expectation::Spared => String::from("spared"),
         Expectation::InPlace => String::from("in-place"),
         Expectation::Stored => String::from("stored"),
+        Expectation::NotStored => String::from("not-stored"),
+        Expectation::Cut => String::from("cut"),
         Expectation::Errors(errors) => format!("errors {errors}"),
         Expectation::Accesses(count) => format!("accesses {count}"),
         Expectation::Status([one, two, three, four]) => {

@@ -1,3 +1,5 @@
+mod power;
+
 use super::*;
 use crate::files::test_folder;
 use crate::picture::Mark;
@@ -122,15 +124,35 @@ fn what_is_not_as_expected_is_said() {
 
 #[test]
 fn a_failed_read_compares_with_nothing_and_a_failed_store_stores_nothing() {
-    let plan = "start\nwrite 3 \"one\"\nfault sector 3 reads all crc\ncompare 3 0 1 with 6f 6e 65\n\
-                fault sector 4960 writes next 1 timeout\nraise\nexpect stored\nlower 00\nraise\nexpect stored\n";
+    let plan = "start\nwrite 3 \"one\"\nfault sector 3 reads all crc\n\
+                fault sector 4960 writes next 1 timeout\ncompare 3 0 1 with 6f 6e 65\n\
+                expect stored\nexpect failed not-stored accesses 92 status 0d 00 00 00\n\
+                read 3 0 1\nexpect failed stored accesses 92 status 09 00 00 00\n\
+                raise\nexpect not-stored accesses 0\n";
     let (ended, _, out) = played(plan, Settings::default());
     assert_eq!(ended, Ok(false));
-    assert!(out.contains("  NOT as given: 3\n"), "{out}");
-    let part = "raise: table not stored (timeout), offer 01, a command may come\n  \
-                NOT as line 7 expects: stored\n";
+    let part = "read 3: 91 reads, 91 CRC errors, table not stored (timeout), failed, E 0, \
+                entered in the bad list\n  NOT as given: 3\n  NOT as line 6 expects: stored\n\
+                read 3: 91 reads, 91 CRC errors, table stored, failed, E 0\n\
+                raise: offer 01, a command may come\n";
     assert!(out.contains(part), "{out}");
-    assert!(out.contains("  1 of 3 expectations met\n"), "{out}");
+    assert!(out.contains("  3 of 5 expectations met\n"), "{out}");
+}
+
+#[test]
+fn a_move_whose_store_fails_is_a_move() {
+    let plan = "start\nfault sector 3 writes all unreadable\n\
+                fault sector 4960 writes next 1 timeout\nwrite-verify 3 \"one\"\n\
+                expect failed spared not-stored accesses 205 status 0d 04 80 00\n\
+                read 3\nexpect good stored accesses 2 status 00 00 00 00\n";
+    let (ended, _, out) = played(plan, Settings::default());
+    assert_eq!(ended, Ok(true), "{out}");
+    let part = "table not stored (timeout), failed, spared, first since start or reset\n  \
+                trial of sector 3: 100 rereads, 100 failed, not passed\n  \
+                trial of spare 0 (sector 4928): 100 rereads, 0 failed, passed\n  \
+                block 3 moved from sector 3 to spare 0 (sector 4928)\n\
+                read 3: 1 read, table stored, good, in spare 0 (sector 4928)\n";
+    assert!(out.contains(part), "{out}");
 }
 
 #[test]
@@ -221,10 +243,10 @@ fn equal_trials_are_one_line_and_a_trace_folds_rereads() {
                 fault sector 6 rereads fail 12 of 100\nwrite 3..6 \"one\"\n";
     let (ended, _, out) = played(plan, Settings::default());
     assert_eq!(ended, Ok(true), "{out}");
-    let part = "write 3..5: 3 blocks, each table stored, 100 reads, 1 write, good, \
+    let part = "write 3..5: 3 blocks, each 100 reads, 1 write, table stored, good, \
                 removed from the bad list\n  \
                 trials of sectors 3..5, each: 100 rereads, 0 failed, passed\n\
-                write 6: table stored, 100 reads, 1 write, 12 CRC errors, good, \
+                write 6: 100 reads, 1 write, 12 CRC errors, table stored, good, \
                 removed from the bad list\n  \
                 trial of sector 6: 100 rereads, 12 failed, passed\n";
     assert!(out.contains(part), "{out}");
@@ -234,9 +256,9 @@ fn equal_trials_are_one_line_and_a_trace_folds_rereads() {
     };
     let (_, _, out) = played(plan, trace);
     let part = "  trial of sector 6: 100 rereads, 12 failed, passed\n    \
-                store sector 4960: done\n    write sector 6: done\n    \
+                write sector 6: done\n    \
                 reread sector 6, 100 times: 88 good, 12 CRC errors\n    \
-                status 08 00 00 00: CRC error met, E 0\n";
+                store sector 4960: done\n    status 08 00 00 00: CRC error met, E 0\n";
     assert!(out.contains(part), "{out}");
 }
 
@@ -251,7 +273,8 @@ fn health_counts_spares() {
     let plan = "start\nhealth\nexpect good accesses 0 status 00 00 80 00\n\
                 fault sector 3..4 writes all unreadable\n\
                 fault sector 4928..4957 writes all timeout\nwrite-verify 3 \"one\"\nhealth\n\
-                expect good stored accesses 0 status 00 00 00 00\nwrite-verify 4 \"one\"\nhealth\nhealth\n";
+                expect good not-stored accesses 0 status 00 00 00 00\nwrite-verify 4 \"one\"\n\
+                expect stored\nhealth\nhealth\n";
     let (ended, _, out) = played(plan, Settings::default());
     assert_eq!(ended, Ok(true), "{out}");
     assert_eq!(
@@ -259,26 +282,28 @@ fn health_counts_spares() {
         [
             "health: 32 spares unused, no bad block, no latch, no unstored changes, \
              first since start or reset",
-            "health: table stored, 1 spare unused, no bad block, no latch, no unstored changes",
-            "health: table stored, no spare unused, no bad block, no latch, no unstored changes",
+            "health: 1 spare unused, no bad block, no latch, no unstored changes",
+            "health: no spare unused, no bad block, no latch, no unstored changes",
             "health: no spare unused, no bad block, no latch, no unstored changes",
         ]
     );
-    assert!(out.contains("  6 of 6 expectations met\n"), "{out}");
+    assert!(out.contains("  7 of 7 expectations met\n"), "{out}");
 }
 
 #[test]
 fn health_after_stores_that_fail() {
-    let plan = "start\nfault sector 3 reads all crc\nread 3 0 1\n\
-                fault sector 4960 writes in-turn timeout no-settle\nhealth\nhealth\nhealth\n";
+    let plan = "start\nfault sector 3 reads all crc\n\
+                fault sector 4960 writes in-turn timeout no-settle\nread 3 0 1\nhealth\n\
+                read 3 0 1\nexpect failed not-stored status 19 00 00 00\nhealth\n\
+                start\nread 3 0 1\nhealth\n";
     let (ended, _, out) = played(plan, Settings::default());
     assert_eq!(ended, Ok(true), "{out}");
     assert_eq!(
         health_lines(&out),
         [
-            "health: table not stored (timeout), 32 spares unused, 1 bad block, no latch, unstored changes",
-            "health: table not stored (no settle), 32 spares unused, 1 bad block, no latch, unstored changes",
-            "health: table stored, 32 spares unused, 1 bad block, no latch, no unstored changes",
+            "health: 32 spares unused, 1 bad block, no latch, unstored changes",
+            "health: 32 spares unused, 1 bad block, under the latch, unstored changes",
+            "health: 32 spares unused, 1 bad block, no latch, no unstored changes",
         ]
     );
 }
@@ -327,9 +352,8 @@ fn health_in_a_trace() {
     let plan = "start\nfault sector 3 writes all unreadable\nwrite-verify 3 \"one\"\nhealth\n\
                 expect failed accesses 1\n";
     let (ended, _, out) = played(plan, trace);
-    let part =
-        "health: table stored, 31 spares unused, no bad block, no latch, no unstored changes\n    \
-                store sector 4960: done\n    status 00 00 00 00: nothing to report, E 0\n  \
+    let part = "health: 31 spares unused, no bad block, no latch, no unstored changes\n    \
+                status 00 00 00 00: nothing to report, E 0\n  \
                 NOT as line 5 expects: failed and accesses 1\n";
     assert!(out.contains(part), "{out}");
     assert_eq!(ended, Ok(false));
@@ -455,8 +479,8 @@ fn a_convert_switches_the_drive_off() {
 fn a_table_that_cannot_be_converted_stays() {
     let folder = test_folder("stays");
     let path = folder.join("p");
-    let spoil = "start\nfault sector 3 reads all crc\nread 3 0 1\n\
-                 fault sector 4960 writes all unreadable\nraise\n";
+    let spoil = "start\nfault sector 3 reads all crc\n\
+                 fault sector 4960 writes all unreadable\nread 3 0 1\n";
     let (ended, _, _) = played(spoil, on(&path));
     assert_eq!(ended, Ok(true));
     let before = fs::read(&path).expect("a platter");
@@ -525,10 +549,11 @@ fn moments_are_kept_for_a_picture() {
             Mark::Write,
             rereads(100),
             Mark::Write,
-            rereads(0)
+            rereads(0),
+            Mark::Store
         ]
     );
-    assert!(matches!(moments[3].accesses[..], [Mark::Store]));
+    assert!(moments[3].accesses.is_empty());
     assert!(matches!(moments[4].outcome, Outcome::Failed));
     assert_eq!(moments[5].command, "health");
     assert!(moments[5].accesses.is_empty());

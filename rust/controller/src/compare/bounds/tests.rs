@@ -38,6 +38,14 @@ fn what_is_not_tried_is_missed() {
     none_of("beyond.spares.count-33.", met(|d| d.nspares != 33).missed());
     none_of("at.data.count-533.", met(|d| d.fed != 533).missed());
     none_of("beyond.causes.first-4.", met(|d| d.causes[0] != 4).missed());
+    none_of(
+        "at.store.ending-9.",
+        met(|d| (d.stage.kind, d.stage.detail) != (kind::STORE, 9)).missed(),
+    );
+    none_of(
+        "at.marks.place-alone.",
+        met(|d| (d.flags.changed, d.flags.moved) != (0, 1)).missed(),
+    );
     none_of("beyond.spent.90.", met(|d| d.stage.spent != 90).missed());
     none_of(
         "beyond.trial.rereads-101.",
@@ -67,6 +75,8 @@ fn beyond_two_bounds_is_no_name() {
     assert!(Met::default().count(&record, true).is_ok());
     // Nor is what no clause decides.
     record.stage.kind = kind::TRIAL_READ + 1;
+    assert!(Met::default().count(&record, true).is_err());
+    (record.stage.kind, record.stage.detail) = (kind::STORE, 10);
     assert!(Met::default().count(&record, true).is_err());
 }
 

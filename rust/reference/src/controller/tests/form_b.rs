@@ -34,10 +34,11 @@ fn entries(drive: &Drive) -> Vec<(u32, u8)> {
     spares.iter().copied().zip(*causes).collect()
 }
 
-/// A read of this block fails, so that it is entered in the bad list.
+/// A read of this block fails, so that it is entered in the bad list; the store is
+/// awaited.
 fn enter(drive: &mut Drive, block: u32) {
     command(drive, block, 0, 0);
-    assert_eq!(reads(drive, "ttttttttttt"), Answer::Finished);
+    assert_eq!(reads(drive, "ttttttttttt"), Answer::Store);
 }
 
 /// The trial whose write is awaited: it is done, and the rereads are answered so.
@@ -114,18 +115,21 @@ fn a_start_forgets_run_number_and_causes() {
 fn each_store_asked_for_is_one_run() {
     let mut drive = worn(&[], &[]);
     enter(&mut drive, 5);
-    assert_eq!(drive.record.run, 0);
-    for (run, answer) in [(1, 2), (2, 3), (3, 0)] {
-        assert_eq!(said(&mut drive, Call::Raise), Answer::Store);
+    for (run, answer) in [(1, 2), (2, 2), (3, 0)] {
         // The image that is fetched for the store has the new number.
         let stored = DraftB::new(run, &[], &[5]).bytes();
         assert_eq!(image(&mut drive), stored);
-        surface(&mut drive, answer, &[]);
+        assert_eq!(surface(&mut drive, answer, &[]), Answer::Finished);
         assert_eq!(image(&mut drive), stored);
-        said(&mut drive, Call::Lower(0));
+        command(&mut drive, 6, 0, 0);
+        let stores = if answer == 0 {
+            Answer::Finished
+        } else {
+            Answer::Store
+        };
+        assert_eq!(reads(&mut drive, "g"), stores);
     }
     // With nothing to store it stays.
-    assert_eq!(said(&mut drive, Call::Raise), Answer::Offer(Offer::Command));
     assert_eq!(drive.record.run, 3);
 }
 
@@ -133,24 +137,22 @@ fn each_store_asked_for_is_one_run() {
 fn the_run_number_stays_at_its_top() {
     let mut drive = worn_from(&DraftB::new(TOP_RUN - 1, &[], &[]));
     for block in 5..8 {
-        command(&mut drive, block, 0, 0);
-        reads(&mut drive, "ttttttttttt");
-        assert_eq!(said(&mut drive, Call::Raise), Answer::Store);
+        enter(&mut drive, block);
         assert_eq!(image(&mut drive)[4..8], [0xFF; 4]);
-        surface(&mut drive, 0, &[]);
-        said(&mut drive, Call::Lower(0));
+        store_done(&mut drive);
     }
     assert_eq!(drive.record.run, TOP_RUN);
 }
 
 #[test]
-fn a_refused_raise_counts_nothing() {
+fn refused_calls_count_no_run() {
     let mut drive = worn(&[], &[]);
-    enter(&mut drive, 5);
-    let refused = drive.lend(Some(535), &Call::Raise).answer;
+    command(&mut drive, 5, 0, 0);
+    reads(&mut drive, "tttttttttt");
+    let refused = drive.lend(Some(535), &Call::Surface(2, vec![])).answer;
     assert_eq!(refused, Answer::Refused(Code::Buffer));
     assert_eq!(drive.record.run, 0);
-    said(&mut drive, Call::Raise);
+    assert_eq!(reads(&mut drive, "t"), Answer::Store);
     assert_eq!(said(&mut drive, Call::Raise), Answer::Refused(Code::Place));
     assert_eq!(drive.record.run, 1);
 }
@@ -170,7 +172,8 @@ fn a_live_entry_has_the_last_failure_before_its_spare() {
         assert_eq!(reads(&mut drive, "g"), write_of(5));
         assert_eq!(trial(&mut drive, &answers), write_of(4928));
         // Failures of the spare's own trial do not count.
-        assert_eq!(trial(&mut drive, "ct"), Answer::Finished);
+        assert_eq!(trial(&mut drive, "ct"), Answer::Store);
+        store_done(&mut drive);
         assert_eq!(entries(&drive), [(5, cause)], "{answers}");
     }
     // By a timeout of a write.
@@ -178,7 +181,8 @@ fn a_live_entry_has_the_last_failure_before_its_spare() {
         let mut drive = worn(&[], &bads);
         write(&mut drive, opcode, 5, &GOOD);
         assert_eq!(surface(&mut drive, 2, &[]), write_of(4928));
-        assert_eq!(trial(&mut drive, "c"), Answer::Finished);
+        assert_eq!(trial(&mut drive, "c"), Answer::Store);
+        store_done(&mut drive);
         assert_eq!(entries(&drive), [(5, 2)]);
     }
     // By other bytes in the last reread that failed.
@@ -188,7 +192,8 @@ fn a_live_entry_has_the_last_failure_before_its_spare() {
     reads(&mut drive, &"t".repeat(98));
     surface(&mut drive, 0, &[0; 532]);
     assert_eq!(reads(&mut drive, "g"), write_of(4928));
-    assert_eq!(trial(&mut drive, ""), Answer::Finished);
+    assert_eq!(trial(&mut drive, ""), Answer::Store);
+    store_done(&mut drive);
     assert_eq!(entries(&drive), [(5, 1)]);
     // A first verify that failed is forgotten behind the timeout of the trial.
     let mut drive = worn(&[], &[]);
@@ -196,7 +201,8 @@ fn a_live_entry_has_the_last_failure_before_its_spare() {
     surface(&mut drive, 0, &[]);
     assert_eq!(reads(&mut drive, "c"), write_of(5));
     assert_eq!(surface(&mut drive, 2, &[]), write_of(4928));
-    assert_eq!(trial(&mut drive, ""), Answer::Finished);
+    assert_eq!(trial(&mut drive, ""), Answer::Store);
+    store_done(&mut drive);
     assert_eq!(entries(&drive), [(5, 2)]);
 }
 
@@ -216,7 +222,8 @@ fn a_dead_entry_has_the_last_failure_on_its_spare() {
     let dead = [(DEAD, 1), (DEAD, 2), (DEAD, 1), (DEAD, 2)];
     assert_eq!(entries(&drive), dead);
     // The live one after them has the last failure on the last of them.
-    assert_eq!(trial(&mut drive, "c"), Answer::Finished);
+    assert_eq!(trial(&mut drive, "c"), Answer::Store);
+    store_done(&mut drive);
     assert_eq!(entries(&drive), [&dead[..], &[(5, 2)]].concat());
 }
 
@@ -253,7 +260,8 @@ fn an_old_entry_has_the_last_failure_on_its_own_spare() {
         assert_eq!(surface(&mut drive, 2, &[]), write_of(4931));
         // Until it moves the entry has its former cause.
         assert_eq!(entries(&drive), [(8, 3), (5, former), (DEAD, 2)]);
-        assert_eq!(trial(&mut drive, "c"), Answer::Finished);
+        assert_eq!(trial(&mut drive, "c"), Answer::Store);
+        store_done(&mut drive);
         assert_eq!(entries(&drive), [(8, 3), (DEAD, 1), (DEAD, 2), (5, 2)]);
     }
     // The other way round: a timeout there, CRC errors in between.
@@ -261,13 +269,15 @@ fn an_old_entry_has_the_last_failure_on_its_own_spare() {
     assert_eq!(write(&mut drive, 1, 5, &GOOD), write_of(4928));
     assert_eq!(surface(&mut drive, 2, &[]), write_of(4929));
     assert_eq!(trial(&mut drive, &crc), write_of(4930));
-    assert_eq!(trial(&mut drive, ""), Answer::Finished);
+    assert_eq!(trial(&mut drive, ""), Answer::Store);
+    store_done(&mut drive);
     assert_eq!(entries(&drive), [(DEAD, 2), (DEAD, 1), (5, 1)]);
     // With nothing in between both have the same.
     let mut drive = worn_from(&DraftB::new(1, &[(5, 3)], &[]));
     write(&mut drive, 1, 5, &GOOD);
     surface(&mut drive, 2, &[]);
-    assert_eq!(trial(&mut drive, "cc"), Answer::Finished);
+    assert_eq!(trial(&mut drive, "cc"), Answer::Store);
+    store_done(&mut drive);
     assert_eq!(entries(&drive), [(DEAD, 2), (5, 2)]);
 }
 
@@ -278,7 +288,8 @@ fn without_a_spare_the_old_entry_keeps_its_cause() {
     let mut drive = worn_from(&DraftB::new(1, &spares, &[]));
     assert_eq!(write(&mut drive, 1, 5, &GOOD), write_of(4932));
     assert_eq!(surface(&mut drive, 2, &[]), write_of(4959));
-    assert_eq!(trial(&mut drive, &"c".repeat(31)), Answer::Finished);
+    assert_eq!(trial(&mut drive, &"c".repeat(31)), Answer::Store);
+    store_done(&mut drive);
     spares.push((DEAD, 1));
     assert_eq!(entries(&drive), spares);
 }
@@ -290,7 +301,8 @@ fn failures_of_an_earlier_command_are_forgotten() {
     assert_eq!(reads(&mut drive, "cg"), Answer::Finished);
     write(&mut drive, 1, 6, &GOOD);
     assert_eq!(surface(&mut drive, 2, &[]), write_of(4928));
-    assert_eq!(trial(&mut drive, ""), Answer::Finished);
+    assert_eq!(trial(&mut drive, ""), Answer::Store);
+    store_done(&mut drive);
     assert_eq!(entries(&drive), [(6, 2)]);
 }
 

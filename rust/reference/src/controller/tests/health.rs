@@ -42,16 +42,6 @@ fn shows(drive: &mut Drive, first: [u8; 4]) {
     holds(drive, first);
 }
 
-/// From idle with unstored changes to command bytes being taken; the store is
-/// answered so.
-#[track_caller]
-fn stored(drive: &mut Drive, answer: u8) {
-    assert_eq!(said(drive, Call::Raise), Answer::Store);
-    let offer = Answer::Offer(Offer::Command);
-    assert_eq!(surface(drive, answer, &[]), offer);
-    assert_eq!(said(drive, Call::Lower(0x55)), Answer::Wait);
-}
-
 /// From command bytes being taken to offer 02 of a read of FFFFFD.
 #[track_caller]
 fn asked(drive: &mut Drive) {
@@ -68,18 +58,26 @@ fn read(drive: &mut Drive, first: [u8; 4]) {
     holds(drive, first);
 }
 
-/// A read of FFFFFD from idle, with a store that is answered so.
-#[track_caller]
-fn read_after_store(drive: &mut Drive, answer: u8, first: [u8; 4]) {
-    stored(drive, answer);
-    asked(drive);
-    shows(drive, first);
+/// No read of this block is good.
+fn never_read(drive: &mut Drive, block: u32) -> Answer {
+    command(drive, block, 0, 0);
+    reads(drive, "ttttttttttt")
 }
 
-/// A read of this block fails, so that it is entered in the bad list.
-fn enter(drive: &mut Drive, block: u32) {
-    command(drive, block, 0, 0);
-    assert_eq!(reads(drive, "ttttttttttt"), Answer::Finished);
+/// A read of this block fails, so that it is entered in the bad list; the store is
+/// answered so.
+#[track_caller]
+fn enter(drive: &mut Drive, block: u32, answer: u8) {
+    assert_eq!(never_read(drive, block), Answer::Store);
+    assert_eq!(surface(drive, answer, &[]), Answer::Finished);
+}
+
+/// A good read of a block, at whose end the store is done.
+#[track_caller]
+fn read_and_stored(drive: &mut Drive) {
+    command(drive, 70, 0, 0);
+    assert_eq!(reads(drive, "g"), Answer::Store);
+    store_done(drive);
 }
 
 /// The drive under the latch.
@@ -162,32 +160,29 @@ fn whatever_the_part_held() {
 
 #[test]
 fn stores_done_and_not() {
-    for (answer, changed) in [(0, 0), (2, 1), (3, 1)] {
+    for (answer, latch, changed) in [(0, 0, 0), (2, 0, 1), (3, 1, 1)] {
         let mut drive = worn(&[], &[]);
-        enter(&mut drive, 5);
-        read_after_store(&mut drive, answer, [32, 1, 0, changed]);
-        assert_eq!(drive.record.changed, changed == 1);
+        enter(&mut drive, 5, answer);
+        read(&mut drive, [32, 1, latch, changed]);
+        // It stores nothing itself.
+        read(&mut drive, [32, 1, latch, changed]);
     }
 }
 
 #[test]
 fn the_mark_is_no_comparison() {
     let mut drive = worn(&[], &[]);
-    enter(&mut drive, 5);
+    enter(&mut drive, 5, 2);
     // No store is done before the block leaves the list.
-    stored(&mut drive, 2);
-    said(&mut drive, Call::Feed(vec![2, 0, 0, 5]));
-    said(&mut drive, Call::Raise);
-    said(&mut drive, Call::Lower(0x55));
-    said(&mut drive, Call::Feed(GOOD.to_vec()));
-    said(&mut drive, Call::Raise);
-    assert_eq!(said(&mut drive, Call::Lower(0x55)), write_of(5));
+    assert_eq!(write(&mut drive, 2, 5, &GOOD), write_of(5));
     surface(&mut drive, 0, &[]);
-    assert_eq!(reads(&mut drive, &"g".repeat(100)), Answer::Finished);
+    assert_eq!(reads(&mut drive, &"g".repeat(100)), Answer::Store);
+    surface(&mut drive, 2, &[]);
     let Record { spares, bads, .. } = &drive.record;
     assert!(spares.is_empty() && bads.is_empty());
-    read_after_store(&mut drive, 3, [32, 0, 0, 1]);
-    read_after_store(&mut drive, 0, [32, 0, 0, 0]);
+    read(&mut drive, [32, 0, 0, 1]);
+    read_and_stored(&mut drive);
+    read(&mut drive, [32, 0, 0, 0]);
 }
 
 #[test]
@@ -199,10 +194,12 @@ fn after_moves_and_dead_spares() {
         surface(&mut drive, 2, &[]);
     }
     surface(&mut drive, 0, &[]);
-    assert_eq!(reads(&mut drive, &"g".repeat(100)), Answer::Finished);
+    assert_eq!(reads(&mut drive, &"g".repeat(100)), Answer::Store);
+    surface(&mut drive, 2, &[]);
     assert_eq!(drive.record.spares, [8, DEAD, 5]);
-    read_after_store(&mut drive, 2, [29, 0, 0, 1]);
-    read_after_store(&mut drive, 0, [29, 0, 0, 0]);
+    read(&mut drive, [29, 0, 0, 1]);
+    read_and_stored(&mut drive);
+    read(&mut drive, [29, 0, 0, 0]);
 }
 
 #[test]
@@ -210,7 +207,7 @@ fn under_the_latch() {
     let mut drive = latched(&[8], &[9]);
     read(&mut drive, [31, 1, 1, 0]);
     // An entry that no store will take.
-    enter(&mut drive, 6);
+    assert_eq!(never_read(&mut drive, 6), Answer::Finished);
     read(&mut drive, [31, 2, 1, 1]);
     read(&mut drive, [31, 2, 1, 1]);
     // A start ends both.

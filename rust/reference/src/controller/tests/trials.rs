@@ -36,7 +36,14 @@ fn thirty_failures_pass_and_thirty_one_do_not() {
     for (name, begun) in beginnings() {
         for failures in [0, 1, 29, 30] {
             let mut drive = begun.clone();
-            assert_eq!(trial(&mut drive, failures), Answer::Finished, "{name}");
+            // A block that leaves the bad list is stored.
+            match begun.record.bads.is_empty() {
+                true => assert_eq!(trial(&mut drive, failures), Answer::Finished, "{name}"),
+                false => {
+                    assert_eq!(trial(&mut drive, failures), Answer::Store, "{name}");
+                    store_done(&mut drive);
+                }
+            }
             assert_eq!(drive.status()[0] & !0x04, 0, "{name}");
             assert_eq!(drive.record.spares, [0; 0]);
             assert_eq!(drive.record.bads, [0; 0]);
@@ -46,7 +53,8 @@ fn thirty_failures_pass_and_thirty_one_do_not() {
             let mut drive = begun.clone();
             assert_eq!(trial(&mut drive, failures), write_of(4928), "{name}");
             assert_eq!(drive.record.table(), begun.record.table());
-            assert_eq!(trial(&mut drive, 30), Answer::Finished);
+            assert_eq!(trial(&mut drive, 30), Answer::Store);
+            store_done(&mut drive);
             assert_eq!(drive.status(), [0x04, 0x04, 0, 0]);
             assert_eq!(drive.record.spares, [5]);
             assert_eq!(drive.record.bads, [0; 0]);
@@ -61,7 +69,7 @@ fn every_kind_of_failure_costs_one() {
     let timeout = |drive: &mut Drive| surface(drive, 2, &[]);
     type Fails = fn(&mut Drive) -> Answer;
     for (fails, one) in [(other as Fails, 0x08), (crc, 0x08), (timeout, 0x04)] {
-        for (failures, last) in [(30, Answer::Finished), (31, write_of(4928))] {
+        for (failures, last) in [(30, Answer::Store), (31, write_of(4928))] {
             let mut drive = worn(&[], &[5]);
             write(&mut drive, 2, 5, &GOOD);
             surface(&mut drive, 0, &[]);
@@ -71,7 +79,8 @@ fn every_kind_of_failure_costs_one() {
             }
             assert_eq!(fails(&mut drive), last);
             assert_eq!(drive.data(), GOOD);
-            if last == Answer::Finished {
+            if last == Answer::Store {
+                store_done(&mut drive);
                 assert_eq!(drive.status(), [one, 0, 0, 0]);
             }
         }
@@ -112,13 +121,11 @@ fn a_spare_dies_at_the_hundredth_answer() {
     assert_eq!(good(&mut drive, 1), write_of(4929));
     assert_eq!(drive.record.spares, [DEAD]);
     // One with 1 to 30 failures is live.
-    assert_eq!(trial(&mut drive, 1), Answer::Finished);
+    assert_eq!(trial(&mut drive, 1), Answer::Store);
+    store_done(&mut drive);
     assert_eq!(drive.record.spares, [DEAD, 5]);
     assert_eq!(drive.status(), [0x0C, 0x04, 0, 0]);
-    // The next raise stores; the block is then read at its spare.
-    assert_eq!(said(&mut drive, Call::Raise), Answer::Store);
-    assert_eq!(surface(&mut drive, 0, &[]), Answer::Offer(Offer::Command));
-    said(&mut drive, Call::Lower(0));
+    // The block is then read at its spare.
     assert_eq!(command(&mut drive, 5, 0, 0), read_of(4929));
 }
 
@@ -130,7 +137,8 @@ fn a_timeout_on_a_write_goes_straight_to_the_next_spare() {
         assert_eq!(surface(&mut drive, 2, &[]), write_of(4928));
         assert_eq!(surface(&mut drive, 2, &[]), write_of(4929));
         assert_eq!(drive.record.spares, [DEAD]);
-        assert_eq!(trial(&mut drive, 0), Answer::Finished);
+        assert_eq!(trial(&mut drive, 0), Answer::Store);
+        store_done(&mut drive);
         assert_eq!(drive.status(), [0x04, 0x04, 0, 0]);
         assert_eq!(drive.record.spares, [DEAD, 5]);
         let left: Vec<u32> = bads.into_iter().filter(|&bad| bad != 5).collect();
@@ -142,7 +150,8 @@ fn a_timeout_on_a_write_goes_straight_to_the_next_spare() {
     surface(&mut drive, 2, &[]);
     surface(&mut drive, 0, &[]);
     reads(&mut drive, &"c".repeat(30));
-    assert_eq!(good(&mut drive, 70), Answer::Finished);
+    assert_eq!(good(&mut drive, 70), Answer::Store);
+    store_done(&mut drive);
     assert_eq!(drive.status(), [0x0C, 0x04, 0, 0]);
 }
 
@@ -154,7 +163,8 @@ fn a_trial_after_a_first_verify_writes_again() {
     assert_eq!(surface(&mut drive, 0, &[1; 532]), write_of(5));
     assert_eq!(surface(&mut drive, 2, &[]), write_of(4928));
     assert_eq!(drive.record.spares, [0; 0]);
-    assert_eq!(trial(&mut drive, 0), Answer::Finished);
+    assert_eq!(trial(&mut drive, 0), Answer::Store);
+    store_done(&mut drive);
     assert_eq!(drive.status(), [0x0C, 0x04, 0, 0]);
 }
 
@@ -168,7 +178,8 @@ fn a_moved_block_moves_on() {
         assert_eq!(surface(&mut drive, 0, &[]), read_of(4930));
         assert_eq!(good(&mut drive, 99), read_of(4930));
         assert_eq!(drive.record.spares, [8, 5]);
-        assert_eq!(good(&mut drive, 1), Answer::Finished);
+        assert_eq!(good(&mut drive, 1), Answer::Store);
+        store_done(&mut drive);
         assert_eq!(drive.status(), [0x04, 0x04, 0, 0]);
         assert_eq!(drive.record.spares, [8, DEAD, 5]);
     }
@@ -192,10 +203,11 @@ fn no_spare_unused() {
     assert_eq!(surface(&mut drive, 2, &[]), write_of(4959));
     surface(&mut drive, 0, &[]);
     reads(&mut drive, &"c".repeat(31));
-    assert_eq!(good(&mut drive, 69), Answer::Finished);
+    assert_eq!(good(&mut drive, 69), Answer::Store);
+    assert!(drive.record.changed);
+    store_done(&mut drive);
     assert_eq!(drive.status(), [0x0D, 0x40, 0, 0]);
     assert_eq!(drive.record.spares, [DEAD; 32]);
-    assert!(drive.record.changed);
 }
 
 #[test]
@@ -259,7 +271,7 @@ fn the_longest_read() {
     // 1 + 255 + 89 failures, then a good one, then no trial passes.
     assert_eq!(reads(&mut drive, &"c".repeat(345)), read_of(5));
     assert_eq!(reads(&mut drive, "g"), write_of(5));
-    assert_eq!(346 + hopeless(&mut drive), 3679);
+    assert_eq!(346 + hopeless(&mut drive), 3680);
     assert_eq!(drive.status(), [0x09, 0x40, 0, 255]);
     assert_eq!(drive.data(), GOOD);
     assert_eq!(drive.record.spares, [DEAD; 32]);
@@ -268,10 +280,10 @@ fn the_longest_read() {
 #[test]
 fn the_longest_writes() {
     for (opcode, bads, longest) in [
-        (1, vec![], 1 + 32 * 101),
-        (1, vec![5], 33 * 101),
-        (2, vec![], 2 + 33 * 101),
-        (2, vec![5], 33 * 101),
+        (1, vec![], 1 + 32 * 101 + 1),
+        (1, vec![5], 33 * 101 + 1),
+        (2, vec![], 2 + 33 * 101 + 1),
+        (2, vec![5], 33 * 101 + 1),
     ] {
         let mut drive = worn(&[], &bads);
         write(&mut drive, opcode, 5, &GOOD);

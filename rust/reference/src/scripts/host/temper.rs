@@ -26,6 +26,8 @@ pub struct Temper {
     pub most_rereads: u32,
     /// Of a command, if at all: a read that goes on as long as it can.
     pub longest: Option<u32>,
+    /// Of a write or a store: the power is cut. At reads it is rarer.
+    pub cut: u32,
     /// Half of the commands go to blocks all over the drive.
     pub roams: bool,
 }
@@ -42,6 +44,7 @@ pub const EVEN: Temper = Temper {
     no_settle: 30,
     most_rereads: 60,
     longest: None,
+    cut: 6,
     roams: false,
 };
 
@@ -53,6 +56,7 @@ pub const PATIENT: Temper = Temper {
     dull_restart: 25,
     moods: &[Mood::Calm, Mood::Marginal, Mood::Rough, Mood::Worn],
     no_settle: 300,
+    cut: 30,
     ..EVEN
 };
 
@@ -80,6 +84,7 @@ pub const WORN: Temper = Temper {
     no_settle: 300,
     most_rereads: 12,
     longest: Some(32),
+    cut: 12,
     roams: true,
     ..EVEN
 };

@@ -20,6 +20,10 @@ fn together(seeds: std::ops::Range<u64>, calls: usize, lies: Lies) -> Tally {
         sum.good_reads += tally.good_reads;
         sum.other_lists += tally.other_lists;
         sum.disallowed += tally.disallowed;
+        sum.starts += tally.starts;
+        for (all, more) in sum.cuts.iter_mut().zip(tally.cuts) {
+            *all += more;
+        }
     }
     sum
 }
@@ -66,7 +70,7 @@ fn random_scripts_are_scripts() {
 #[test]
 fn random_scripts_reach_most_names() {
     coverage::clear();
-    for seed in 300..303 {
+    for seed in 300..304 {
         simulate(seed, 10_000, SOMETIMES, &EVEN);
     }
     assert_eq!(coverage::strangers(), [""; 0]);
@@ -102,6 +106,7 @@ fn random_scripts_have_both_forms() {
     coverage::clear();
     for temper in temper::ALL {
         simulate(800, 12_000, SOMETIMES, temper);
+        simulate(801, 12_000, SOMETIMES, temper);
     }
     for (name, least) in [
         ("start.good.form-a", 20),
@@ -171,6 +176,75 @@ fn random_scripts_have_trials_on_both_sides_of_the_bound() {
         let name = format!("moved.by-{opcode}");
         let count = coverage::count(&name);
         assert!(count >= 3, "{name}: {count}");
+    }
+}
+
+#[test]
+fn random_scripts_cut_the_power() {
+    coverage::clear();
+    let mut sum = Tally::default();
+    for temper in temper::ALL {
+        for seed in 900..903 {
+            let (_, tally) = simulate(seed, 12_000, NEVER, temper);
+            sum.starts += tally.starts;
+            for (all, more) in sum.cuts.iter_mut().zip(tally.cuts) {
+                *all += more;
+            }
+        }
+    }
+    // Cuts that left a sector old, new and spoiled, in lists that go on.
+    assert!(sum.cuts.iter().all(|&count| count >= 50), "{sum:?}");
+    assert!(sum.starts > 500, "{sum:?}");
+    for (name, least) in [
+        ("start.from.storing", 20),
+        ("start.from.plain-write", 10),
+        ("start.from.verified-write", 10),
+        ("start.from.first-verify", 5),
+        ("start.from.present-write", 5),
+        ("start.from.present-reread", 5),
+        ("start.from.spare-write", 5),
+        ("start.from.spare-reread", 5),
+        ("start.from.first-read", 5),
+        ("start.from.starting", 5),
+        ("start.drops.a-place.with-their-store", 5),
+        ("start.drops.a-place.unstored", 1),
+        ("start.drops.others.with-their-store", 5),
+    ] {
+        let count = coverage::count(name);
+        assert!(count >= least, "{name}: {count}");
+    }
+}
+
+#[test]
+fn random_scripts_store_and_fail_to() {
+    coverage::clear();
+    for temper in temper::ALL {
+        simulate(950, 12_000, SOMETIMES, temper);
+        simulate(951, 12_000, SOMETIMES, temper);
+    }
+    for (name, least) in [
+        ("store.done.after-00-moved", 5),
+        ("store.done.after-01-moved", 5),
+        ("store.done.after-02-moved", 5),
+        ("store.done.after-00-failed", 5),
+        ("store.done.after-00-good", 3),
+        ("store.done.after-01-good", 3),
+        ("store.done.after-02-good", 3),
+        ("store.timeout.after-00-moved", 1),
+        ("store.timeout.after-01-moved", 1),
+        ("store.timeout.after-02-moved", 1),
+        ("store.timeout.after-00-failed", 3),
+        ("store.timeout.after-00-good", 1),
+        ("store.no-settle.after-00-failed", 1),
+        ("end.under-latch.others-unstored.good", 1),
+        ("end.under-latch.a-place-unstored.good", 1),
+        ("end.under-latch.a-place-unstored.failed", 1),
+        ("raise.idle.changed", 10),
+        ("no-store.fffffe", 3),
+        ("no-store.wrong-byte", 3),
+    ] {
+        let count = coverage::count(name);
+        assert!(count >= least, "{name}: {count}");
     }
 }
 

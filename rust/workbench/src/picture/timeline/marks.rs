@@ -33,6 +33,8 @@ pub enum Outcome {
     },
     Failed,
     Refused,
+    /// The power failed.
+    Cut,
     None,
 }
 
@@ -45,6 +47,11 @@ const WHITE_WORDS: &str = r##"font-weight="bold" text-anchor="middle" fill="#fff
 
 /// The bar of a trial's rereads is this wide.
 const REREADS: i32 = 78;
+
+/// A power cut: its words, the colour behind them, and its flash.
+const POWER_FAILS: &str = "power fails";
+const DARK: &str = "#1f2328";
+const FLASH: &str = r##"fill="#ffd33d""##;
 
 /// Errors have shades of red; that of a CRC error is `BAD`.
 const TIMEOUT: &str = "#a40e26";
@@ -130,6 +137,7 @@ impl Outcome {
     pub fn room(self) -> i32 {
         match self {
             Outcome::Good | Outcome::Failed | Outcome::Refused => 24,
+            Outcome::Cut => room(POWER_FAILS, 12) + 36,
             Outcome::Spared { .. } => room(&self.spared(), 12) + 24,
             Outcome::None => 0,
         }
@@ -141,6 +149,7 @@ impl Outcome {
             Outcome::Good => good(canvas, x + 14, y),
             Outcome::Failed => failed(canvas, x + 14, y),
             Outcome::Refused => refused(canvas, x + 14, y),
+            Outcome::Cut => cut(canvas, x + 6, y),
             Outcome::Spared { .. } => pill(canvas, x + 6, y, &self.spared()),
             Outcome::None => {}
         }
@@ -152,6 +161,7 @@ impl Outcome {
             Outcome::Good => ", good".to_string(),
             Outcome::Failed => ", failed".to_string(),
             Outcome::Refused => ", refused".to_string(),
+            Outcome::Cut => format!(", {POWER_FAILS}"),
             Outcome::Spared { .. } => format!(", spared: {}", self.spared()),
             Outcome::None => String::new(),
         }
@@ -185,6 +195,29 @@ fn refused(canvas: &mut Canvas, x: i32, y: i32) {
     canvas.path(&format!("M{} {y}h8", x - 4), WHITE_LINE);
 }
 
+/// A power cut: a flash, and its words.
+fn cut(canvas: &mut Canvas, x: i32, y: i32) {
+    let width = room(POWER_FAILS, 12) + 28;
+    let style = format!(r#"rx="3" fill="{DARK}""#);
+    canvas.rect((x, y - 9), (width, 18), &style);
+    flash(canvas, x + 11, y);
+    let at = (x + 19 + room(POWER_FAILS, 12) / 2, y + 4);
+    canvas.text(at, WHITE_WORDS, POWER_FAILS);
+}
+
+/// A flash around a place.
+fn flash(canvas: &mut Canvas, x: i32, y: i32) {
+    let steps = format!("M{} {}l-6 9h4l-2 6l7 -9h-4l3 -6Z", x + 1, y - 8);
+    canvas.path(&steps, FLASH);
+}
+
+/// A power cut in the legend.
+fn cut_key(canvas: &mut Canvas, x: i32, y: i32) {
+    let style = format!(r#"rx="3" fill="{DARK}""#);
+    canvas.rect((x - 9, y - 9), (18, 18), &style);
+    flash(canvas, x, y);
+}
+
 /// Words on a long round mark.
 fn pill(canvas: &mut Canvas, x: i32, y: i32, words: &str) {
     let width = room(words, 12) + 16;
@@ -211,5 +244,6 @@ pub fn keys() -> Vec<Key> {
         key(|c, x, y| pill(c, x - 12, y, "→"), "moved to a spare"),
         key(failed, "command failed"),
         key(refused, "refused"),
+        key(cut_key, POWER_FAILS),
     ]
 }
