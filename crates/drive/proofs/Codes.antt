@@ -232,6 +232,8 @@ pub record InOrder : Type 0 where
       × (codeOfCall (surface 2 []) starting 536 ≡ 0)
       × (codeOfCall (surface 2 []) (awaiting true (access.TrialWrite (trialOf 0 0 false 0 0))) 536 ≡ 0)
       × (codeOfCall raise unstored 536 ≡ 0)
+      × (codeOfCall (surface 0 (replicate 532 0)) (awaiting true (access.TrialRead (trialOf 0 4928 true 99 0))) 536 ≡ 0)
+      × (codeOfCall (surface 0 []) (awaiting true (access.Store close)) 536 ≡ 0)
       × (codeOfImage (at true phase.Idle) 532 ≡ 0)
 
 pub in-order : InOrder
@@ -243,5 +245,5 @@ in-order =
       then-3 = (refl, refl, refl);
       then-4 = (refl, refl);
       then-5 = (refl, refl);
-      none = (refl, refl, refl, refl, refl, refl, refl);
+      none = (refl, refl, refl, refl, refl, refl, refl, refl, refl);
     }
