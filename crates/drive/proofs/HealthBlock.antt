@@ -105,13 +105,14 @@ pub the-health-block-shows-a-latch-and-the-mark : (old : Drive) → Happens old 
 unfolding computed
 the-health-block-shows-a-latch-and-the-mark old = happens old healthLatched refl
 
--- With no table a read of FFFFFD fails as any read does, and leaves the part; a write to it is an invalid number all the same.
+-- Ten reads of the start give bytes that are no image. With no table a read of FFFFFD fails as any read does, and leaves the part; a
+-- write to it is an invalid number all the same.
 abbrev healthUnknown : Run
 healthUnknown =
     record {
       sectors = λ s. held (bytes 7);
       exchanges =
-          (unsettled ⇒ wait ∷ [])
+          replicate 9 (gives 7 ⇒ read 4960) ++ (gives 7 ⇒ wait ∷ [])
           ++ opens ++ asksWrite 1 0xFFFFFD (bytes 1) ++ (go ⇒ finished 0x01 0x00 0xC0 0 ∷ [])
           ++ opens ++ asksRead 0xFFFFFD 2 2 ++ (go ⇒ finished 0x01 0x08 0x00 0 ∷ []);
       part = bytes 1;

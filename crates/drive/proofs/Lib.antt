@@ -2,16 +2,10 @@ pub mod Computing
 pub mod Transcripts
 pub mod Examples
 pub mod Reached
-pub mod Overs
 pub mod Codes
 pub mod Verifies
-pub mod Rereads
 pub mod BadList
 pub mod Stores
-pub mod Cuts
-pub mod Latch
-pub mod Handshakes
-pub mod ShortData
 pub mod HealthBlock
 pub mod Buffers
 pub mod Lasts
@@ -19,8 +13,5 @@ pub mod SurfaceRules
 pub mod Forging
 pub mod Forged
 pub mod CutsForged
-pub mod ViewsForged
-pub mod MadeForged
-pub mod ToldForged
 pub mod Statements
 pub mod Noted

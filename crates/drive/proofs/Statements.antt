@@ -1,25 +1,20 @@
 -- The statements of the demands speak of each computed run, whatever record was started, and of what comes after it if the power
 -- fails then.
 use mathlib.Core.Path.{_≡_, refl}
-use mathlib.Core.Bool.{true, false}
-use mathlib.Core.List.{List, [], _∷_}
+use mathlib.Core.Bool.{false}
+use mathlib.Core.List.{List, []}
 use lib.ListN.{replicate}
 use Rattle.geometry.specs.Geometry.{tableSector}
 use Rattle.geometry.specs.declared.Block.{Block}
-use Rattle.image.specs.FormA.{formA}
-use Rattle.image.specs.FormB.{formB}
-use Rattle.drive.specs.declared.Answer.the-variants as answer
 use Rattle.drive.specs.declared.Drive.{Drive}
 use Rattle.drive.specs.Calls.{started}
-use Rattle.drive.specs.Cuts.{Cut, worldThen, historyAt, historyThen, CutKeeps, Tabled, GoodIsTabled, NoneGood, UnreadableTable}
-use Rattle.drive.specs.History.{held, unreadable, blank, Allows, candidatesThen}
+use Rattle.drive.specs.Cuts.{Cut, worldThen, historyThen, CutKeeps, Tabled, GoodIsTabled, NoneGood, UnreadableTable}
+use Rattle.drive.specs.History.{unreadable, blank, Allows, candidatesThen}
 use Rattle.drive.specs.Made.{unwritten, Made, WritesMade}
 use Rattle.drive.specs.Run.{Lawful, lines, Demand3}
-use Rattle.drive.specs.Surface.{Fate, old, new, spoiled}
+use Rattle.drive.specs.Surface.{Fate}
 use Rattle.drive.specs.Told.{none, Right, reportsOf, Demand3Told}
-use Rattle.drive.proofs.Computing.{computed}
-use Rattle.drive.proofs.Transcripts.{Exchange, moments, Run, Happens, history, calls, entered, bytes, sector}
-use Rattle.drive.proofs.Cuts.{storeAwaited, the-store-is-awaited, writeAwaited, the-write-is-awaited}
+use Rattle.drive.proofs.Transcripts.{Exchange, moments, Run, Happens, history, calls, entered}
 
 pub demand-3-of-a-run : Demand3 → (given : Drive) (r : Run) → Happens given r → Allows (r .sectors) blank (entered given r)
 demand-3-of-a-run demand given r h = demand given (replicate 536 1) refl (r .sectors) (calls r) (h .lawful)
@@ -61,37 +56,3 @@ pub an-unreadable-table-of-a-run :
     → Lawful (worldThen (failsAfter given r h f)) (moments ts)
     → NoneGood (r .sectors) (historyThen (failsAfter given r h f)) (lines (worldThen (failsAfter given r h f)) (moments ts))
 an-unreadable-table-of-a-run dark given r h f ts e l = dark (failsAfter given r h f) e (moments ts) l
-
--- HELD AGAINST TWO CUTS: at a store, and at a write whose bytes are ones
-
-abbrev atTheStore : Drive → Fate → Cut
-atTheStore given f = failsAfter given storeAwaited (the-store-is-awaited given) f
-
-abbrev atTheWrite : Drive → Fate → Cut
-atTheWrite given f = failsAfter given writeAwaited (the-write-is-awaited given) f
-
--- The premise of the unreadable table is met at a store alone, and there by one of the three.
-pub a-cut-leaves-the-table-old-new-or-unreadable :
-    (given : Drive) → (worldThen (atTheStore given spoiled) .sectors tableSector ≡ unreadable)
-    × (worldThen (atTheStore given old) .sectors tableSector ≡ held (formA [] []))
-    × (worldThen (atTheStore given new) .sectors tableSector ≡ held (formB 1 [] [] (17 ∷ [])))
-    × (worldThen (atTheWrite given spoiled) .sectors tableSector ≡ held (formA [] []))
-    × (worldThen (atTheWrite given spoiled) .sectors (record { 0 = 17 }) ≡ unreadable)
-unfolding computed
-a-cut-leaves-the-table-old-new-or-unreadable given = (refl, refl, refl, refl, refl)
-
--- The start that comes next is accepted: its record and buffer are new, and its read of the table is awaited.
-pub after-a-cut-a-start-is-under-way :
-    (given : Drive) → (worldThen (atTheWrite given old) .drive ≡ started) × (worldThen (atTheWrite given old) .buffer ≡ replicate 536 0) × (worldThen (atTheWrite given old) .asked ≡ answer.Read tableSector)
-unfolding computed
-after-a-cut-a-start-is-under-way given = (refl, refl, refl)
-
--- What the history has where the power fails, and after the start.
-pub the-history-at-a-cut :
-    (given : Drive) → (historyAt (atTheWrite given old) .candidates (record { 0 = 17 }) ≡ bytes 7 ∷ [])
-    × (historyAt (atTheWrite given old) .acting ≡ true)
-    × (historyThen (atTheWrite given old) .candidates (record { 0 = 17 }) ≡ bytes 1 ∷ bytes 7 ∷ [])
-    × (historyThen (atTheWrite given old) .place (record { 0 = 17 }) ≡ sector 17)
-    × (historyThen (atTheWrite given old) .acting ≡ false)
-unfolding computed
-the-history-at-a-cut given = (refl, refl, refl, refl, refl)

@@ -10,7 +10,7 @@ use Rattle.drive.specs.Run.{afterAll}
 use Rattle.drive.specs.Surface.{Fate, old, new, spoiled}
 use Rattle.drive.specs.Views.{Bytes, Where}
 use Rattle.drive.proofs.Computing.{computed}
-use Rattle.drive.proofs.Cuts.{findsAtHome, findsNothing, toTheWrite, cutThenRead}
+use Rattle.runs.proofs.Cuts.{findsAtHome, findsNothing, toTheWrite, cutThenRead}
 use Rattle.drive.proofs.Transcripts.{Said, Exchange, _⇒_, cuts, Run, history, from, calls, Happens, happens, bytes, disk, sector, go, gives, done, garbles, timesOut, unsettled, found, foundB, opens, stored, asksRead, asksWrite, rereads, asksHealth, healthBlock, wait, read, write, store, finished}
 
 -- THE ACCESSES OF A READ THAT MOVES ITS BLOCK, up to each of them

@@ -13,7 +13,7 @@ use Rattle.drive.specs.Made.{unwritten, wroteNext, goodWrite}
 use Rattle.drive.proofs.Computing.{computed}
 use Rattle.drive.proofs.Forging.{block, not-anywhere, says, ends, shows, offers, reads, writes, gives, garbles, found, asksWrite}
 use Rattle.drive.proofs.Lasts.{AtLast}
-use Rattle.drive.proofs.MadeForged.{goesTo, Asks, AllMade, last-asks}
+use Rattle.runs.proofs.MadeForged.{goesTo, Asks, AllMade, last-asks}
 use Rattle.drive.proofs.Transcripts.{go, done, timesOut, command}
 
 -- Moves to spare 0 by a trial with these rereads, before the last one, which is good.

@@ -12,10 +12,10 @@ use Rattle.drive.specs.History.{blank}
 use Rattle.drive.specs.Told.{Report, began, cut, found, placed, written, attempted, given, nothing, reportOf, reportAt, reportsOf}
 use Rattle.drive.proofs.Computing.{computed}
 use Rattle.drive.proofs.Transcripts.{Run, entered, bytes, disk}
-use Rattle.drive.proofs.Rereads.{threeBlocks, unreadableAtFirst}
+use Rattle.runs.proofs.Rereads.{threeBlocks, unreadableAtFirst}
 use Rattle.runs.proofs.Moves.{noSpareUnused, failedReads}
-use Rattle.drive.proofs.Latch.{latched}
-use Rattle.drive.proofs.Cuts.{twoCuts, startRefused, tableUnreadable}
+use Rattle.runs.proofs.Latch.{latched}
+use Rattle.runs.proofs.Cuts.{twoCuts, startRefused, tableUnreadable}
 use Rattle.runs.proofs.MoveCuts.{rewriteUnreadable, writeCutNew}
 use Rattle.runs.proofs.Week.{week}
 

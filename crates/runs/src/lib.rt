@@ -1,1 +1,1 @@
-// No code: runs of `drive`'s definitions that are long to compute, apart from `drive` so that its edits do not pay for them.
+// No code: runs and forged lists computed from the definitions of `drive`, apart from it so that its edits do not pay for them.

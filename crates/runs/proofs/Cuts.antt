@@ -1,17 +1,24 @@
 -- POWER CUTS, computed: at a write, at a store and with nothing pending, and the next start. Document 02, request 7. Cuts at each
--- access of a move are in `MoveCuts` of `runs`.
-use mathlib.Core.Path.{refl}
+-- access of a move are in `MoveCuts`.
+use mathlib.Core.Path.{_≡_, refl}
+use mathlib.Core.Bool.{true, false}
 use mathlib.Core.List.{List, [], _∷_, _++_}
 use Prim.Native.Nat.{ℕ}
 use lib.ListN.{replicate}
+use Rattle.geometry.specs.Geometry.{tableSector}
 use Rattle.image.specs.FormA.{formA}
+use Rattle.image.specs.FormB.{formB}
+use Rattle.drive.specs.declared.Answer.the-variants as answer
 use Rattle.drive.specs.declared.Drive.{Drive}
 use Rattle.drive.specs.Calls.{raise, feed, surface, started}
+use Rattle.drive.specs.Cuts.{Cut, worldThen, historyAt, historyThen}
+use Rattle.drive.specs.History.{held, unreadable}
 use Rattle.drive.specs.Run.{power}
 use Rattle.drive.specs.Surface.{Fate, old, new, spoiled}
 use Rattle.drive.specs.Views.{Bytes}
 use Rattle.drive.proofs.Computing.{computed}
+use Rattle.drive.proofs.Statements.{failsAfter}
 use Rattle.drive.proofs.Transcripts.{Exchange, _⇒_, _⇏_, cuts, Run, Happens, happens, bytes, disk, sector, go, gives, done, garbles, timesOut, found, foundB, opens, stored, command, asksRead, asksWrite, asksTable, tenTimeouts, wait, offer, read, write, store, finished, refused}
 
 -- AFTER A START
 
@@ -210,3 +217,37 @@ firstImageLater =
 pub the-first-image-of-all-gives-sectors-and-candidates : (given : Drive) → Happens given firstImageLater
 unfolding computed
 the-first-image-of-all-gives-sectors-and-candidates given = happens given firstImageLater refl
+
+-- WHAT THE STATEMENTS OF THE DEMANDS SAY OF TWO CUTS: at a store, and at a write whose bytes are ones
+
+abbrev atTheStore : Drive → Fate → Cut
+atTheStore given f = failsAfter given storeAwaited (the-store-is-awaited given) f
+
+abbrev atTheWrite : Drive → Fate → Cut
+atTheWrite given f = failsAfter given writeAwaited (the-write-is-awaited given) f
+
+-- The premise of the unreadable table is met at a store alone, and there by one of the three.
+pub a-cut-leaves-the-table-old-new-or-unreadable :
+    (given : Drive) → (worldThen (atTheStore given spoiled) .sectors tableSector ≡ unreadable)
+    × (worldThen (atTheStore given old) .sectors tableSector ≡ held (formA [] []))
+    × (worldThen (atTheStore given new) .sectors tableSector ≡ held (formB 1 [] [] (17 ∷ [])))
+    × (worldThen (atTheWrite given spoiled) .sectors tableSector ≡ held (formA [] []))
+    × (worldThen (atTheWrite given spoiled) .sectors (record { 0 = 17 }) ≡ unreadable)
+unfolding computed
+a-cut-leaves-the-table-old-new-or-unreadable given = (refl, refl, refl, refl, refl)
+
+-- The start that comes next is accepted: its record and buffer are new, and its read of the table is awaited.
+pub after-a-cut-a-start-is-under-way :
+    (given : Drive) → (worldThen (atTheWrite given old) .drive ≡ started) × (worldThen (atTheWrite given old) .buffer ≡ replicate 536 0) × (worldThen (atTheWrite given old) .asked ≡ answer.Read tableSector)
+unfolding computed
+after-a-cut-a-start-is-under-way given = (refl, refl, refl)
+
+-- What the history has where the power fails, and after the start.
+pub the-history-at-a-cut :
+    (given : Drive) → (historyAt (atTheWrite given old) .candidates (record { 0 = 17 }) ≡ bytes 7 ∷ [])
+    × (historyAt (atTheWrite given old) .acting ≡ true)
+    × (historyThen (atTheWrite given old) .candidates (record { 0 = 17 }) ≡ bytes 1 ∷ bytes 7 ∷ [])
+    × (historyThen (atTheWrite given old) .place (record { 0 = 17 }) ≡ sector 17)
+    × (historyThen (atTheWrite given old) .acting ≡ false)
+unfolding computed
+the-history-at-a-cut given = (refl, refl, refl, refl, refl)
