@@ -1,4 +1,4 @@
--- Request 7 of document 02: after a cut a good read gives a candidate, and with the table unreadable nothing is good.
+-- Request 7 of document 02: after a cut a good read gives a candidate, and where a start finds the table unreadable nothing is good.
 use mathlib.Core.Path.{_≡_, refl, sym, subst, ap, _∙_}
 use mathlib.Core.Bool.{Bool, true, false, cond, _&&_}
 use mathlib.Core.List.{List, [], _∷_}
@@ -19,7 +19,7 @@ use Rattle.drive.specs.History.{held, unreadable, Sectors, Entry, History, isTa
 use Rattle.drive.specs.Surface.{target, brings, Fate}
 use Rattle.drive.specs.Run.{Event, World, Moment, call, power, sectorsAfter, after, rule, unless, Permits, made, Lawful, lines}
 use Rattle.drive.specs.Told.{none, Right, reportsOf}
-use Rattle.drive.specs.Cuts.{Cut, worldAt, historyAt, startAt, worldThen, historyThen, CutKeeps, goodReport, NoneGood, UnreadableTable}
+use Rattle.drive.specs.Cuts.{Cut, worldAt, historyAt, startAt, worldThen, historyThen, CutKeeps, goodReport, NoneGood, UnreadableTable, UnreadableAtFirst}
 use Rattle.drive.specs.Views.{Bytes, Where, nowhere, at, ofAnswer}
 use Rattle.demands.proofs.Sim.{Shake, resting, offer1, heads, offer2, offer3, offer4, takes, offer6, Sim, at-start, at-rest, at-work, at-store, Kept, entryOf}
 use Rattle.demands.proofs.Entries.{no-learn}
@@ -141,3 +141,6 @@ none-good m k (power d v x ∷ ms) ok = none-good (began m d v x) (dark-start m 
 
 pub unreadable-table : UnreadableTable
 unreadable-table c e ms ok = none-good (sim-then c) (record { lost = e; none = not-found-then c }) ms ok
+
+pub unreadable-at-first : UnreadableAtFirst
+unreadable-at-first given lent n sectors e ms ok = none-good (sim-begins given lent n sectors) (record { lost = e; none = refl }) ms ok

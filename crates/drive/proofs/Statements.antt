@@ -8,7 +8,7 @@ use Rattle.geometry.specs.Geometry.{tableSector}
 use Rattle.geometry.specs.declared.Block.{Block}
 use Rattle.drive.specs.declared.Drive.{Drive}
 use Rattle.drive.specs.Calls.{started}
-use Rattle.drive.specs.Cuts.{Cut, worldThen, historyThen, CutKeeps, Tabled, GoodIsTabled, NoneGood, UnreadableTable}
+use Rattle.drive.specs.Cuts.{Cut, worldThen, historyThen, CutKeeps, Tabled, GoodIsTabled, NoneGood, UnreadableTable, UnreadableAtFirst}
 use Rattle.drive.specs.History.{unreadable, blank, Allows, candidatesThen}
 use Rattle.drive.specs.Made.{unwritten, Made, WritesMade}
 use Rattle.drive.specs.Run.{Lawful, lines, Demand3}
@@ -28,6 +28,10 @@ writes-made-of-a-run made given r h = made given (replicate 536 1) refl (r .sect
 
 pub good-is-tabled-of-a-run : GoodIsTabled → (given : Drive) (r : Run) → Happens given r → Tabled (r .sectors) blank (entered given r)
 good-is-tabled-of-a-run tabled given r h = tabled given (replicate 536 1) refl (r .sectors) (calls r) (h .lawful)
+
+pub an-unreadable-table-at-first-of-a-run :
+    UnreadableAtFirst → (given : Drive) (r : Run) → Happens given r → r .sectors tableSector ≡ unreadable → NoneGood (r .sectors) blank (entered given r)
+an-unreadable-table-at-first-of-a-run dark given r h e = dark given (replicate 536 1) refl (r .sectors) e (calls r) (h .lawful)
 
 -- THE POWER FAILS after a run, with what is pending left so; next comes a start, and then these exchanges
 

@@ -103,7 +103,7 @@ convertOf from to =
     (cond (wellFormed from) (record { answer = answer.Wait; bytes = converted from }) (unconverted (refusalFor (faultOf from)) to))
     (unconverted refusal.Buffer to)
 
--- Names the calls of demand 3's list.
+-- Names the calls of demand 3's list but start, which `Moment` in Run adds.
 pub data Call : Type 0 where
   raise : Call
   lower : ℕ → Call

@@ -19,14 +19,14 @@ use Rattle.drive.specs.Views.{Bytes, ofAnswer}
 -- Holds where the power fails: after any list of calls and starts that the surface's rules permit, whatever is awaited then. Next
 -- comes a start, given any record and any buffer of 536 bytes.
 pub record Cut : Type 0 where
-  pub given : Drive
-  pub lent : Bytes
+  pub given : Drive  -- what the first start of the list was given
+  pub lent : Bytes  -- and its buffer
   pub whole : length lent ≡ 536
   pub sectors : Sectors
-  pub before : List Moment
+  pub before : List Moment  -- what happened up to the cut
   pub lawful : Lawful (begins (startOf given lent) sectors) before
-  pub drive : Drive
-  pub buffer : Bytes
+  pub drive : Drive  -- what the next start is given, whatever the drive had
+  pub buffer : Bytes  -- and its buffer
   pub full : length buffer ≡ 536
   pub fate : Fate  -- what becomes of a pending write
 
@@ -47,8 +47,9 @@ worldThen c = after (worldAt c) (power (c .drive) (c .buffer) (c .fate)) (startA
 abbrev pub historyThen : Cut → History
 historyThen c = begun (historyAt c) (startAt c .step .answer)
 
--- Says that after it each read of a block reported good gives one of the candidates that the history had where the power failed,
--- the interrupted write's bytes being one, or the bytes of a later write.
+-- Says that after it, over any further calls and starts, each read of a block reported good gives one of the candidates that the
+-- history had where the power failed, the bytes of an interrupted write to that block being one; or the bytes of a later write; or,
+-- if no table had been read by then, what its sector held as the list began.
 abbrev pub CutKeeps : Type 0
 CutKeeps =
     (c : Cut) (ms : List Moment) → Lawful (worldThen c) ms
@@ -77,8 +78,16 @@ NoneGood start H [] = Unit {0}
 NoneGood start H (entry o ∷ xs) = (goodReport H o ≡ false) × NoneGood start (past start H (entry o)) xs
 NoneGood start H (restart a ∷ xs) = NoneGood start (past start H (restart a)) xs
 
--- Says that there is none for ever, where the start meets the table's sector unreadable: "with the table spoiled none is good".
+-- Says that there is none for ever, further starts included, once a start after a cut finds the table's sector unreadable: "with the
+-- table spoiled none is good".
 abbrev pub UnreadableTable : Type 0
 UnreadableTable =
     (c : Cut) → worldThen c .sectors tableSector ≡ unreadable
     → (ms : List Moment) → Lawful (worldThen c) ms → NoneGood (c .sectors) (historyThen c) (lines (worldThen c) ms)
+
+-- Says the same of the first start of a list.
+abbrev pub UnreadableAtFirst : Type 0
+UnreadableAtFirst =
+    (given : Drive) (lent : Bytes) → length lent ≡ 536
+    → (sectors : Sectors) → sectors tableSector ≡ unreadable
+    → (ms : List Moment) → Lawful (begins (startOf given lent) sectors) ms → NoneGood sectors blank (lines (begins (startOf given lent) sectors) ms)

@@ -1,4 +1,4 @@
--- A WRITE REPORTED GOOD WAS MADE, in every list of calls: its command asked for a write s of its bytes at the sector where its
+-- A WRITE REPORTED GOOD WAS MADE, in every list of calls and starts: its command asked for a write s of its bytes at the sector where its
 -- block then is, and that write was answered 0. If the block moved, at least 70 rereads of the spare were answered 0 with its
 -- bytes. A small judge beside the history says so; it reads the same entries.
 use mathlib.Core.Path.{_≡_}
@@ -71,7 +71,7 @@ Made start H w (entry o ∷ xs) =
     (goodWrite H o ≡ true → IsMade start H w o) × Made start (past start H (entry o)) (wroteNext H w o) xs
 Made start H w (restart a ∷ xs) = Made start (past start H (restart a)) w xs
 
--- Says that no list of calls reports "writes good that were never made": after any start, with any sectors and any outcome
+-- Says that no list of calls and starts reports "writes good that were never made": after any start, with any sectors and any outcome
 -- that the surface's rules permit.
 abbrev pub WritesMade : Type 0
 WritesMade =

@@ -1,5 +1,6 @@
--- DEMAND 1, with the bound of requests 4 and 7 of document 02: a command is over by finished, and by nothing else. A start is over
--- after at most ten accesses, and a store after one. All this for answers of the surface that the codes 4 and 5 do not refuse.
+-- DEMAND 1, with the bound of requests 4 and 7 of document 02: a command is over by finished and, until the next start, by nothing
+-- else. A start is over after at most ten accesses, and a store after one, which finishes its command. All this for answers of the
+-- surface that the codes 4 and 5 do not refuse.
 use mathlib.Core.Path.{_≡_}
 use mathlib.Core.Bool.{Bool, true, false, not, _&&_}
 use mathlib.Core.List.{List, [], _∷_}
@@ -94,8 +95,8 @@ SuitsExactly =
     (d : Drive) (u : List ℕ) (x : Reply) → recordOk d ≡ true → length u ≡ 536
     → ofAnswer (replied d u x .step .answer) .refused ≡ not (suits (d .state .phase) x)
 
--- Says that a command is over by finished and by nothing else: whatever call of the list comes while it is under way, it is
--- under way afterwards exactly if finished was not answered.
+-- Says that a command is over by finished and, until the next start, by nothing else: whatever other call comes while it is under
+-- way, it is under way afterwards exactly if finished was not answered.
 abbrev pub OverByFinished : Type 0
 OverByFinished =
     (c : Call) (d : Drive) (u : List ℕ) → isCommand (d .state .phase) ≡ true
@@ -113,6 +114,6 @@ StartOver =
     (old : Drive) (lent : List ℕ) → length lent ≡ 536
     → OverWithin 10 start (startOf old lent .step .drive) (startOf old lent .bytes)
 
--- Says that a store is over in time. "one write of the image to 4960"
+-- Says that a store is over after one answer, whatever it is, and its command is finished with it. "one access more"
 abbrev pub StoreOver : Type 0
 StoreOver = (d : Drive) (u : List ℕ) → recordOk d ≡ true → length u ≡ 536 → awaits ofStore (d .state .phase) ≡ true → OverWithin 1 store d u

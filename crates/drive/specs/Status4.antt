@@ -1,4 +1,4 @@
--- STATUS 4 IS E, however the read ends: good, lost, stopped by answer 3, or through the move routine.
+-- STATUS 4 IS E, however the read ends: good, lost, stopped by answer 3, through sparing, or with a store.
 use mathlib.Core.Path.{_≡_}
 use mathlib.Core.Bool.{true, cond, _||_}
 use mathlib.Core.List.{List, [], _∷_}

@@ -135,9 +135,10 @@ latches ending.Latched = true
 latches ending.BadFull = false
 latches ending.NoSpare = false
 
--- Returns the four status bytes of a finish. Status 1: bit 0 for a command that failed, and document 02, request 7, "unless that
--- store is done": unstored; bit 4 for answer 3, to the store too (unsettled), and under the latch; "3 any CRC error, 2 any timeout
--- met." "Status 3 bit 7: first finish after start or reset" "Status 4: E. All other bits 0 (house)."
+-- Returns the four status bytes of a finish. Status 1: bit 0 for a command that failed, or with unstored, document 02, request 7:
+-- its store was not done, or the latch forbids one while some block's place is unstored; bit 4 for answer 3, to the store too
+-- (unsettled), and for a command that the latch fails; "3 any CRC error, 2 any timeout met." "Status 3 bit 7: first finish after
+-- start or reset" "Status 4: E. All other bits 0 (house)."
 unfoldable pub statusOf : Ending → Seen → Bool → Bool → Bool → Four
 statusOf e s unstored unsettled fresh =
     record {

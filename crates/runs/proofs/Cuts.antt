@@ -15,7 +15,7 @@ use Rattle.drive.specs.Cuts.{Cut, worldThen, historyAt, historyThen}
 use Rattle.drive.specs.History.{held, unreadable}
 use Rattle.drive.specs.Run.{power}
 use Rattle.drive.specs.Surface.{Fate, old, new, spoiled}
-use Rattle.drive.specs.Views.{Bytes}
+use Rattle.drive.specs.Views.{Bytes, nowhere}
 use Rattle.drive.proofs.Computing.{computed}
 use Rattle.drive.proofs.Statements.{failsAfter}
 use Rattle.drive.proofs.Transcripts.{Exchange, _⇒_, _⇏_, cuts, Run, Happens, happens, bytes, disk, sector, go, gives, done, garbles, timesOut, found, foundB, opens, stored, command, asksRead, asksWrite, asksTable, tenTimeouts, wait, offer, read, write, store, finished, refused}
@@ -201,6 +201,24 @@ pub a-done-store-can-leave-the-table-unreadable : (given : Drive) → Happens gi
 unfolding computed
 a-done-store-can-leave-the-table-unreadable given = happens given doneStoreUnreadable refl
 
+-- A list may begin with it unreadable. Its ten reads fail, and so does every read and write of a block, after the next start too.
+abbrev tableNeverRead : Run
+tableNeverRead =
+    record {
+      sectors = λ s. unreadable;
+      exchanges =
+          replicate 9 (garbles 7 ⇒ read 4960) ++ (garbles 7 ⇒ wait ∷ []) ++ opens ++ asksRead 17 0 1 ++ (go ⇒ finished 0x01 0x08 0x80 0 ∷ [])
+          ++ opens ++ asksWrite 1 17 (bytes 1) ++ (go ⇒ finished 0x41 0x08 0x00 0 ∷ cuts old ∷ [])
+          ++ replicate 9 (timesOut ⇒ read 4960) ++ (timesOut ⇒ wait ∷ []) ++ opens ++ asksRead 17 0 1 ++ (go ⇒ finished 0x01 0x08 0x80 0 ∷ []);
+      part = bytes 0;
+      place = nowhere;
+      candidates = [];
+    }
+
+pub with-the-table-unreadable-at-first-nothing-is-good : (given : Drive) → Happens given tableNeverRead × (tableNeverRead .sectors tableSector ≡ unreadable)
+unfolding computed
+with-the-table-unreadable-at-first-nothing-is-good given = (happens given tableNeverRead refl, refl)
+
 -- A start that reads no image leaves the sectors, and the first image may come after it.
 abbrev firstImageLater : Run
 firstImageLater =
@@ -226,7 +244,7 @@ atTheStore given f = failsAfter given storeAwaited (the-store-is-awaited given) 
 abbrev atTheWrite : Drive → Fate → Cut
 atTheWrite given f = failsAfter given writeAwaited (the-write-is-awaited given) f
 
--- The premise of the unreadable table is met at a store alone, and there by one of the three.
+-- Of these two cuts the premise of the unreadable table is met at the store alone, and there by one of the three.
 pub a-cut-leaves-the-table-old-new-or-unreadable :
     (given : Drive) → (worldThen (atTheStore given spoiled) .sectors tableSector ≡ unreadable)
     × (worldThen (atTheStore given old) .sectors tableSector ≡ held (formA [] []))
