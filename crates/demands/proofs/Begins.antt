@@ -1,7 +1,7 @@
 -- EVERY TRIAL BEGINS WITH NO REREAD, and none under the latch, in every list of calls after a start; and once its write is answered
 -- 0, its first reread is awaited. So `trial-100` is said of each of them.
 use mathlib.Core.Path.{_≡_, refl, subst, _∙_}
-use mathlib.Core.Bool.{Bool, true, false, not, _&&_}
+use mathlib.Core.Bool.{Bool, true, false, not, _&&_, _||_}
 use mathlib.Core.List.{List, [], _∷_}
 use Prim.Native.Nat.{ℕ, _+_}
 use borrow.Author.Tests.{eq-eqb, eqb-true, not-true}
@@ -30,9 +30,9 @@ use Rattle.drive.specs.declared.State.{State}
 use Rattle.drive.specs.declared.Trial.{Trial}
 use Rattle.drive.specs.declared.Turn.{Turn}
 use Rattle.buffer.specs.Runs.{same}
-use Rattle.drive.specs.Words.{dataOf}
+use Rattle.drive.specs.Words.{dataOf, latches}
 use Rattle.drive.specs.Records.{recordOk}
-use Rattle.drive.specs.Results.{finish}
+use Rattle.drive.specs.Results.{alters, finish}
 use Rattle.drive.specs.Handshake.{raised, acted, goesOn, lowered, fedTo, rested}
 use Rattle.drive.specs.Retries.{afterRead}
 use Rattle.drive.specs.Sparing.{tried, counted}
@@ -43,11 +43,11 @@ use Rattle.drive.specs.Trials.{AwaitsReread}
 use Rattle.records.proofs.Ladders.{guarded-cases, fitting-cases, finish-cases, acted-cases, lowered-cases, NextSpare, Missed, Stopped, Verified, tried-cases, checked-cases, start-cases, lost-cases, settled-cases, write-cases, verify-cases}
 use Rattle.demands.proofs.Awaited.{ofPhase}
 
--- Says whether a trial whose write is awaited has no reread yet, and that no write but the store, and no verify or reread, is awaited
--- under the latch.
+-- Says whether a trial whose write is awaited has no reread yet, and that under the latch nothing but a read is awaited, a read
+-- command's or the start's: no write, no store, no verify, no reread.
 abbrev pub isFresh : Bool → Access → Bool
 isFresh latch (access.Start k) = true
-isFresh latch (access.Store k) = true
+isFresh latch (access.Store k) = not latch
 isFresh latch (access.Read r) = true
 isFresh latch (access.Write w) = not latch
 isFresh latch (access.Verify w) = not latch
@@ -64,7 +64,8 @@ Leaves x = fresh (x .state) ≡ true
 -- WHAT EACH RULE LEAVES
 module _ (l : State) (t : Table) where
   ends : (c : Change) (e : Ending) (s : Seen) (p : Part) → Leaves (finish l c e s p)
-  ends c e s p = finish-cases Leaves l c e s p (record { asks = λ q. refl; reports = λ q. refl })
+  ends c e s p =
+      finish-cases Leaves l c e s p (record { asks = and-right (l .marks .known && (alters c || l .marks .changed)) (not (latches e || l .marks .latch)); reports = λ q. refl })
 
   module _ (free : l .marks .latch ≡ false) where
     nexts : (n : ℕ) (c : Change) (b : Block) (s : Seen) {x y : Cause} → NextSpare Leaves n l c b s x y

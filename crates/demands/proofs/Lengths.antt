@@ -30,7 +30,7 @@ use Rattle.records.proofs.Ladders.{guarded-cases}
 abbrev Long : List ℕ → Type 0
 Long u = length u ≡ 536
 
-data-long : (u x : List ℕ) → Long u → length x ≡ 532 → Long (withData u x)
+pub data-long : (u x : List ℕ) → Long u → length x ≡ 532 → Long (withData u x)
 unfolding withData
 data-long u x h k = omega (arith, length-append (take 4 u) x, length-take 4 u)
 

@@ -25,6 +25,7 @@ pub mod Endings
 pub mod Status4
 pub mod Over
 pub mod ShutOut
+pub mod Stored
 pub mod Trials
 pub mod Begins
 pub mod Made

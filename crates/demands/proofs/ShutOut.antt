@@ -13,7 +13,7 @@ use lib.Seq.{take-all}
 use borrow.Author.Tests.{eqb-true, eq-eqb, ne-eqb, leb-true, ltb-false, le-ltb}
 use Rattle.geometry.specs.Geometry.{isBlock}
 use Rattle.geometry.specs.declared.Block.{Block}
-use Rattle.logic.proofs.Bools.{branch, clash, and-left, and-right}
+use Rattle.logic.proofs.Bools.{branch, clash, and-left, and-right, and-false}
 use Rattle.table.specs.declared.Table.{Table}
 use Rattle.table.specs.Tables.{spareList, killedNext}
 use Rattle.buffer.specs.Runs.{same}
@@ -44,7 +44,7 @@ use Rattle.drive.specs.declared.Target.{Target}
 use Rattle.drive.specs.declared.Trial.{Trial}
 use Rattle.drive.specs.declared.Turn.{Turn}
 use Rattle.drive.specs.Words.{dataOf, withData, rowOf, fails, statusOf, isRead, orderOf}
-use Rattle.drive.specs.Records.{recordOk, awaits}
+use Rattle.drive.specs.Records.{recordOk, stateOk, awaits}
 use Rattle.drive.specs.Values.{Typed}
 use Rattle.drive.specs.Results.{Out, changed, four, partLeft, statusLeft, outOf, withMarks, numbered, ended as at-end, reported, report, ends, stores, wantsStore, finish, clean}
 use Rattle.drive.specs.Handshake.{firstRead, noNumber, writes, overruns, acted}
@@ -59,6 +59,7 @@ use Rattle.drive.specs.TableRead.{OffersRead}
 use Rattle.drive.specs.Views.{ofAnswer}
 use Rattle.records.proofs.Ladders.{finish-cases, acted-cases, NextSpare, Missed, Stopped, tried-cases, checked-cases, lost-cases, settled-cases, write-cases, verify-cases}
 use Rattle.demands.proofs.Parts.{data-put, data-with}
+use Rattle.demands.proofs.Lengths.{data-long}
 use Rattle.demands.proofs.Numbers.{acts-on}
 use Rattle.demands.proofs.Awaited.{ofPhase}
 use Rattle.demands.proofs.Statuses.{good-is}
@@ -335,10 +336,17 @@ module _ (l : State) (t : Table) (cs bs u : List ℕ) where
       lost-cases Full l t r p (record { listed = λ e. quiet _ ending.Failed _ p refl; entered = λ e f. quiet _ ending.Failed _ p refl; full = λ e f. quiet _ ending.BadFull _ p refl })
   no-spare-read (outcome.Stop r) p = quiet _ ending.Latched _ p refl
 
--- Returns the result of a command that finished well, with these bytes in the data part; and of one that asks for the store first.
+-- Returns the result of a command that ended well and finished with these bytes in the data part: good, or failed by bit 0 alone for
+-- want of a store; and of one that asks for the store first.
+abbrev finishedWith : Bool → Table → List ℕ → State → Marks → Seen → List ℕ → Out
+finishedWith unstored t cs l m s bs =
+    record { step = record { drive = record { table = t; causes = cs; state = withMarks l (reported m) phase.Idle }; answer = answer.Finished }; bytes = four (statusOf ending.Good s unstored false (m .fresh)) ++ bs }
+
 abbrev pub goodWith : Table → List ℕ → State → Marks → Seen → List ℕ → Out
-goodWith t cs l m s bs =
-    record { step = record { drive = record { table = t; causes = cs; state = withMarks l (reported m) phase.Idle }; answer = answer.Finished }; bytes = four (statusOf ending.Good s false false (m .fresh)) ++ bs }
+goodWith = finishedWith false
+
+abbrev pub failsWith : Table → List ℕ → State → Marks → Seen → List ℕ → Out
+failsWith = finishedWith true
 
 abbrev pub goodFirst : Seen → Close
 goodFirst s = record { ending = ending.Good; seen = s }
@@ -347,11 +355,20 @@ abbrev pub storesWith : Table → List ℕ → State → Seen → List ℕ → L
 storesWith t cs l s u bs =
     record { step = record { drive = record { table = t; causes = cs; state = withMarks (numbered l) (l .marks) (phase.Awaiting (access.Store (goodFirst s))) }; answer = answer.Store }; bytes = withData u bs }
 
+-- What fails for want of a store stores nothing: it is under the latch.
+wants-none : (m : Marks) → wantsStore m ≡ true → stores m ≡ false
+wants-none m h = and-false (m .known && m .changed) (not (m .latch)) (ap not (and-left (m .latch) (m .moved) h))
+
 -- A FIRST GOOD READ IS GOOD, with those bytes, if nothing is to be stored, and under the latch no place is unstored.
 module _ (r : Retry) (l : State) (t : Table) (cs u bs : List ℕ) (equal : Bool) (f : r .first ≡ true) (g : r .good ≡ false) (lu : length u ≡ 536) (lb : length bs ≡ 532) where
   pub first-good : stores (l .marks) ≡ false → wantsStore (l .marks) ≡ false → outOf t cs bs u (answered (phase.Awaiting (access.Read r)) l t 0 bs equal) ≡ goodWith t cs l (l .marks) (r .seen) bs
   unfolding answered fitting follows afterRead reads keptPart partLeft statusLeft finish
   first-good e h = rw (eq-eqb (length bs) 532 lb, f, g, e, h, take-all 532 bs (omega arith), data-put u bs lu lb, data-with u bs lu)
+
+  -- Under the latch with a place unstored it fails, by bit 0 alone.
+  pub first-fails : wantsStore (l .marks) ≡ true → outOf t cs bs u (answered (phase.Awaiting (access.Read r)) l t 0 bs equal) ≡ failsWith t cs l (l .marks) (r .seen) bs
+  unfolding answered fitting follows afterRead reads keptPart partLeft statusLeft finish
+  first-fails h = rw (eq-eqb (length bs) 532 lb, f, g, wants-none (l .marks) h, h, take-all 532 bs (omega arith), data-put u bs lu lb, data-with u bs lu)
 
   -- With something to store the store comes first,
   pub first-stores : stores (l .marks) ≡ true → outOf t cs bs u (answered (phase.Awaiting (access.Read r)) l t 0 bs equal) ≡ storesWith t cs l (r .seen) u bs
@@ -364,7 +381,8 @@ pub then-good : (s : Seen) (l : State) (t : Table) (cs u bs : List ℕ) (equal :
 unfolding answered fitting follows storeAnswered partLeft statusLeft
 then-good s l t cs u bs equal lu = rw (data-with u bs lu)
 
--- A READ OF A BLOCK WHOSE FIRST ANSWER IS 0 FINISHES GOOD WITH THOSE BYTES.
+-- A READ OF A BLOCK WHOSE FIRST ANSWER IS 0 is good with those bytes: at once if nothing is to be stored and under the latch no
+-- place is unstored, and after its store if that is done.
 module _ (v : ℕ) (d : Drive) (u bs : List ℕ) (o : OffersRead v d) (ty : Typed d) (lu : length u ≡ 536) (lb : length bs ≡ 532) (i : isBlock v ≡ true) where
   abbrev order : Order
   order = orderOf (d .state .command)
@@ -397,10 +415,27 @@ module _ (v : ℕ) (d : Drive) (u bs : List ℕ) (o : OffersRead v d) (ty : Type
   unfolding surfaceOf
   gives-it e h = rw (asked-ok, eq-eqb (length u) 536 lu) (first-good _ (asked .step .drive .state) (d .table) (d .causes) u bs _ refl refl lu lb e h)
 
-  -- or with the store.
-  pub stores-it : stores (d .state .marks) ≡ true → surfaceOf (asked .step .drive) u 0 bs ≡ storesWith (d .table) (d .causes) (asked .step .drive .state) clean u bs
+  -- or failed by bit 0 alone, under the latch with a place unstored;
+  pub fails-it : wantsStore (d .state .marks) ≡ true → surfaceOf (asked .step .drive) u 0 bs ≡ failsWith (d .table) (d .causes) (asked .step .drive .state) (d .state .marks) clean bs
+  unfolding surfaceOf
+  fails-it h = rw (asked-ok, eq-eqb (length u) 536 lu) (first-fails _ (asked .step .drive .state) (d .table) (d .causes) u bs _ refl refl lu lb h)
+
+  -- or it asks for the store,
+  abbrev storing : Out
+  storing = storesWith (d .table) (d .causes) (asked .step .drive .state) clean u bs
+
+  pub stores-it : stores (d .state .marks) ≡ true → surfaceOf (asked .step .drive) u 0 bs ≡ storing
   unfolding surfaceOf
   stores-it e = rw (asked-ok, eq-eqb (length u) 536 lu) (first-stores _ (asked .step .drive .state) (d .table) (d .causes) u bs _ refl refl lu lb e)
+
+  storing-ok : recordOk (storing .step .drive) ≡ true
+  unfolding recordOk stateOk
+  storing-ok = rw (o .known) (rw (o .offered) at (o .valid))
+
+  -- and that store's answer 0 ends it, good, with those bytes.
+  pub then-gives-it : surfaceOf (storing .step .drive) (storing .bytes) 0 [] ≡ goodWith (d .table) (d .causes) (storing .step .drive .state) (storeMarks (d .state .marks) 0) clean bs
+  unfolding surfaceOf
+  then-gives-it = rw (storing-ok, eq-eqb (length (withData u bs)) 536 (data-long u bs lu lb)) (then-good clean (storing .step .drive .state) (d .table) (d .causes) u bs _ lu)
 
   -- However it ends, its status 4 is the number of the R rereads answered 1 or 2, R being the fifth byte of the command.
   pub status-4-of-it : (x : Reply) (xs : List Reply) → Completes command (asked .step .drive) u (x ∷ xs)
