@@ -1,6 +1,6 @@
--- Form B, computed: an image byte by byte, each clause broken by itself, and the two forms turned into one another.
+-- Both forms, computed: an image of each byte by byte, each clause broken by itself, and the two forms turned into one another.
 use mathlib.Core.Path.{_≡_, refl}
-use mathlib.Core.Bool.{Bool, true, false}
+use mathlib.Core.Bool.{Bool, true, false, not, _&&_}
 use mathlib.Core.List.{List, [], _∷_, _++_}
 use Prim.Native.Nat.{ℕ, zero, suc, _%_}
 use lib.ListN.{take, drop, replicate}
@@ -15,7 +15,7 @@ use Rattle.image.specs.FormA.{listPart, framedPart, formA, framedA, form
 use Rattle.image.specs.FormB.{twoBytes, headB, quad, quads, listedPart, summedPart, formB, twoAt, causesFrom, sumFits, framedB, fieldsFit, formedB}
 use Rattle.image.specs.Images.{wellFormed, faultOf, tableOf, runOf, causesOf, readOf, converted}
 
--- AN IMAGE, BYTE BY BYTE: run number 01020304, block 17 on spare 0 after a CRC error, spare 1 dead by no settle, blocks 5 and 9727 bad.
+-- FORM B, BYTE BY BYTE: run number 01020304, block 17 on spare 0 after a CRC error, spare 1 dead by no settle, blocks 5 and 9727 bad.
 
 abbrev made : List ℕ
 made = formB 0x01020304 (17 ∷ dead ∷ []) (1 ∷ 3 ∷ []) (5 ∷ 9727 ∷ [])
@@ -62,7 +62,7 @@ pub reads : Reads
 unfolding memberOf entryOk entriesOk causesOk same allAre sum narrow entryAt entriesFrom entriesFit twoAt causesFrom sumFits framedB fieldsFit formedB wellFormed tableOf runOf causesOf
 reads = record { formed = refl; run = refl; causes = refl; spares = refl; bads = refl; empty-lists = refl }
 
--- EACH CLAUSE BY ITSELF
+-- EACH CLAUSE OF FORM B BY ITSELF
 
 -- Returns the bytes with another one at place k.
 abbrev with : ℕ → ℕ → List ℕ → List ℕ
@@ -125,8 +125,6 @@ pub record Refuses : Type 0 where
   pub spares-32 : wellFormed (sized 32 100) ≡ true
   pub spares-33 : Field (sized 33 0)
   pub bads-101 : Field (sized 0 101)
-  -- a form A that is broken is no form B
-  pub broken-a : faultOf (with 0 0x51 (formA [] [])) ≡ fault.Form
 
 pub refuses : Refuses
 unfolding memberOf entryOk entriesOk causesOk same allAre sum wide triple triples narrow entryAt entriesFrom entriesFit listPart framedPart formA framedA formedA twoBytes headB quad quads listedPart summedPart formB twoAt causesFrom sumFits framedB fieldsFit formedB wellFormed faultOf readOf
@@ -162,7 +160,136 @@ refuses =
       spares-32 = refl;
       spares-33 = refl;
       bads-101 = refl;
-      broken-a = refl;
+    }
+
+-- FORM A, BYTE BY BYTE: block 17 on spare 0, spare 1 dead, block 9727 bad. The counts differ, so that neither stands for the other.
+abbrev spelledA : List ℕ
+spelledA =
+    0x50 ∷ 0x52 ∷ 0x4F ∷ 0x46 ∷ 0x49 ∷ 0x4C ∷ 0x45
+    ∷ 0x20 ∷ 0x20 ∷ 0x20 ∷ 0x20 ∷ 0x20 ∷ 0x20
+    ∷ 0x00 ∷ 0x00 ∷ 0x00
+    ∷ 0x03 ∷ 0x90
+    ∷ 0x00 ∷ 0x26 ∷ 0x00
+    ∷ 0x02 ∷ 0x14
+    ∷ 0x20
+    ∷ 0x02 ∷ 0x01
+    ∷ 0x00 ∷ 0x00 ∷ 0x11
+    ∷ 0xFF ∷ 0xFF ∷ 0xFE
+    ∷ 0xFF ∷ 0xFF ∷ 0xFF
+    ∷ 0x00 ∷ 0x25 ∷ 0xFF
+    ∷ 0xFF ∷ 0xFF ∷ 0xFF
+    ∷ replicate 491 0x00
+
+pub byte-by-byte-a : formA (17 ∷ dead ∷ []) (9727 ∷ []) ≡ spelledA
+unfolding wide triple triples listPart framedPart formA
+byte-by-byte-a = refl
+
+-- Holds the image of empty lists: the two marks follow the counts.
+abbrev emptyA : List ℕ
+emptyA = take 24 spelledA ++ (0x00 ∷ 0x00 ∷ replicate 6 0xFF) ++ replicate 500 0x00
+
+pub empty-byte-by-byte-a : formA [] [] ≡ emptyA
+unfolding wide triple triples listPart framedPart formA
+empty-byte-by-byte-a = refl
+
+-- Returns an image of so many entries: dead spares, and the first blocks.
+abbrev sizedA : ℕ → ℕ → List ℕ
+sizedA n m = formA (replicate n dead) (blocks m)
+
+-- Says that it reads as what was written, and which other tables are read.
+pub record ReadsA : Type 0 where
+  pub formed : wellFormed spelledA ≡ true
+  pub spares : spareList (tableOf spelledA) ≡ 17 ∷ dead ∷ []
+  pub bads : badList (tableOf spelledA) ≡ 9727 ∷ []
+  pub empty-lists : wellFormed emptyA ≡ true
+  pub full-lists : wellFormed (sizedA 32 100) ≡ true
+  pub in-both-lists : wellFormed (formA (17 ∷ []) (17 ∷ [])) ≡ true
+
+pub reads-a : ReadsA
+unfolding memberOf entryOk entriesOk same allAre wide triple triples narrow entryAt entriesFrom entriesFit listPart framedPart formA framedA formedA wellFormed tableOf
+reads-a = record { formed = refl; spares = refl; bads = refl; empty-lists = refl; full-lists = refl; in-both-lists = refl }
+
+-- EACH CLAUSE OF FORM A BY ITSELF
+
+-- Says that the reader finds no table, for bytes of neither form.
+abbrev Neither : List ℕ → Type 0
+Neither i = readOf i .found ≡ found.Malformed fault.Form
+
+-- Says the same of the image with the byte at place k another one.
+abbrev Broken : ℕ → ℕ → Type 0
+Broken k v = Neither (with k v spelledA)
+
+-- Says whether each of the first n bytes counts: with 01 in its place there is no image.
+abbrev allCount : ℕ → Bool
+allCount zero = true
+allCount (suc k) = not (wellFormed (with k 0x01 spelledA)) && allCount k
+
+-- Says that each clause is tested.
+pub record RefusesA : Type 0 where
+  -- the length
+  pub short : Neither (take 531 spelledA)
+  pub long : Neither (spelledA ++ (0x00 ∷ []))
+  -- the header, each byte of it
+  pub header : allCount 24 ≡ true
+  pub revision-3-96 : Broken 17 0x96
+  -- the counts, one less, one more and too large
+  pub spares-1 : Broken 24 0x01
+  pub spares-3 : Broken 24 0x03
+  pub bads-0 : Broken 25 0x00
+  pub bads-2 : Broken 25 0x02
+  pub spares-33 : Neither (sizedA 33 0)
+  pub bads-101 : Neither (sizedA 0 101)
+  -- the mark after the spare list, each byte of it
+  pub first-mark-high : Broken 32 0x00
+  pub first-mark-middle : Broken 33 0x00
+  pub first-mark-low : Broken 34 0xFE
+  -- the mark after the bad list
+  pub second-mark-high : Broken 38 0x00
+  pub second-mark-middle : Broken 39 0x00
+  pub second-mark-low : Broken 40 0xFE
+  -- the entries
+  pub no-block : Neither (formA (9728 ∷ []) [])
+  pub no-block-high : Broken 26 0x01
+  pub mark-of-the-memory : Broken 29 0x00
+  pub no-mark : Broken 31 0xFF
+  pub block-twice : Neither (formA (17 ∷ 17 ∷ []) [])
+  pub no-block-bad : Neither (formA [] (9728 ∷ []))
+  pub dead-bad : Neither (formA [] (dead ∷ []))
+  pub bad-twice : Neither (formA [] (5 ∷ 5 ∷ []))
+  -- the zeros, from the second mark to the end
+  pub first-zero : Broken 41 0x01
+  pub last-zero : Broken 531 0x01
+
+pub refuses-a : RefusesA
+unfolding memberOf entryOk entriesOk same allAre wide triple triples narrow entryAt entriesFrom entriesFit listPart framedPart formA framedA formedA wellFormed faultOf readOf
+refuses-a =
+    record {
+      short = refl;
+      long = refl;
+      header = refl;
+      revision-3-96 = refl;
+      spares-1 = refl;
+      spares-3 = refl;
+      bads-0 = refl;
+      bads-2 = refl;
+      spares-33 = refl;
+      bads-101 = refl;
+      first-mark-high = refl;
+      first-mark-middle = refl;
+      first-mark-low = refl;
+      second-mark-high = refl;
+      second-mark-middle = refl;
+      second-mark-low = refl;
+      no-block = refl;
+      no-block-high = refl;
+      mark-of-the-memory = refl;
+      no-mark = refl;
+      block-twice = refl;
+      no-block-bad = refl;
+      dead-bad = refl;
+      bad-twice = refl;
+      first-zero = refl;
+      last-zero = refl;
     }
 
 -- THE OTHER FORM: of B its lists alone, of A its lists with zeros.
