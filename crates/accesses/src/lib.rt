@@ -139,7 +139,7 @@ fn start(k: u8, l: State, a: u8, bytes: &[u8]) -> Turn
     if a != 0 {
         return count_try(k, l);
     }
-    let read = image::read_image(bytes);
+    let read = codec::read_image(bytes);
     let found = read.found;
     let Found::Lists(_, _, run) = found else {
         return count_try(k, l);

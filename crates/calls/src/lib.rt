@@ -276,12 +276,12 @@ pub fn convert(from: &[u8], to: &mut [u8]) -> Answer
     if to.len() != 532 {
         return Answer::Refused(Refusal::Buffer);
     }
-    let read = image::read_image(from);
+    let read = codec::read_image(from);
     let found = read.found;
     match found {
         Found::Malformed(x) => Answer::Refused(refusal_for(x)),
         Found::Lists(n, m, _) => {
-            if image::is_form_b(from) {
+            if codec::is_form_b(from) {
                 leaving::write_table(&read.spares, n, &read.bads, m, to);
             } else {
                 leaving::write_stored(0, &read.spares, n, &read.bads, m, &read.causes, to);

@@ -32,7 +32,7 @@ fn load(bytes: &[u8]) -> Noted
     requires { ⌜ wellFormed (now bytes) ≡ true ⌝ }
     ensures { λ r. ⌜ r ≡ record { table = tableOf (now (bytes .entry)); causes = causesOf (now (bytes .entry)) } ⌝ }
 {
-    let read = image::read_image(bytes);
+    let read = codec::read_image(bytes);
     let found = read.found;
     let Found::Lists(n, m, _) = found else {
         return Noted {

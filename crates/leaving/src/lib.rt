@@ -41,7 +41,7 @@ pub fn write_table<'a>(spares: &'a [u16], n: usize, bads: &'a [u16], m: usize, o
     requires { ⌜ (length (now out) ≡ 532) × (n ≤ 32) × (m ≤ 100) ⌝ }
     ensures { λ x. ⌜ now (out .exit) ≡ imageA (lent (now (spares .entry)) n (now (bads .entry)) m) ⌝ }
 {
-    image::form_a::write(lists::cut(spares, n), lists::cut(bads, m), out);
+    codec::form_a::write(lists::cut(spares, n), lists::cut(bads, m), out);
 }
 
 // Builds the image that a store writes, form B, in 532 lent bytes.
@@ -57,7 +57,7 @@ pub fn write_stored<'a>(
     requires { ⌜ (length (now out) ≡ 532) × (n ≤ 32) × (m ≤ 100) × (length (now spares) ≡ 32) × (length (now causes) ≡ 32) ⌝ }
     ensures { λ x. ⌜ now (out .exit) ≡ imageB run (lent (now (spares .entry)) n (now (bads .entry)) m) (now (causes .entry)) ⌝ }
 {
-    image::form_b::write(
+    codec::form_b::write(
         run,
         lists::cut(spares, n),
         lists::cut(causes, n),

@@ -79,7 +79,7 @@ fn put_named(out: &mut [u8], at: usize, name: &[u8], list: &[u16]) -> usize {
 // Writes the bytes that the writer of form A makes.
 fn put_made(out: &mut [u8], at: usize, spares: &[u16], bads: &[u16]) -> usize {
     let mut made = [0u8; 532];
-    image::form_a::write(spares, bads, &mut made);
+    codec::form_a::write(spares, bads, &mut made);
     test_text::put_bytes(out, at, &made)
 }
 
@@ -93,7 +93,7 @@ fn put_made_b(
     bads: &[u16],
 ) -> usize {
     let mut made = [0u8; 532];
-    image::form_b::write(run, spares, causes, bads, &mut made);
+    codec::form_b::write(run, spares, causes, bads, &mut made);
     test_text::put_bytes(out, at, &made)
 }
 
@@ -143,12 +143,12 @@ fn is_form_b(s: &[u8]) -> bool {
     if s.len() < 4 {
         return false;
     }
-    image::is_form_b(s)
+    codec::is_form_b(s)
 }
 
 // Writes the line for an image.
 fn put_image(out: &mut [u8], at: usize, s: &[u8]) -> usize {
-    let read = image::read_image(s);
+    let read = codec::read_image(s);
     let found = read.found;
     let spares = read.spares;
     let causes = read.causes;
