@@ -6,6 +6,7 @@ pub mod Moves
 pub mod Trials
 pub mod Causes
 pub mod Overs
+pub mod Errors
 pub mod Cuts
 pub mod MoveCuts
 pub mod Week

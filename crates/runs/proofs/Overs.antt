@@ -30,13 +30,13 @@ reply n bs = record { number = n; bytes = bs }
 abbrev done : Reply
 done = reply 0 []
 
-abbrev good : Reply
+abbrev pub good : Reply
 good = reply 0 (replicate 532 7)
 
-abbrev crc : Reply
+abbrev pub crc : Reply
 crc = reply 1 (replicate 532 1)
 
-abbrev late : Reply
+abbrev pub late : Reply
 late = reply 2 []
 
 abbrev image : Reply
