@@ -7,6 +7,7 @@ pub mod Trials
 pub mod Causes
 pub mod Overs
 pub mod Errors
+pub mod Shown
 pub mod Cuts
 pub mod MoveCuts
 pub mod Week
