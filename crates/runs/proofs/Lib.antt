@@ -8,6 +8,7 @@ pub mod Causes
 pub mod Overs
 pub mod Errors
 pub mod Shown
+pub mod Refused
 pub mod Cuts
 pub mod MoveCuts
 pub mod Week
