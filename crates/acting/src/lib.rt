@@ -24,7 +24,7 @@ use drive::Target;
 use drive::Turn;
 use geometry::Block;
 
-// Says whether a number is the status's.
+// Says whether a number is the buffer's.
 fn asks_buffer(v: u32) -> bool
     ensures { λ r. ⌜ r ≡ asksBuffer v ⌝ }
 {

@@ -10,14 +10,14 @@ use Rattle.logic.proofs.Bools.{clash}
 use Rattle.drive.specs.declared.Offer.the-variants as offer
 use Rattle.drive.specs.declared.Answer.the-variants as answer
 use Rattle.drive.specs.declared.Refusal.the-variants as refusal
-use Rattle.drive.specs.Calls.{reset}
+use Rattle.drive.specs.Calls.{Call, reset}
 use Rattle.drive.specs.History.{held, Sectors, Line, restart, History, blank, FitsLine, Allows, pastAll, candidatesThen}
 use Rattle.drive.specs.Cuts.{Tabled, NoneGood}
 use Rattle.drive.specs.Told.{Report, cut, placed, written, given, nothing, none, Right}
 use Rattle.drive.proofs.Computing.{computed}
 use Rattle.drive.proofs.Lasts.{differ}
 use Rattle.drive.proofs.Forging.{last-asks, block, byteOf, not-the-one, not-the-two, not-there, sevens, says, ends, offers, reads, writes, gives, garbles, found, foundNone, asksRead, asksWriteTo, asksWrite, readsGood, writesGood, AllFit, all-fit}
-use Rattle.drive.proofs.Transcripts.{go, done, timesOut}
+use Rattle.drive.proofs.Transcripts.{go, done, timesOut, unsettled}
 
 -- THE PIECES
 
@@ -236,14 +236,14 @@ a-first-access-elsewhere-after-a-start-without-an-image a = not-there 17 4928 re
 
 -- WHY A COMMAND FAILS WHILE A PLACE IS UNSTORED. Block 17 is at spare 0 and holds the one there, by a table that was not stored.
 
--- A write of the one moves to spare 0, and its store is not done: it reports this status 1.
-abbrev movesUnstored : ℕ → List Line
-movesUnstored s =
-    asksWrite 1 ++ (says go (writes 17) ∷ says timesOut (writes 4928) ∷ says done (reads 4928) ∷ says (gives 1) answer.Store ∷ ends timesOut s 0x04 1 ∷ [])
+-- A write of the one moves to spare 0, and its store is answered so: it reports this status 1.
+abbrev movesUnstored : Call → ℕ → List Line
+movesUnstored c s =
+    asksWrite 1 ++ (says go (writes 17) ∷ says timesOut (writes 4928) ∷ says done (reads 4928) ∷ says (gives 1) answer.Store ∷ ends c s 0x04 1 ∷ [])
 
 -- Reported good: the next start reads the old table, and the old bytes come, with a good read of the new ones in between or none.
 abbrev goodMove : List Line → List Line
-goodMove xs = found [] ++ movesUnstored 0x04 ++ xs ++ starts ++ found [] ++ readsGood 7
+goodMove xs = found [] ++ movesUnstored timesOut 0x04 ++ xs ++ starts ++ found [] ++ readsGood 7
 
 pub a-move-reported-good-whose-store-was-not-done : (Allows sevens blank (goodMove []) → ⊥) × (Allows sevens blank (goodMove (readsAtSpare 1)) → ⊥)
 unfolding computed
@@ -253,14 +253,14 @@ a-move-reported-good-whose-store-was-not-done = (
 )
 
 -- Reported failed, as it has to be: the old bytes may come.
-pub a-move-reported-failed-may-be-lost : AllFit sevens blank (found [] ++ movesUnstored 0x05 ++ starts ++ found [] ++ readsGood 7)
+pub a-move-reported-failed-may-be-lost : AllFit sevens blank (found [] ++ movesUnstored timesOut 0x05 ++ starts ++ found [] ++ readsGood 7)
 unfolding computed
-a-move-reported-failed-may-be-lost = all-fit sevens blank (found [] ++ movesUnstored 0x05 ++ starts ++ found [] ++ readsGood 7) refl
+a-move-reported-failed-may-be-lost = all-fit sevens blank (found [] ++ movesUnstored timesOut 0x05 ++ starts ++ found [] ++ readsGood 7) refl
 
 -- Reported failed, its store answered 3; then under the latch a good read of the block at its spare. That alone is allowed, but after
 -- the next start its old bytes at its old place are not.
 abbrev latchedRead : List Line
-latchedRead = found [] ++ movesUnstored 0x15 ++ readsAtSpare 1
+latchedRead = found [] ++ movesUnstored unsettled 0x15 ++ readsAtSpare 1
 
 pub a-good-read-of-an-unstored-place-fits : AllFit sevens blank latchedRead
 unfolding computed
@@ -275,7 +275,7 @@ old-bytes-after-a-good-read-of-an-unstored-place a = not-the-one 7 1 refl (last-
 
 -- The sparing bit moves the block also where its store was not done.
 abbrev unstoredForgotten : List Line
-unstoredForgotten = found [] ++ movesUnstored 0x05 ++ asksRead 17 ++ (says go (reads 17) ∷ [])
+unstoredForgotten = found [] ++ movesUnstored timesOut 0x05 ++ asksRead 17 ++ (says go (reads 17) ∷ [])
 
 pub a-block-read-at-its-home-after-an-unstored-move : Allows sevens blank unstoredForgotten → ⊥
 unfolding computed

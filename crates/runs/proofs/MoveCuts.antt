@@ -1,11 +1,13 @@
--- A MOVE THAT IS CUT OFF, at each of its accesses, or whose store is not done, computed: where the block is then, and after the next
--- start. Document 02, request 7.
+-- A MOVE THAT IS CUT OFF, at each kind of its accesses, or whose store is not done, computed: where the block is then, and after the
+-- next start. Document 02, request 7.
 use mathlib.Core.Path.{_≡_, refl}
+use mathlib.Core.Bool.{cond}
 use mathlib.Core.List.{List, [], _∷_, _++_}
 use Prim.Native.Nat.{ℕ}
+use lib.Dec.{eqb}
 use lib.ListN.{replicate}
 use Rattle.drive.specs.declared.Drive.{Drive}
-use Rattle.drive.specs.History.{unreadable}
+use Rattle.drive.specs.History.{Content, held, unreadable, Sectors}
 use Rattle.drive.specs.Run.{afterAll}
 use Rattle.drive.specs.Surface.{Fate, old, new, spoiled}
 use Rattle.drive.specs.Views.{Bytes, Where}
@@ -33,20 +35,39 @@ toTheSparesWrite = toTheTrialsWrite ++ (timesOut ⇒ write 4928 ∷ [])
 abbrev toTheSparesReread : List Exchange
 toTheSparesReread = toTheSparesWrite ++ (done ⇒ read 4928 ∷ garbles 7 ⇒ read 4928 ∷ [])
 
+-- Awaits the last reread of the spare, by which it would pass and the block would move.
+abbrev toTheLastReread : List Exchange
+toTheLastReread = toTheSparesWrite ++ (done ⇒ read 4928 ∷ []) ++ rereads 4928 (replicate 99 (gives 7)) (read 4928)
+
+-- Holds an eight at spare 0, and sevens.
+abbrev eightAtSpare : Sectors
+eightAtSpare = λ s. cond (eqb (s .0) 4928) (held (bytes 8)) (disk [] [] s)
+
 -- Cuts the read there with what is pending left so, starts, and finds the sevens at home.
 abbrev readCut : List Exchange → Fate → Run
-readCut xs f = record { sectors = disk [] []; exchanges = found [] [] ++ xs ++ (cuts f ∷ findsAtHome 7); part = bytes 7; place = sector 17; candidates = bytes 7 ∷ [] }
+readCut xs f = record { sectors = eightAtSpare; exchanges = found [] [] ++ xs ++ (cuts f ∷ findsAtHome 7); part = bytes 7; place = sector 17; candidates = bytes 7 ∷ [] }
+
+-- Returns what spare 0 holds after a run.
+abbrev atSpare : Drive → Run → Content
+atSpare given r = afterAll (from given r) (calls r) .sectors (record { 0 = 4928 })
 
 -- Nothing is pending but a read, and a read changes nothing.
 pub a-cut-at-a-read-changes-nothing :
     (given : Drive)
-    → Happens given (readCut toTheFirstRead spoiled) × Happens given (readCut toAReread new) × Happens given (readCut toTheTrialsReread spoiled) × Happens given (readCut toTheSparesReread spoiled)
+    → Happens given (readCut toTheFirstRead spoiled)
+    × Happens given (readCut toAReread new)
+    × Happens given (readCut toTheTrialsReread spoiled)
+    × Happens given (readCut toTheSparesReread spoiled)
+    × Happens given (readCut toTheLastReread spoiled)
+    × (atSpare given (readCut toTheLastReread spoiled) ≡ held (bytes 7))
 unfolding computed
 a-cut-at-a-read-changes-nothing given = (
   happens given (readCut toTheFirstRead spoiled) refl,
   happens given (readCut toAReread new) refl,
   happens given (readCut toTheTrialsReread spoiled) refl,
   happens given (readCut toTheSparesReread spoiled) refl,
+  happens given (readCut toTheLastReread spoiled) refl,
+  refl,
 )
 
 -- The bytes that a read writes again are the block's, and the spare is no block's yet.
@@ -61,6 +82,15 @@ a-cut-at-a-reads-write-leaves-its-bytes given = (
   happens given (readCut toTheSparesWrite new) refl,
   happens given (readCut toTheSparesWrite spoiled) refl,
 )
+
+-- What a cut at the spare's write leaves there is what it held, the block's bytes, or nothing that can be read.
+pub a-cut-leaves-the-spare-old-new-or-unreadable :
+    (given : Drive)
+    → (atSpare given (readCut toTheSparesWrite old) ≡ held (bytes 8))
+    × (atSpare given (readCut toTheSparesWrite new) ≡ held (bytes 7))
+    × (atSpare given (readCut toTheSparesWrite spoiled) ≡ unreadable)
+unfolding computed
+a-cut-leaves-the-spare-old-new-or-unreadable given = (refl, refl, refl)
 
 -- The trial's write leaves the present sector unreadable: no read of the block is good, and its candidate stays.
 abbrev pub rewriteUnreadable : Run
@@ -128,7 +158,7 @@ findsNoTable = replicate 9 (timesOut ⇒ read 4960) ++ (garbles 9 ⇒ wait ∷ [
 -- CUT OFF AT THE STORE: the block is where it was, or at its spare, or there is no table.
 
 abbrev cutThen : List Exchange → Fate → List Exchange → Bytes → Where → List Bytes → Run
-cutThen xs f ys part place candidates = record { sectors = disk [] []; exchanges = found [] [] ++ xs ++ (cuts f ∷ ys); part = part; place = place; candidates = candidates }
+cutThen xs f ys part place candidates = record { sectors = eightAtSpare; exchanges = found [] [] ++ xs ++ (cuts f ∷ ys); part = part; place = place; candidates = candidates }
 
 -- A write/verify: the old bytes at the old place, the new ones at the spare, or neither; until a read is good both are candidates.
 abbrev pub writeCutOld : Run

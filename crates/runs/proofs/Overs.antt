@@ -13,10 +13,11 @@ use Rattle.drive.specs.declared.Answer.the-variants as answer
 use Rattle.drive.specs.declared.Phase.the-variants as phase
 use Rattle.drive.specs.Records.{awaits}
 use Rattle.drive.specs.Results.{Out}
-use Rattle.drive.specs.Calls.{started}
+use Rattle.drive.specs.Bound.{isCommand}
+use Rattle.drive.specs.Calls.{reset, surface, stepOf, startOf, started}
 use Rattle.drive.specs.History.{isAt}
 use Rattle.drive.specs.Values.{Typed}
-use Rattle.drive.specs.Over.{Reply, suits, ofStart, Task, start, store, command, Completes, AllSuit, OverWithin, Demand1Over}
+use Rattle.drive.specs.Over.{Reply, replied, suits, ofStart, Task, start, store, command, Completes, AllSuit, OverWithin, SuitsExactly, OverByFinished, Demand1Over, StartOver, StoreOver}
 use Rattle.drive.specs.Views.{ofAnswer}
 use Rattle.drive.proofs.Computing.{computed}
 use Rattle.drive.proofs.Examples.{timeout, reading}
@@ -169,6 +170,31 @@ pub a-start-is-not-over-within-one : OverWithin 1 start (starting .step .drive) 
 unfolding computed
 a-start-is-not-over-within-one w = let x = w (late ∷ []) (omega arith) (λ h. refl, tt) in none-of-one (x .0) (x .2)
 
+-- THE STATEMENTS, of one drive each
+
 pub demand-1-of-the-longest-read : Demand1Over → Typed (begun .step .drive) → OverWithin 3680 command (begun .step .drive) (begun .bytes)
 unfolding computed
 demand-1-of-the-longest-read demand typed = demand (begun .step .drive) (begun .bytes) typed refl refl refl
+
+pub a-start-is-over-within-ten : StartOver → OverWithin 10 start (startOf started (replicate 536 3) .step .drive) (startOf started (replicate 536 3) .bytes)
+unfolding computed
+a-start-is-over-within-ten over = over started (replicate 536 3) refl
+
+pub a-store-is-over-within-one : StoreOver → OverWithin 1 store (storing .step .drive) (storing .bytes)
+unfolding computed
+a-store-is-over-within-one over = over (storing .step .drive) (storing .bytes) refl refl refl
+
+-- A reset that is refused leaves the write under way, and the store's answer ends the command.
+pub a-command-is-over-by-finished :
+    OverByFinished
+    → (isCommand (stepOf reset (writing .step .drive) (writing .bytes) .step .drive .state .phase) ≡ true)
+    × (isCommand (stepOf (surface 2 []) (storing .step .drive) (storing .bytes) .step .drive .state .phase) ≡ false)
+unfolding computed
+a-command-is-over-by-finished over = (over reset (writing .step .drive) (writing .bytes) refl, over (surface 2 []) (storing .step .drive) (storing .bytes) refl)
+
+pub answers-that-suit-are-accepted :
+    SuitsExactly
+    → (ofAnswer (replied (storing .step .drive) (storing .bytes) late .step .answer) .refused ≡ false)
+    × (ofAnswer (replied (storing .step .drive) (storing .bytes) wrong .step .answer) .refused ≡ true)
+unfolding computed
+answers-that-suit-are-accepted exactly = (exactly (storing .step .drive) (storing .bytes) late refl refl, exactly (storing .step .drive) (storing .bytes) wrong refl refl)

@@ -33,7 +33,8 @@ pub enum Broken {
     /// Two blocks had the same sector.
     SameSector(Block, Block, Sector),
     /// A command for this block was reported good with no image read since the last
-    /// start.
+    /// start. This is none of the ledger's three rules, but request 7's last sentence,
+    /// which is looked at beside them.
     NoTable(Block),
 }
 

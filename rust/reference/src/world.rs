@@ -1,6 +1,6 @@
 //! An exhaustive search of a small world (document 02, request 7): short sequences of
-//! commands for one or two blocks, few unused spares, every outcome of the surface at
-//! every access, and power cuts at every access with every fate of the sector.
+//! commands for one or two blocks, few unused spares, every kind of outcome at every
+//! kind of access, and power cuts there with every fate of the sector.
 //!
 //! The ledger looks on, and every way must be allowed. What is folded: the rereads of a
 //! trial are all good, or all time out, or so many of them come before answer 3 or a
