@@ -3,7 +3,7 @@
  * each event, with the accesses that it led to, the same ones in a row counted.
  *
  *   gcc -std=c11 -Wall -Wextra -Werror -O2 -Iinclude examples/board_loop.c \
- *       target/staticlib/libbumivondra.a -o target/board_loop
+ *       target/cross/x86_64-linux-gnu/libbumivondra.a -o target/board_loop
  *   target/board_loop | diff - examples/board_loop.expected
  */
 #include <ctype.h>
@@ -75,11 +75,16 @@ static uint8_t write_sector(uint32_t sector, const uint8_t *bytes)
     return answer;
 }
 
-/* Formats the disk: the image of an empty table in its sector, in form A. The first store puts form B there. */
+/* Formats the disk: an empty table of form B in its sector. Its two lists would begin at 16, and the sum of its bytes is
+ * 01E2 hex. */
 static void format_disk(void)
 {
-    static const uint8_t image[] = "PROFILE      \0\0\0\x03\x90\0\x26\0\x02\x14\x20\0\0\xFF\xFF\xFF\xFF\xFF\xFF";
-    memcpy(disk[BV_TABLE_SECTOR], image, sizeof image - 1);
+    static const uint8_t head[] = {0xF0, 0x78, 0x3C, 0x1E, 0, 0, 0, 0, 0, 0, 0, 16, 0, 0, 0, 16};
+    uint8_t *table = disk[BV_TABLE_SECTOR];
+    memset(table, 0, BV_SECTOR_BYTES);
+    memcpy(table, head, sizeof head);
+    table[BV_FORM_B_SUM] = 0x01;
+    table[BV_FORM_B_SUM + 1] = 0xE2;
 }
 
 /* THE BUS */
@@ -180,7 +185,7 @@ static void note(const char *done, uint32_t sector, uint8_t answer)
 {
     static const char *const words[] = {"good", "crc", "timeout", "no settle"};
     char text[sizeof last];
-    snprintf(text, sizeof text, "%s %u %s", done, sector, answer == POWER_FAILS ? "cut off" : words[answer]);
+    snprintf(text, sizeof text, "%s %u %s", done, (unsigned)sector, answer == POWER_FAILS ? "cut off" : words[answer]);
     if (strcmp(text, last) != 0)
         show_access();
     memcpy(last, text, sizeof last);
@@ -281,27 +286,26 @@ static void show(struct bv_reply reply)
                buffer[3], text_length(), (const char *)buffer + BV_DATA);
         break;
     default:
-        printf(" refused %u\n", reply.value);
+        printf(" refused %u\n", (unsigned)reply.value);
         break;
     }
 }
 
-/* Prints run number and spare list as the table's image of form B has them, each spare with its cause. */
+/* Prints the run number, and the spare list as the table's image of form B has it, each spare with its cause. */
 static void show_spares(void)
 {
     static const char *const causes[] = {"unknown", "crc", "timeout", "no settle"};
     uint8_t image[BV_SECTOR_BYTES];
     if (bv_image(&drive, image, sizeof image).kind != BV_WAIT)
         abort();
-    const uint8_t *run = image + BV_FORM_B_RUN;
     const uint8_t *end = image + (image[BV_FORM_B_BAD_OFFSET] << 8 | image[BV_FORM_B_BAD_OFFSET + 1]);
-    printf("run %u, spares:", (uint32_t)run[0] << 24 | run[1] << 16 | run[2] << 8 | run[3]);
+    printf("run %u, spares:", (unsigned)bv_run_number(&drive));
     for (const uint8_t *entry = image + BV_FORM_B_SPARES; entry < end; entry += 4) {
         uint32_t block = (uint32_t)entry[0] << 16 | entry[1] << 8 | entry[2];
         if (block == 0xFFFFFE)
             printf(" dead");
         else
-            printf(" %u", block);
+            printf(" %u", (unsigned)block);
         printf(" (%s)", causes[entry[3]]);
     }
     printf("\n");

@@ -1,6 +1,6 @@
 /* The ProFile controller as a library for a board: seven calls over a record and a buffer that the
  * board holds, one with no record that turns a table's image into its other form, and the parity bit of a
- * byte on the bus. Link with libbumivondra.a.
+ * byte on the bus. Link with libbumivondra.a of your target.
  *
  * WHAT IT NEEDS, and no other function: memcpy, memset.
  *
@@ -18,7 +18,7 @@
  *   - `buf` points to at least `len` bytes that may be written, `bytes` to at least `n` bytes;
  *   - `to` points to at least `to_len` bytes that may be written, `from` to at least `from_len` bytes;
  *   - the record, the buffer and the bytes do not overlap, nor do `from` and `to`;
- *   - no pointer is null, not even where its count is 0 (pass the buffer's, say; nothing is read);
+ *   - no pointer is null, but for one whose count is 0: it may be anything, and nothing is read or written there;
  *   - one call at a time on one record.
  * For the promise that each good read gives the right bytes it also hands record and buffer on
  * unaltered from call to call, from a bv_start on that was not refused: proved of every such list of calls
@@ -30,11 +30,46 @@
 #include <stddef.h>
 #include <stdint.h>
 
+/* THE VERSION of this header and of the library that belongs to it. While BV_VERSION_MAJOR is 0, a record of one minor
+ * version means nothing to another. */
+#define BV_VERSION_MAJOR 0
+#define BV_VERSION_MINOR 7
+#define BV_VERSION_PATCH 0
+#define BV_VERSION "0.7.0"
+/* One number that grows with the version, for #if. */
+#define BV_VERSION_NUMBER (BV_VERSION_MAJOR * 10000 + BV_VERSION_MINOR * 100 + BV_VERSION_PATCH)
+
+/* THE TARGETS. A processor or system that no library is made for is refused here, since a linker may take the library of
+ * another. */
+#if defined __x86_64__ || defined __aarch64__
+#if defined __ILP32__
+#error "bumivondra.h: there is no library for pointers of 32 bits on this processor"
+#endif
+#elif defined __arm__
+#if __ARM_ARCH < 7 && !defined __ARM_ARCH_6M__
+#error "bumivondra.h: there is no library for an Arm processor before ARMv7, but for Cortex-M0, M0+ and M1"
+#endif
+#elif defined __riscv
+#if !defined __riscv_mul || !defined __riscv_div || !defined __riscv_compressed || defined __riscv_32e || defined __riscv_64e
+#error "bumivondra.h: the library for RISC-V needs the base I with the extensions M and C"
+#endif
+#elif !defined __wasm32__
+#error "bumivondra.h: there is no library for this processor"
+#endif
+#if !defined __BYTE_ORDER__ || __BYTE_ORDER__ != __ORDER_LITTLE_ENDIAN__
+#error "bumivondra.h: there is no library for a processor that has the high byte first"
+#endif
+#if defined _WIN32 || defined __CYGWIN__ || defined __APPLE__
+#error "bumivondra.h: there is no library for this system's form of object files"
+#endif
+
 #ifdef __cplusplus
 extern "C" {
 #define BV_STATIC_ASSERT(test, text) static_assert(test, text)
+#define BV_ALIGN_OF(type) alignof(type)
 #else
 #define BV_STATIC_ASSERT(test, text) _Static_assert(test, text)
+#define BV_ALIGN_OF(type) _Alignof(type)
 #endif
 
 /* SIZES */
@@ -242,11 +277,13 @@ static inline uint32_t bv_run_number(const struct bv_drive *drive)
     return drive->words[20] + 65536u * drive->words[21];
 }
 
-BV_STATIC_ASSERT(sizeof(size_t) == 8, "the library is one of 64 bits");
+BV_STATIC_ASSERT(sizeof(size_t) == 4 || sizeof(size_t) == 8, "a length has 32 or 64 bits");
 BV_STATIC_ASSERT(sizeof(struct bv_reply) == 8, "bv_reply");
+BV_STATIC_ASSERT(BV_ALIGN_OF(struct bv_reply) == 4, "bv_reply is aligned to 4");
 BV_STATIC_ASSERT(offsetof(struct bv_reply, kind) == 0, "bv_reply.kind");
 BV_STATIC_ASSERT(offsetof(struct bv_reply, value) == 4, "bv_reply.value");
 BV_STATIC_ASSERT(sizeof(struct bv_drive) == BV_DRIVE_BYTES, "bv_drive");
+BV_STATIC_ASSERT(BV_ALIGN_OF(struct bv_drive) == BV_DRIVE_ALIGN, "bv_drive is aligned to 2");
 
 /* THE CALLS. In each that has them, `buf` and `len` are the lent buffer. A refused call writes nothing. */
 

@@ -58,7 +58,7 @@ pub struct Reply {
 /// The layout is that of the header's own assertions.
 const _: () = {
     use core::mem::{align_of, offset_of, size_of};
-    assert!(size_of::<usize>() == 8);
+    assert!(size_of::<usize>() == 4 || size_of::<usize>() == 8);
     assert!(size_of::<Reply>() == 8);
     assert!(offset_of!(Reply, kind) == 0);
     assert!(offset_of!(Reply, value) == 4);
