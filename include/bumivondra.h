@@ -3,6 +3,7 @@
  * byte on the bus. Link with libbumivondra.a of your target.
  *
  * WHAT IT NEEDS, and no other function: memcpy, memset.
+ * On Cortex-M0 also __aeabi_lmul, of the compiler's own library.
  *
  * The board turns what happens on the host's bus and at the heads into calls, and does what each call
  * answers. docs/BOARD.md has the loop, examples/board_loop.c is one. Usable from C11 and from C++11.
