@@ -368,7 +368,7 @@ fn the_examples_of_the_lines_are_cited_or_there() {
             "coded" => contract(one.place, name).is_some(),
             _ => is_there(kind, one.place, name, &[]),
         };
-        assert!(one.names.iter().all(|name| there(name)), "{kind} {quoted}");
+        assert!(one.names.iter().all(there), "{kind} {quoted}");
     }
 }
 
@@ -485,6 +485,32 @@ fn what_has_another_form_is_noticed() {
             "{other}: {wrong:?}"
         );
     }
+}
+
+/// Lists the numbers of rules that a text refers to, its own with them.
+fn references(text: &str) -> impl Iterator<Item = &str> {
+    let is_number = |part: &str| !part.is_empty() && part.bytes().all(|b| b.is_ascii_digit());
+    text.split(|c: char| c.is_whitespace() || "(),;:*".contains(c))
+        .map(|word| word.trim_end_matches('.'))
+        .filter(move |word| {
+            let parts = word.split_once('.');
+            parts.is_some_and(|(section, rule)| is_number(section) && is_number(rule))
+        })
+}
+
+#[test]
+fn a_number_in_the_text_is_that_of_a_rule() {
+    let document = spec();
+    let rules = rules(&document);
+    let text = document.split("\n## ").filter(|section| {
+        section.starts_with("Words") || section.starts_with(|c: char| c.is_ascii_digit())
+    });
+    let mut referred = 0;
+    for number in text.flat_map(references) {
+        assert!(rules.iter().any(|rule| rule.number == number), "{number}");
+        referred += 1;
+    }
+    assert!(referred > rules.len() + 20, "{referred} numbers");
 }
 
 #[test]
