@@ -233,23 +233,56 @@ fn has_reading(name: &str, title: &str) -> bool {
         .any(|reading| reading.lines().next() == Some(title))
 }
 
-/// Tells whether what is cited is there. A function's contract must name one of the definitions.
-fn is_there(kind: &str, place: &str, name: &str, definitions: &[&str]) -> bool {
+/// Returns the file that an edit changes.
+fn edited(owner: &str, name: &str) -> Option<String> {
+    let text = file(&format!("crates/{owner}/must-fail/{name}.edit"))?;
+    let mut lines = text.lines();
+    lines.find_map(|line| line.strip_prefix("file: ").map(String::from))
+}
+
+/// Tells whether what is cited belongs to what the rule cites beside it: the contract of a
+/// function names one of its definitions, a reading is of one of them, and an edit changes a
+/// file of them or a crate of its functions.
+fn belongs(one: &Citation, name: &str, cited: &[Citation]) -> bool {
+    let definitions = || cited.iter().filter(|other| is_definition(other));
+    let mut names = definitions().flat_map(|other| &other.names);
+    match one.kind {
+        "coded" => contract(one.place, name)
+            .is_some_and(|text| names.any(|definition| has_word(&text, definition))),
+        "refused" if is_capital(one.place) => {
+            let of = name.split_once(": ").map(|(definition, _)| definition);
+            names.any(|definition| Some(*definition) == of)
+        }
+        "refused" => edited(one.place, name).is_some_and(|path| {
+            let changed = format!("crates/{}/{path}", one.place);
+            let mut coded = cited.iter().filter(|other| other.kind == "coded");
+            definitions().any(|other| antt(other.place, "specs", "drive") == changed)
+                || path.starts_with("src/")
+                    && coded.any(|other| other.place.split("::").next() == Some(one.place))
+        }),
+        _ => true,
+    }
+}
+
+/// Tells whether it cites definitions, and not types of the program.
+fn is_definition(one: &Citation) -> bool {
+    one.kind == "defined" && !one.place.ends_with("/src")
+}
+
+/// Tells whether what is cited is there.
+fn is_there(kind: &str, place: &str, name: &str) -> bool {
     let all = |paths: [String; 2]| paths.iter().all(|path| root().join(path).is_file());
     match (kind, place) {
         ("defined", _) if place.ends_with("/src") => has_type(place.trim_end_matches("/src"), name),
         ("defined", _) => {
             file(&antt(place, "specs", "drive")).is_some_and(|text| defines(&text, name))
         }
-        ("coded", _) => contract(place, name)
-            .is_some_and(|text| definitions.iter().any(|one| has_word(&text, one))),
+        ("coded", _) => contract(place, name).is_some(),
         ("proved", _) => {
             file(&antt(place, "proofs", "demands")).is_some_and(|text| states(&text, name))
         }
         ("refused", _) if is_capital(place) => has_reading(place, name),
-        ("refused", _) => root()
-            .join(format!("crates/{place}/must-fail/{name}.edit"))
-            .is_file(),
+        ("refused", _) => edited(place, name).is_some(),
         ("tested", "scripts") => {
             all(["script", "expected"].map(|end| format!("tests/scripts/{name}.{end}")))
         }
@@ -283,19 +316,18 @@ fn wrong_in(rule: &Rule) -> Vec<String> {
             wrong.push(format!("{number}: nothing {needed}"));
         }
     }
-    let defined = cited.iter().filter(|one| one.kind == "defined");
-    let types = |one: &&Citation| !one.place.ends_with("/src");
-    let definitions: Vec<&str> = defined
-        .filter(types)
-        .flat_map(|one| one.names.clone())
-        .collect();
-    if definitions.is_empty() {
+    if !cited.iter().any(is_definition) {
         wrong.push(format!("{number}: no definition"));
     }
     for one in &cited {
-        let missing = one.names.iter();
-        let missing = missing.filter(|name| !is_there(one.kind, one.place, name, &definitions));
-        wrong.extend(missing.map(|name| format!("{number}: {} {}: {name}", one.kind, one.place)));
+        for name in &one.names {
+            let says = format!("{number}: {} {}: {name}", one.kind, one.place);
+            if !is_there(one.kind, one.place, name) {
+                wrong.push(says);
+            } else if !belongs(one, name, &cited) {
+                wrong.push(says + ", of another rule");
+            }
+        }
     }
     wrong
 }
@@ -364,10 +396,7 @@ fn the_examples_of_the_lines_are_cited_or_there() {
     assert!(examples.len() > 10, "{} examples", examples.len());
     for (kind, quoted) in examples {
         let one = citation(kind, quoted).expect(quoted);
-        let there = |name: &&str| match kind {
-            "coded" => contract(one.place, name).is_some(),
-            _ => is_there(kind, one.place, name, &[]),
-        };
+        let there = |name: &&str| is_there(kind, one.place, name);
         assert!(one.names.iter().all(there), "{kind} {quoted}");
     }
 }
@@ -416,11 +445,21 @@ fn what_is_not_there_is_noticed() {
             "`runs/Shown: the-table`",
             "the-table",
         ),
-        // Another function than that of the definition.
+        // Functions, readings and edits that are there, and are another rule's.
         (
             "coded `geometry: home` ",
             "coded `geometry: is_block` ",
-            "is_block",
+            "is_block, of another rule",
+        ),
+        (
+            "Sparing: hasUnused: a 33rd spare",
+            "Sparing: missed: a spare gets two trials",
+            "two trials, of another rule",
+        ),
+        (
+            "`drive: surface_lies, ",
+            "`drive: timeout_costs_one, ",
+            "timeout_costs_one, of another rule",
         ),
     ] {
         assert!(document.contains(right), "{right}");
