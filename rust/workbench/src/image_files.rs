@@ -1,20 +1,23 @@
-//! Images that people already have: 9,728 blocks of 532 bytes, one after another,
-//! as emulators keep them. They come on a platter and off it by the controller's
-//! own commands.
+//! Images that people already have: the blocks of a drive in a file, as emulators keep
+//! them. They come on a platter and off it by the controller's own commands. `forms` tells
+//! them apart, and `diskcopy` has the one with a header.
+
+mod diskcopy;
+mod forms;
 
 use std::path::Path;
 
 use controller::SECTOR_BYTES;
 use reference::geometry::BLOCKS;
+use usage::{Export, ImageForm, TagPlace};
 
 use crate::board::Board;
-use crate::files;
 use crate::host::{Host, Retry};
 use crate::platter::Platter;
 use crate::progress::Progress;
+use crate::{files, rescue, show, table_files};
 
-/// Length of an image file.
-pub const LENGTH: usize = BLOCKS as usize * SECTOR_BYTES;
+pub use forms::{load_platter, open_platter, pointed, unknown, LENGTH};
 
 /// An export rereads much and moves nothing.
 const PATIENT: Retry = Retry {
@@ -22,20 +25,75 @@ const PATIENT: Retry = Retry {
     threshold: 255,
 };
 
-/// Writes an image onto a new platter with an empty table.
-pub fn import(image: &Path, platter: &Path) -> Result<(), String> {
+/// Says what was imported, in lines, and which checksums were wrong.
+#[derive(Clone, Debug, PartialEq, Eq)]
+pub struct Imported {
+    pub lines: Vec<String>,
+    pub wrong: Vec<String>,
+}
+
+/// Writes an image onto a new platter with an empty table. One with a wrong checksum is
+/// taken only if it is wanted all the same.
+pub fn import(
+    image: &Path,
+    platter: &Path,
+    tags: Option<TagPlace>,
+    keep_going: bool,
+) -> Result<Imported, String> {
     let bytes = files::read(image)?;
-    if bytes.len() != LENGTH {
+    let found = forms::importable(image, &bytes)?;
+    let what = format!("{}: {}", image.display(), found.words());
+    if let (forms::Image::Raw532(_), Some(_)) = (found, tags) {
         return Err(format!(
-            "{} has {} bytes and is no image, which has {LENGTH} (9728 blocks of 532)",
-            image.display(),
-            bytes.len()
+            "{what}, which come as they stand: --tags goes with blocks of 512 bytes"
         ));
     }
+    let wrong = found.wrong_sums();
+    if !wrong.is_empty() && !keep_going {
+        let wrong = wrong.join(", and ");
+        return Err(format!(
+            "{what}; {wrong}; with --keep-going it is imported all the same"
+        ));
+    }
+    let place = tags.unwrap_or_default();
+    write_all(&found.whole_blocks(place), platter)?;
+    let came = came(&found, place);
+    let (image, platter) = (image.display(), platter.display());
+    let wrong = wrong.iter().map(|fault| format!("{image}: {fault}"));
+    let wrong = wrong.collect();
+    let blocks = found.blocks();
+    let done = format!("{platter}: the {blocks} blocks of {image}, {came}with an empty table");
+    let lines = vec![what, done];
+    Ok(Imported { lines, wrong })
+}
+
+/// Says where the tags of an image came to stand, and which blocks it has not.
+fn came(image: &forms::Image, place: TagPlace) -> String {
+    let place = match place {
+        TagPlace::First => "before",
+        TagPlace::Last => "behind",
+    };
+    let what = match image {
+        forms::Image::Raw532(_) => None,
+        forms::Image::DiskCopy(found) if !found.tags.is_empty() => Some("the tags"),
+        forms::Image::Raw512(_) | forms::Image::DiskCopy(_) => Some("20 zeros"),
+    };
+    let tags = what.map_or(String::new(), |what| {
+        format!("{what} {place} the 512 bytes of each, ")
+    });
+    let missing: Vec<u32> = (image.blocks() as u32..BLOCKS).collect();
+    match missing[..] {
+        [] => tags,
+        _ => format!("{tags}zeros in blocks {}, ", show::ranges(&missing)),
+    }
+}
+
+/// Writes blocks of 532 bytes onto a blank platter in a file.
+fn write_all(blocks: &[u8], platter: &Path) -> Result<(), String> {
     let mut host = Host::new(Board::new(Platter::blank()));
     host.start();
     let progress = Progress::new();
-    for (number, block) in (0..BLOCKS).zip(bytes.chunks_exact(SECTOR_BYTES)) {
+    for (number, block) in (0..BLOCKS).zip(blocks.chunks_exact(SECTOR_BYTES)) {
         let report = host.write(number, false, block);
         assert!(report.good(), "a write without faults is good");
         progress.tick("import", number as usize, BLOCKS as usize);
@@ -44,18 +102,39 @@ pub fn import(image: &Path, platter: &Path) -> Result<(), String> {
     host.board.platter_mut().save(platter)
 }
 
-/// Reads all blocks of a platter into an image, and leaves the platter. Hands back
-/// the blocks that could not be read; if there are any, the image is written only
-/// if it is wanted all the same, with zeros for them.
-pub fn export(platter: &Path, image: &Path, keep_going: bool) -> Result<Vec<u32>, String> {
-    let mut host = Host::new(Board::new(Platter::load(platter)?));
-    host.start();
-    if host.board.table().is_none() {
-        let name = platter.display();
-        return Err(format!(
-            "{name} has no good table: nobody knows where its blocks are"
-        ));
+/// Says what was exported: the blocks that could not be read, and those whose tags were
+/// not zero and are not in the image.
+#[derive(Clone, Debug, Default, PartialEq, Eq)]
+pub struct Exported {
+    pub lost: Vec<u32>,
+    pub dropped: Vec<u32>,
+}
+
+/// Reads all blocks of a platter into an image, and leaves the platter. If some could not
+/// be read, the image is written only if it is wanted all the same, with zeros for them.
+pub fn export(platter: &Path, image: &Path, how: Export) -> Result<Exported, String> {
+    let mut source = load_platter(platter)?;
+    if how.without_table {
+        source = rescue::as_if_none_moved(platter, source)?;
     }
+    let judged = table_files::held(&source).and_then(|bytes| table_files::judged(&bytes));
+    judged.map_err(|fault| rescue::no_table(platter, &fault))?;
+    let (blocks, lost) = read_all(source);
+    let name = platter.file_stem().unwrap_or_default().to_string_lossy();
+    let written = forms::written(blocks, how.form, how.tags, &name);
+    if lost.is_empty() || how.keep_going {
+        files::write(image, &written.bytes)?;
+    }
+    let dropped = written.dropped;
+    Ok(Exported { lost, dropped })
+}
+
+/// Reads all blocks of a platter that has a table, those that cannot be read as zeros.
+/// Returns them with the numbers of the latter.
+fn read_all(platter: Platter) -> (Vec<u8>, Vec<u32>) {
+    let mut host = Host::new(Board::new(platter));
+    host.start();
+    assert!(host.board.table().is_some(), "a good table is found");
     let progress = Progress::new();
     let mut bytes = Vec::with_capacity(LENGTH);
     let mut lost = vec![];
@@ -69,10 +148,43 @@ pub fn export(platter: &Path, image: &Path, keep_going: bool) -> Result<Vec<u32>
         progress.tick("export", number as usize, BLOCKS as usize);
     }
     progress.end(BLOCKS as usize);
-    if lost.is_empty() || keep_going {
-        files::write(image, &bytes)?;
+    (bytes, lost)
+}
+
+impl Exported {
+    /// Says what an image has that was written.
+    pub fn line(&self, platter: &Path, image: &Path, how: Export) -> String {
+        let form = match how.form {
+            ImageForm::Raw532 => "",
+            ImageForm::Raw512 => ", the 512 data bytes of each",
+            ImageForm::DiskCopy => ", as a DiskCopy 4.2 image with tags of 20",
+        };
+        let (platter, image) = (platter.display(), image.display());
+        let blocks = match self.lost.len() as u32 {
+            0 => String::new(),
+            lost => format!("{} of ", BLOCKS - lost),
+        };
+        format!("{image}: {blocks}the {BLOCKS} blocks of {platter}{form}")
     }
-    Ok(lost)
+
+    /// Says what the image has not, or not for certain.
+    pub fn notes(&self, how: Export) -> Vec<String> {
+        let mut notes = vec![];
+        if how.without_table {
+            notes.push(String::from(
+                "  each block is as it stands in its home sector: one that moved comes with old \
+                 bytes or none, and nobody knows which moved",
+            ));
+        }
+        if !self.dropped.is_empty() {
+            let blocks = show::ranges(&self.dropped);
+            notes.push(format!(
+                "  tags that are not zero were left out (--form diskcopy keeps them), of blocks \
+                 {blocks}"
+            ));
+        }
+        notes
+    }
 }
 
 #[cfg(test)]
@@ -83,6 +195,10 @@ mod tests {
     use reference::geometry::Sector;
     use reference::image::Form;
     use std::fs;
+
+    fn usual() -> Export {
+        Export::default()
+    }
 
     /// An image whose blocks all differ.
     fn image() -> Vec<u8> {
@@ -111,7 +227,7 @@ mod tests {
         let (first, platter, second) = (folder.join("a"), folder.join("p"), folder.join("b"));
         let mut bytes = image();
         fs::write(&first, &bytes).expect("written");
-        import(&first, &platter).expect("imported");
+        import(&first, &platter, None, false).expect("imported");
 
         // Block 17 moves to spare 1 and 5000 to spare 2, with other bytes.
         write_badly(&platter, &[17, 4928], 17, &[1; 532]);
@@ -119,7 +235,7 @@ mod tests {
         bytes[17 * 532..18 * 532].fill(1);
         bytes[5000 * 532..5001 * 532].fill(2);
         let before = fs::read(&platter).expect("a platter");
-        assert_eq!(export(&platter, &second, false), Ok(vec![]));
+        assert_eq!(export(&platter, &second, usual()), Ok(Exported::default()));
         assert!(fs::read(&second).expect("an image") == bytes);
         assert!(fs::read(&platter).expect("a platter") == before);
         let stored = Platter::load(&platter).expect("a platter").table();
@@ -134,11 +250,19 @@ mod tests {
         let (first, platter, second) = (folder.join("a"), folder.join("p"), folder.join("b"));
         let mut bytes = image();
         fs::write(&first, &bytes).expect("written");
-        import(&first, &platter).expect("imported");
+        import(&first, &platter, None, false).expect("imported");
         fs::write(folder.join("p.unreadable"), "300\n4992\n").expect("written");
-        assert_eq!(export(&platter, &second, false), Ok(vec![300, 4928]));
+        let lost = Exported {
+            lost: vec![300, 4928],
+            ..Exported::default()
+        };
+        assert_eq!(export(&platter, &second, usual()), Ok(lost.clone()));
         assert!(!second.exists());
-        assert_eq!(export(&platter, &second, true), Ok(vec![300, 4928]));
+        let keep_going = Export {
+            keep_going: true,
+            ..usual()
+        };
+        assert_eq!(export(&platter, &second, keep_going), Ok(lost));
         bytes[300 * 532..301 * 532].fill(0);
         bytes[4928 * 532..4929 * 532].fill(0);
         assert!(fs::read(&second).expect("an image") == bytes);
@@ -150,12 +274,100 @@ mod tests {
         let folder = test_folder("refused");
         let (image, platter) = (folder.join("a"), folder.join("p"));
         fs::write(&image, vec![0; LENGTH - 1]).expect("written");
-        let message = import(&image, &platter).expect_err("another size");
+        let message = import(&image, &platter, None, false).expect_err("another size");
         assert!(message.contains("has 5175295 bytes and is no image"));
         assert!(!platter.exists());
         fs::write(&platter, vec![0; crate::platter::LENGTH]).expect("written");
-        let message = export(&platter, &folder.join("b"), false).expect_err("no table");
+        let message = export(&platter, &folder.join("b"), usual()).expect_err("no table");
         assert!(message.contains("has no good table"));
+        fs::remove_dir_all(folder).expect("removed");
+    }
+
+    /// Makes a DiskCopy 4.2 image of so many blocks, all different.
+    fn diskcopy_image(blocks: usize) -> Vec<u8> {
+        let bytes = image();
+        let (data, tags) = bytes.split_at(BLOCKS as usize * 512);
+        diskcopy::write("Shop", &data[..blocks * 512], &tags[..blocks * 20])
+    }
+
+    #[test]
+    fn a_diskcopy_image_there_and_back() {
+        let folder = test_folder("diskcopy");
+        let (first, platter, second) = (folder.join("a"), folder.join("p.x"), folder.join("b"));
+        let mut bytes = diskcopy_image(800);
+        fs::write(&first, &bytes).expect("written");
+        let done = import(&first, &platter, None, false).expect("imported");
+        let folder_name = format!("{}/", folder.display());
+        let lines = done.lines.iter().map(|line| line.replace(&folder_name, ""));
+        let lines: Vec<String> = lines.collect();
+        assert_eq!(
+            lines,
+            [
+                "a: a DiskCopy 4.2 image \"Shop\" of 800 blocks of 512 bytes with tags of 20",
+                "p.x: the 800 blocks of a, the tags before the 512 bytes of each, zeros in blocks \
+                 800..9727, with an empty table",
+            ]
+        );
+        assert_eq!(done.wrong, [""; 0]);
+        let how = Export {
+            form: ImageForm::DiskCopy,
+            ..usual()
+        };
+        assert_eq!(export(&platter, &second, how), Ok(Exported::default()));
+        let back = fs::read(&second).expect("an image");
+        assert_eq!(back[..3], [1, b'p', 0], "the platter's name");
+        assert!(back[84..84 + 800 * 512] == bytes[84..84 + 800 * 512]);
+        let tags = 84 + 9728 * 512;
+        assert!(back[tags..tags + 800 * 20] == bytes[84 + 800 * 512..]);
+        assert!(back[84 + 800 * 512..tags].iter().all(|&byte| byte == 0));
+
+        // A byte of the name is in no checksum.
+        bytes[1] = b'F';
+        bytes[84] ^= 1;
+        fs::write(&first, &bytes).expect("written");
+        let other = folder.join("q");
+        let message = import(&first, &other, None, false).expect_err("a wrong checksum");
+        assert!(
+            message.contains("image \"Fhop\" of 800 blocks"),
+            "{message}"
+        );
+        assert!(message.contains(" for its data, which have "), "{message}");
+        assert!(!other.exists());
+        let done = import(&first, &other, None, true).expect("imported");
+        assert_eq!(done.wrong.len(), 1);
+        let (one, two) = (fs::read(&platter), fs::read(&other));
+        let (one, two) = (one.expect("a platter"), two.expect("a platter"));
+        let differ: Vec<usize> = (0..one.len()).filter(|&at| one[at] != two[at]).collect();
+        assert_eq!(differ, [20], "the first data byte of block 0");
+        fs::remove_dir_all(folder).expect("removed");
+    }
+
+    #[test]
+    fn blocks_of_512_bytes_there_and_back() {
+        let folder = test_folder("raw512");
+        let (first, platter, second) = (folder.join("a"), folder.join("p"), folder.join("b"));
+        let bytes = image()[..BLOCKS as usize * 512].to_vec();
+        fs::write(&first, &bytes).expect("written");
+        let done = import(&first, &platter, Some(TagPlace::Last), false).expect("imported");
+        let words = "20 zeros behind the 512 bytes of each, with an empty table";
+        assert!(done.lines[1].ends_with(words), "{done:?}");
+        let held = fs::read(&platter).expect("a platter");
+        assert!(held[532..532 + 512] == bytes[512..1024]);
+        assert!(held[532 + 512..2 * 532].iter().all(|&byte| byte == 0));
+        let how = Export {
+            form: ImageForm::Raw512,
+            tags: TagPlace::Last,
+            ..usual()
+        };
+        assert_eq!(export(&platter, &second, how), Ok(Exported::default()));
+        assert!(fs::read(&second).expect("an image") == bytes);
+        fs::write(&first, image()).expect("written");
+        let message = import(&first, &folder.join("q"), Some(TagPlace::Last), false);
+        let message = message.expect_err("nothing to place");
+        assert!(
+            message.contains("--tags goes with blocks of 512"),
+            "{message}"
+        );
         fs::remove_dir_all(folder).expect("removed");
     }
 }

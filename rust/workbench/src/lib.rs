@@ -9,8 +9,8 @@
 //! table in words. `show`, `status`, `trials`, `trace` and `summary` say what happened,
 //! `progress` how far a long line is, and `picture` draws it. `image_files` brings images
 //! on a platter and takes them off; `table_files` shows the tables of files, and turns
-//! their images into the other form; `files` reads and writes all files. The command line
-//! is in the package `usage`.
+//! their images into the other form; `rescue` takes tables off a platter and puts them on
+//! it; `files` reads and writes all files. The command line is in the package `usage`.
 
 pub mod board;
 pub mod bus;
@@ -26,6 +26,7 @@ pub mod plan;
 pub mod platter;
 pub mod power;
 pub mod progress;
+pub mod rescue;
 pub mod run;
 pub mod show;
 pub mod status;

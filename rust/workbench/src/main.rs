@@ -10,11 +10,12 @@ use std::io::{self, BufRead, BufReader, BufWriter, IsTerminal, Write};
 use std::path::Path;
 use std::process::ExitCode;
 
-use usage::{Asked, Plan, Work};
+use usage::{Asked, Export, Plan, Work};
+use workbench::image_files::Imported;
 use workbench::picture::{self, Moment};
 use workbench::run::{Run, Settings, Stop};
 use workbench::table_files::Source;
-use workbench::{files, image_files, show, table_files};
+use workbench::{files, image_files, rescue, show, table_files};
 
 fn main() -> ExitCode {
     let asked = usage::asked(env::args_os().skip(1));
@@ -44,19 +45,23 @@ fn carry_out(work: Work) -> Result<bool, String> {
             };
             play(plan.as_ref(), settings, io::stdout().lock()).map(|(good, _)| good)
         }
-        Work::Import { image, platter } => {
-            image_files::import(&image, &platter)?;
-            let (image, platter) = (image.display(), platter.display());
-            say(&format!(
-                "{platter}: the 9728 blocks of {image}, with an empty table\n"
-            ))
-        }
+        Work::Import {
+            image,
+            platter,
+            tags,
+            keep_going,
+        } => imported(image_files::import(&image, &platter, tags, keep_going)?),
         Work::Export {
             platter,
             image,
-            keep_going,
-        } => export(&platter, &image, keep_going),
-        Work::Table { source } => table(&source),
+            how,
+        } => export(&platter, &image, how),
+        Work::Table { source, to } => table(&source, to.as_deref()),
+        Work::PutTable {
+            table,
+            platter,
+            replace,
+        } => say_lines(&rescue::put(table.as_deref(), &platter, replace)?),
         Work::Convert { from, to } => {
             let done = table_files::convert(&from, &to)?;
             say(&format!("{done}\n"))
@@ -69,6 +74,14 @@ fn carry_out(work: Work) -> Result<bool, String> {
 /// Writes to standard output.
 fn say(text: &str) -> Result<bool, String> {
     usage::say(text).map(|()| true)
+}
+
+/// Writes lines to standard output.
+fn say_lines(lines: &[String]) -> Result<bool, String> {
+    say(&lines
+        .iter()
+        .map(|line| format!("{line}\n"))
+        .collect::<String>())
 }
 
 /// Runs a plan, or standard input, and shows what happens.
@@ -111,14 +124,29 @@ fn standard_input() -> Box<dyn BufRead> {
     Box::new(io::stdin().lock())
 }
 
-fn export(platter: &Path, image: &Path, keep_going: bool) -> Result<bool, String> {
-    let lost = image_files::export(platter, image, keep_going)?;
-    let (platter, image) = (platter.display(), image.display());
-    if lost.is_empty() {
-        return say(&format!("{image}: the 9728 blocks of {platter}\n"));
+/// Says what was imported, and whether its checksums were right.
+fn imported(done: Imported) -> Result<bool, String> {
+    say_lines(&done.lines)?;
+    for fault in &done.wrong {
+        eprintln!("workbench: {fault}");
     }
-    let blocks = show::ranges(&lost);
-    let rest = match keep_going {
+    Ok(done.wrong.is_empty())
+}
+
+fn export(platter: &Path, image: &Path, how: Export) -> Result<bool, String> {
+    let done = image_files::export(platter, image, how)?;
+    let written = done.lost.is_empty() || how.keep_going;
+    if written {
+        let mut lines = vec![done.line(platter, image, how)];
+        lines.extend(done.notes(how));
+        say_lines(&lines)?;
+    }
+    if done.lost.is_empty() {
+        return Ok(true);
+    }
+    let (platter, image) = (platter.display(), image.display());
+    let blocks = show::ranges(&done.lost);
+    let rest = match written {
         true => format!("{image} has zeros for them"),
         false => format!("{image} was not written (with --keep-going it has zeros for them)"),
     };
@@ -126,10 +154,20 @@ fn export(platter: &Path, image: &Path, keep_going: bool) -> Result<bool, String
     Ok(false)
 }
 
-/// Shows the table of a platter file, or of a table's image.
-fn table(source: &Path) -> Result<bool, String> {
-    let lines = table_files::lines(source)?;
-    say(&format!("{}\n", lines.join("\n")))
+/// Shows the table of a platter file, or of a table's image, or takes it off to a file.
+fn table(source: &Path, to: Option<&Path>) -> Result<bool, String> {
+    let Some(to) = to else {
+        return say_lines(&table_files::lines(source)?);
+    };
+    let taken = rescue::take(source, to)?;
+    say_lines(&[taken.line])?;
+    match taken.fault {
+        Some(fault) => {
+            eprintln!("workbench: {fault}");
+            Ok(false)
+        }
+        None => Ok(true),
+    }
 }
 
 /// The picture of a platter file, or of a table's image.

@@ -17,7 +17,7 @@ use crate::picture::{Moment, Outcome};
 use crate::plan::{self, Line, Order};
 use crate::platter::Platter;
 use crate::progress::Progress;
-use crate::{show, summary, table, trace};
+use crate::{image_files, show, summary, table, trace};
 use cuts::{Again, Compared};
 
 /// How a plan is run.
@@ -78,7 +78,7 @@ impl<W: Write> Run<W> {
     /// Opens the platter.
     pub fn new(settings: Settings, out: W) -> Result<Run<W>, String> {
         let platter = match &settings.platter {
-            Some(path) => Platter::open(path)?,
+            Some(path) => image_files::open_platter(path)?,
             None => Platter::blank(),
         };
         let host = Host::new(Board::new(platter));

@@ -8,8 +8,9 @@ use controller::{Answer, Code};
 use reference::geometry::{SECTOR_BYTES, TABLE};
 use reference::image::{self, Clause, Fault, Form, Table};
 
+use crate::image_files::{load_platter, pointed, unknown};
 use crate::platter::{self, Platter};
-use crate::{files, show, table};
+use crate::{files, rescue, show, table};
 
 /// Says what a file with a table is.
 pub enum Source {
@@ -24,13 +25,10 @@ impl Source {
         let bytes = files::read(path)?;
         match bytes.len() {
             SECTOR_BYTES => Ok(Source::Image(bytes)),
-            length if length < platter::LENGTH => Err(format!(
-                "{} has {length} bytes and is neither a platter, which has {} (9792 sectors of \
-                 532), nor a table's image, which has 532",
-                path.display(),
-                platter::LENGTH
-            )),
-            _ => Platter::load(path).map(Source::Platter),
+            length if length < platter::LENGTH => {
+                Err(pointed(path, &bytes).unwrap_or_else(|| neither(path, &bytes)))
+            }
+            _ => load_platter(path).map(Source::Platter),
         }
     }
 
@@ -54,21 +52,38 @@ impl Source {
     }
 }
 
-/// Shows the table of a file in words, or says why it has none.
+/// Says of a file that it is neither a platter nor a table's image.
+fn neither(path: &Path, bytes: &[u8]) -> String {
+    let fault = format!(
+        "{} has {} bytes and is neither a platter, which has {} (9792 sectors of 532), nor a \
+         table's image, which has 532",
+        path.display(),
+        bytes.len(),
+        platter::LENGTH
+    );
+    unknown(&fault, bytes)
+}
+
+/// Shows the table of a file in words, or says why it has none and what can be had.
 pub fn lines(path: &Path) -> Result<Vec<String>, String> {
     let name = path.display();
     let (form, table) = match Source::read(path)? {
         Source::Image(bytes) => judged(&bytes).map_err(|fault| no_image(path, &fault))?,
         Source::Platter(platter) => {
             let judged = held(&platter).and_then(|bytes| judged(&bytes));
-            judged.map_err(|fault| format!("{name} has no good table, {fault}"))?
+            judged.map_err(|fault| rescue::no_table(path, &fault))?
         }
     };
-    let (form, counts) = (table::form(form, &table), table::counts(&table, true));
-    let mut lines = vec![format!("{name}: {form}, {counts}")];
+    let mut lines = vec![format!("{name}: {}", summary(form, &table))];
     let entries = table::lines(&table);
     lines.extend(entries.iter().map(|line| format!("  {line}")));
     Ok(lines)
+}
+
+/// Says the form of a table, its run number and its counts.
+pub fn summary(form: Form, table: &Table) -> String {
+    let (form, counts) = (table::form(form, table), table::counts(table, true));
+    format!("{form}, {counts}")
 }
 
 /// Writes the other form of an image to a file. Says what was written.
@@ -99,7 +114,7 @@ pub fn turned(image: &[u8]) -> Result<(Form, [u8; SECTOR_BYTES]), String> {
 }
 
 /// Reads an image that the library takes, or says its refusal in words.
-fn judged(bytes: &[u8]) -> Result<(Form, Table), String> {
+pub fn judged(bytes: &[u8]) -> Result<(Form, Table), String> {
     turned(bytes)?;
     Ok(image::read(bytes).expect("what is turned into the other form is an image"))
 }
@@ -138,7 +153,8 @@ fn broken(clause: Clause) -> &'static str {
     }
 }
 
-fn no_image(path: &Path, fault: &str) -> String {
+/// Says of a file that it is no table's image.
+pub fn no_image(path: &Path, fault: &str) -> String {
     format!("{} is no table's image, {fault}", path.display())
 }
 

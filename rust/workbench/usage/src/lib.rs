@@ -3,6 +3,7 @@
 //! once.
 
 mod library;
+mod options;
 mod repository;
 mod work;
 
@@ -10,7 +11,7 @@ use std::ffi::OsString;
 use std::io::{self, Write};
 use std::process::ExitCode;
 
-pub use work::{Plan, Work};
+pub use work::{Export, ImageForm, Plan, TagPlace, Work};
 
 /// The help: every command, and every line of a plan with an example.
 pub const HELP: &str = include_str!("help.txt");

@@ -3,6 +3,7 @@
 use std::fs::{self, File};
 use std::path::{Path, PathBuf};
 
+use crate::options::{Known, Sorted};
 use crate::repository::ROOT;
 use crate::HELP;
 
@@ -20,15 +21,29 @@ pub enum Work {
     Import {
         image: PathBuf,
         platter: PathBuf,
+        /// Where the tags come to stand; as `TagPlace::First` if it is not said.
+        tags: Option<TagPlace>,
+        /// Wrong checksums are told, and end nothing.
+        keep_going: bool,
     },
     Export {
         platter: PathBuf,
         image: PathBuf,
-        keep_going: bool,
+        how: Export,
     },
     Table {
         /// A platter, or a table's image.
         source: PathBuf,
+        /// The file that the platter's table is taken off to.
+        to: Option<PathBuf>,
+    },
+    /// Put a table on a platter.
+    PutTable {
+        /// The table's image; an empty one without it.
+        table: Option<PathBuf>,
+        platter: PathBuf,
+        /// A good table may be replaced.
+        replace: bool,
     },
     /// Turn a table's image into its other form.
     Convert {
@@ -46,6 +61,37 @@ pub enum Work {
     },
 }
 
+/// Says how blocks are taken off a platter.
+#[derive(Clone, Copy, Debug, Default, PartialEq, Eq)]
+pub struct Export {
+    pub form: ImageForm,
+    pub tags: TagPlace,
+    /// Blocks that cannot be read become zeros.
+    pub keep_going: bool,
+    /// Each block is read at its home sector.
+    pub without_table: bool,
+}
+
+/// Names the forms of an image.
+#[derive(Clone, Copy, Debug, Default, PartialEq, Eq)]
+pub enum ImageForm {
+    /// Blocks of 532 bytes, as they stand.
+    #[default]
+    Raw532,
+    /// Blocks of 512 bytes, without their tags.
+    Raw512,
+    /// DiskCopy 4.2, with tags of 20 bytes.
+    DiskCopy,
+}
+
+/// Says where the 20 tag bytes of a block stand among its 532.
+#[derive(Clone, Copy, Debug, Default, PartialEq, Eq)]
+pub enum TagPlace {
+    #[default]
+    First,
+    Last,
+}
+
 /// A plan in a file.
 #[derive(Clone, Debug, PartialEq, Eq)]
 pub struct Plan {
@@ -60,15 +106,10 @@ pub fn parse(words: &[&str], plans: Option<&Path>) -> Result<Work, String> {
     match words {
         ["run", rest @ ..] => run(rest, plans),
         ["week", rest @ ..] => run(&[rest, &[&week(plans)?]].concat(), plans),
-        ["import", image, platter] => Ok(Work::Import {
-            image: readable(image)?,
-            platter: new(platter)?,
-        }),
-        ["export", platter, image] => export(platter, image, false),
-        ["export", "--keep-going", platter, image] => export(platter, image, true),
-        ["table", source] => Ok(Work::Table {
-            source: readable(source)?,
-        }),
+        ["import", rest @ ..] => import(rest),
+        ["export", rest @ ..] => export(rest),
+        ["table", rest @ ..] => table(rest),
+        ["put-table", rest @ ..] => put_table(rest),
         ["convert", from, to] => Ok(Work::Convert {
             from: readable(from)?,
             to: new(to)?,
@@ -83,10 +124,19 @@ pub fn parse(words: &[&str], plans: Option<&Path>) -> Result<Work, String> {
         }),
         [] => Err(String::from("what is to be done? see --help")),
         [first, ..] => Err(match help_of(first) {
-            Some(line) => format!("the usage is {line}; see --help"),
+            Some(line) => usage_is(line),
             None => format!("\"{}\" is no command; see --help", words.join(" ")),
         }),
     }
+}
+
+fn usage_is(line: &str) -> String {
+    format!("the usage is {line}; see --help")
+}
+
+/// Says how a command is called that has other names than it needs.
+fn misused<T>(command: &str) -> Result<T, String> {
+    Err(usage_is(help_of(command).unwrap_or(command)))
 }
 
 fn run(words: &[&str], plans: Option<&Path>) -> Result<Work, String> {
@@ -113,11 +163,106 @@ fn run(words: &[&str], plans: Option<&Path>) -> Result<Work, String> {
     })
 }
 
-fn export(platter: &str, image: &str, keep_going: bool) -> Result<Work, String> {
+fn import(words: &[&str]) -> Result<Work, String> {
+    let known = Known {
+        command: "import",
+        flags: &["--keep-going"],
+        valued: &["--tags"],
+    };
+    let words = Sorted::new(words, known)?;
+    let [image, platter] = words.names() else {
+        return misused("import");
+    };
+    Ok(Work::Import {
+        image: readable(image)?,
+        platter: new(platter)?,
+        tags: words.value("--tags").map(tag_place).transpose()?,
+        keep_going: words.has("--keep-going"),
+    })
+}
+
+fn export(words: &[&str]) -> Result<Work, String> {
+    let known = Known {
+        command: "export",
+        flags: &["--keep-going", "--without-table"],
+        valued: &["--form", "--tags"],
+    };
+    let words = Sorted::new(words, known)?;
+    let [platter, image] = words.names() else {
+        return misused("export");
+    };
+    let form = words.value("--form").map(image_form).transpose()?;
+    let tags = words.value("--tags").map(tag_place).transpose()?;
+    let form = form.unwrap_or_default();
+    if form == ImageForm::Raw532 && tags.is_some() {
+        let reason = "blocks of 532 bytes are written as they stand";
+        return Err(format!(
+            "--tags goes with --form raw512 or diskcopy: {reason}"
+        ));
+    }
     Ok(Work::Export {
         platter: readable(platter)?,
         image: new(image)?,
-        keep_going,
+        how: Export {
+            form,
+            tags: tags.unwrap_or_default(),
+            keep_going: words.has("--keep-going"),
+            without_table: words.has("--without-table"),
+        },
+    })
+}
+
+fn image_form(word: &str) -> Result<ImageForm, String> {
+    match word {
+        "raw532" => Ok(ImageForm::Raw532),
+        "raw512" => Ok(ImageForm::Raw512),
+        "diskcopy" => Ok(ImageForm::DiskCopy),
+        _ => Err(format!(
+            "\"{word}\" is no form of an image: raw532, raw512 or diskcopy"
+        )),
+    }
+}
+
+fn tag_place(word: &str) -> Result<TagPlace, String> {
+    match word {
+        "first" => Ok(TagPlace::First),
+        "last" => Ok(TagPlace::Last),
+        _ => Err(format!("\"{word}\" is no place of tags: first or last")),
+    }
+}
+
+fn table(words: &[&str]) -> Result<Work, String> {
+    let known = Known {
+        command: "table",
+        flags: &[],
+        valued: &["--to"],
+    };
+    let words = Sorted::new(words, known)?;
+    let [source] = words.names() else {
+        return misused("table");
+    };
+    Ok(Work::Table {
+        source: readable(source)?,
+        to: words.value("--to").map(new).transpose()?,
+    })
+}
+
+fn put_table(words: &[&str]) -> Result<Work, String> {
+    let known = Known {
+        command: "put-table",
+        flags: &["--empty", "--replace"],
+        valued: &[],
+    };
+    let words = Sorted::new(words, known)?;
+    let (table, platter) = match (words.has("--empty"), words.names()) {
+        (true, [platter]) => (None, platter),
+        (false, [table, platter]) => (Some(readable(table)?), platter),
+        _ => return misused("put-table"),
+    };
+    Ok(Work::PutTable {
+        table,
+        platter: readable(platter)?,
+        replace: words.has("--replace"),
     })
 }
 
@@ -185,6 +330,7 @@ mod tests {
     const NOWHERE: &str = "./none";
     const FOLDER: &str = ".";
     const PLANS: &str = "../../../plans";
+    const PUT_TABLE: &str = "workbench put-table [--replace] FILE|--empty PLATTER";
 
     fn asks(words: &[&str]) -> Result<Work, String> {
         parse(words, Some(Path::new(PLANS)))
@@ -258,36 +404,24 @@ mod tests {
     #[test]
     fn files_to_be_read_are_there_and_new_ones_are_not() {
         let (here, nowhere) = (PathBuf::from(HERE), PathBuf::from(NOWHERE));
-        for keep_going in [false, true] {
-            let option = ["--keep-going"].into_iter().filter(|_| keep_going);
-            let words: Vec<&str> = ["export"].into_iter().chain(option).collect();
-            let work = Work::Export {
-                platter: here.clone(),
-                image: nowhere.clone(),
-                keep_going,
-            };
-            assert_eq!(asks(&[&words[..], &[HERE, NOWHERE]].concat()), Ok(work));
-            let message = fault(&[&words[..], &[NOWHERE, NOWHERE]].concat());
-            assert!(message.contains("/none cannot be read: "), "{message}");
-            let message = fault(&[&words[..], &[HERE, HERE]].concat());
-            assert!(
-                message.contains("/Cargo.toml is there already"),
-                "{message}"
-            );
-        }
+        let work = Work::Export {
+            platter: here.clone(),
+            image: nowhere.clone(),
+            how: Export::default(),
+        };
+        assert_eq!(asks(&["export", HERE, NOWHERE]), Ok(work));
+        assert!(fault(&["export", NOWHERE, NOWHERE]).contains("/none cannot be read: "));
+        assert!(fault(&["export", HERE, HERE]).contains("/Cargo.toml is there already"));
         let work = Work::Import {
             image: here.clone(),
             platter: nowhere.clone(),
+            tags: None,
+            keep_going: false,
         };
         assert_eq!(asks(&["import", HERE, NOWHERE]), Ok(work));
         assert!(fault(&["import", NOWHERE, NOWHERE]).contains("/none cannot be read: "));
         assert!(fault(&["import", HERE, HERE]).contains(" is there already"));
         assert!(fault(&["import", FOLDER, NOWHERE]).ends_with("it is a folder"));
-        let work = Work::Table {
-            source: here.clone(),
-        };
-        assert_eq!(asks(&["table", HERE]), Ok(work));
-        assert!(fault(&["table", NOWHERE]).contains("/none cannot be read: "));
         let work = Work::Convert {
             from: here.clone(),
             to: nowhere.clone(),
@@ -304,11 +438,118 @@ mod tests {
     }
 
     #[test]
+    fn options_of_import_and_export() {
+        let (here, nowhere) = (PathBuf::from(HERE), PathBuf::from(NOWHERE));
+        let work = Work::Import {
+            image: here.clone(),
+            platter: nowhere.clone(),
+            tags: Some(TagPlace::Last),
+            keep_going: true,
+        };
+        let words = ["import", "--keep-going", HERE, NOWHERE, "--tags", "last"];
+        assert_eq!(asks(&words), Ok(work));
+        for (words, how) in [
+            (
+                &["--keep-going"][..],
+                Export {
+                    keep_going: true,
+                    ..Export::default()
+                },
+            ),
+            (
+                &["--form", "raw512", "--tags", "last"],
+                Export {
+                    form: ImageForm::Raw512,
+                    tags: TagPlace::Last,
+                    ..Export::default()
+                },
+            ),
+            (
+                &["--without-table", "--form", "diskcopy", "--tags", "first"],
+                Export {
+                    form: ImageForm::DiskCopy,
+                    without_table: true,
+                    ..Export::default()
+                },
+            ),
+        ] {
+            let work = Work::Export {
+                platter: here.clone(),
+                image: nowhere.clone(),
+                how,
+            };
+            let words = [&["export", HERE, NOWHERE], words].concat();
+            assert_eq!(asks(&words), Ok(work));
+        }
+    }
+
+    #[test]
+    fn wrong_options_of_import_and_export() {
+        for (words, said) in [
+            (&["--form", "dmg"][..], "\"dmg\" is no form of an image: "),
+            (&["--tags", "both"], "\"both\" is no place of tags: "),
+            (&["--tags", "last"], "--tags goes with --form raw512 or "),
+            (&["--replace"], "\"--replace\" is no option of export; "),
+            (&["--form"], "--form needs a form: "),
+        ] {
+            let message = fault(&[&["export", HERE, NOWHERE], words].concat());
+            assert!(message.starts_with(said), "{message}");
+        }
+        let message = fault(&["import", "--form", "raw512", HERE, NOWHERE]);
+        assert_eq!(message, "\"--form\" is no option of import; see --help");
+        assert_eq!(
+            fault(&["import", HERE, NOWHERE, "--tags"]),
+            "--tags needs a place: first or last"
+        );
+    }
+
+    #[test]
+    fn tables_are_shown_taken_off_and_put() {
+        let (here, nowhere) = (PathBuf::from(HERE), PathBuf::from(NOWHERE));
+        let shown = |to| Work::Table {
+            source: here.clone(),
+            to,
+        };
+        assert_eq!(asks(&["table", HERE]), Ok(shown(None)));
+        let words = ["table", HERE, "--to", NOWHERE];
+        assert_eq!(asks(&words), Ok(shown(Some(nowhere))));
+        assert!(fault(&["table", NOWHERE]).contains("/none cannot be read: "));
+        assert!(fault(&["table", HERE, "--to", HERE]).contains(" is there already"));
+        assert_eq!(fault(&["table", HERE, "--to"]), "--to needs a file");
+        let put = |table, replace| Work::PutTable {
+            table,
+            platter: here.clone(),
+            replace,
+        };
+        let image = Some(here.clone());
+        assert_eq!(
+            asks(&["put-table", HERE, HERE]),
+            Ok(put(image.clone(), false))
+        );
+        let words = ["put-table", "--replace", HERE, HERE];
+        assert_eq!(asks(&words), Ok(put(image, true)));
+        assert_eq!(asks(&["put-table", "--empty", HERE]), Ok(put(None, false)));
+        let words = ["put-table", HERE, "--empty", "--replace"];
+        assert_eq!(asks(&words), Ok(put(None, true)));
+        assert!(fault(&["put-table", NOWHERE, HERE]).contains("/none cannot be read: "));
+        assert!(fault(&["put-table", HERE, NOWHERE]).contains("/none cannot be read: "));
+    }
+
+    #[test]
     fn a_command_with_wrong_arguments_is_shown() {
         for (words, shown) in [
-            (&["import", "a"][..], "workbench import IMAGE PLATTER"),
-            (&["export"], "workbench export [--keep-going] PLATTER IMAGE"),
-            (&["table"], "workbench table PLATTER"),
+            (
+                &["import", "a"][..],
+                "workbench import [--keep-going] [--tags PLACE] IMAGE PLATTER",
+            ),
+            (&["export"], "workbench export [OPTIONS] PLATTER IMAGE"),
+            (
+                &["export", "a", "b", "c"],
+                "workbench export [OPTIONS] PLATTER IMAGE",
+            ),
+            (&["table"], "workbench table PLATTER [--to FILE]"),
+            (&["put-table", "a"], PUT_TABLE),
+            (&["put-table", "--empty", "a", "b"], PUT_TABLE),
             (&["convert", "a"], "workbench convert FROM TO"),
             (
                 &["picture", "a", "b", "c"],
