@@ -294,7 +294,7 @@ mod tests {
     fn a_diskcopy_image_there_and_back() {
         let folder = test_folder("diskcopy");
         let (first, platter, second) = (folder.join("a"), folder.join("p.x"), folder.join("b"));
-        let mut bytes = diskcopy_image(800);
+        let bytes = diskcopy_image(800);
         fs::write(&first, &bytes).expect("written");
         let done = import(&first, &platter, None, false).expect("imported");
         let folder_name = format!("{}/", folder.display());
@@ -320,25 +320,28 @@ mod tests {
         let tags = 84 + 9728 * 512;
         assert!(back[tags..tags + 800 * 20] == bytes[84 + 800 * 512..]);
         assert!(back[84 + 800 * 512..tags].iter().all(|&byte| byte == 0));
+        fs::remove_dir_all(folder).expect("removed");
+    }
 
+    #[test]
+    fn a_wrong_checksum_is_taken_if_that_is_said() {
+        let folder = test_folder("sums");
+        let (path, platter) = (folder.join("a"), folder.join("p"));
+        let mut bytes = diskcopy_image(2);
         // A byte of the name is in no checksum.
         bytes[1] = b'F';
         bytes[84] ^= 1;
-        fs::write(&first, &bytes).expect("written");
-        let other = folder.join("q");
-        let message = import(&first, &other, None, false).expect_err("a wrong checksum");
-        assert!(
-            message.contains("image \"Fhop\" of 800 blocks"),
-            "{message}"
-        );
+        fs::write(&path, &bytes).expect("written");
+        let message = import(&path, &platter, None, false).expect_err("a wrong checksum");
+        assert!(message.contains("image \"Fhop\" of 2 blocks"), "{message}");
         assert!(message.contains(" for its data, which have "), "{message}");
-        assert!(!other.exists());
-        let done = import(&first, &other, None, true).expect("imported");
+        assert!(!platter.exists());
+        let done = import(&path, &platter, None, true).expect("imported");
         assert_eq!(done.wrong.len(), 1);
-        let (one, two) = (fs::read(&platter), fs::read(&other));
-        let (one, two) = (one.expect("a platter"), two.expect("a platter"));
-        let differ: Vec<usize> = (0..one.len()).filter(|&at| one[at] != two[at]).collect();
-        assert_eq!(differ, [20], "the first data byte of block 0");
+        let start = format!("{}: the header has ", path.display());
+        assert!(done.wrong[0].starts_with(&start), "{done:?}");
+        let held = fs::read(&platter).expect("a platter");
+        assert_eq!(held[20..20 + 512], bytes[84..84 + 512]);
         fs::remove_dir_all(folder).expect("removed");
     }
 

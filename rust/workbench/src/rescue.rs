@@ -344,10 +344,9 @@ mod tests {
             lines[2].contains("every block is read from the sector"),
             "{lines:?}"
         );
-        let kept = |name| fs::read(folder.join(name)).expect("old bytes");
-        assert_eq!(kept("p.old-table"), old);
-        assert_eq!(kept("p.old-table.2"), new);
-        assert_eq!(kept("p.old-table.3"), platter::empty_table());
+        let kept = ["p.old-table", "p.old-table.2", "p.old-table.3"];
+        let kept = kept.map(|name| fs::read(folder.join(name)).expect("old bytes"));
+        assert_eq!(kept, [old, new, platter::empty_table().to_vec()]);
         fs::remove_dir_all(folder).expect("removed");
     }
 

@@ -37,7 +37,7 @@ const NO_FLOPPY: [u8; 2] = [0xFF, 0xFF];
 /// The tags' checksum leaves out so many bytes.
 const LEFT_OUT: usize = 12;
 
-/// An image whose sizes are right.
+/// Holds an image whose sizes are right.
 #[derive(Clone, Copy, Debug, PartialEq, Eq)]
 pub struct DiskCopy<'a> {
     name: &'a [u8],
@@ -267,38 +267,44 @@ mod tests {
             bytes[place] = byte;
             bytes
         };
-        assert_eq!(
-            fault(&good[..good.len() - 1]),
-            "its header says 1024 bytes of data and 40 of tags, which makes 1148 in all, and the \
-             file has 1147"
-        );
-        assert_eq!(
-            fault(&changed(64, 0xFF)),
-            "its header says 4278191104 bytes of data and 40 of tags, which makes 4278191228 in \
-             all, and the file has 1148"
-        );
-        assert_eq!(
-            fault(&changed(82, 2)),
-            "bytes 82 and 83 are 02 00 and not 01 00"
-        );
-        assert_eq!(
-            fault(&changed(0, 64)),
-            "its name has 64 bytes, and 63 is the most"
-        );
-        let no_blocks = write("x", &[0; 500], &[]);
-        assert_eq!(
-            fault(&no_blocks),
-            "its 500 bytes of data are no blocks of 512"
-        );
-        assert!(fault(&write("x", &[], &[])).starts_with("its 0 bytes of data"));
-        assert_eq!(
-            fault(&image(&[0; 24])),
-            "each block has 12 tag bytes, as a floppy's has, and a drive's block has 20"
-        );
-        assert_eq!(
-            fault(&image(&[0; 38])),
-            "its 38 bytes of tags are not 20 for each of 2 blocks"
-        );
+        for (bytes, words) in [
+            (
+                good[..good.len() - 1].to_vec(),
+                "its header says 1024 bytes of data and 40 of tags, which makes 1148 in all, and \
+                 the file has 1147",
+            ),
+            (
+                changed(64, 0xFF),
+                "its header says 4278191104 bytes of data and 40 of tags, which makes 4278191228 \
+                 in all, and the file has 1148",
+            ),
+            (changed(82, 2), "bytes 82 and 83 are 02 00 and not 01 00"),
+            (changed(83, 1), "bytes 82 and 83 are 01 01 and not 01 00"),
+            (changed(0, 64), "its name has 64 bytes, and 63 is the most"),
+        ] {
+            assert_eq!(fault(&bytes), words);
+        }
+    }
+
+    #[test]
+    fn other_blocks_and_tags_are_told() {
+        let no_blocks = "bytes of data are no blocks of 512";
+        for (bytes, words) in [
+            (write("x", &[0; 500], &[]), format!("its 500 {no_blocks}")),
+            (write("x", &[], &[]), format!("its 0 {no_blocks}")),
+            (
+                image(&[0; 24]),
+                String::from(
+                    "each block has 12 tag bytes, as a floppy's has, and a drive's block has 20",
+                ),
+            ),
+            (
+                image(&[0; 38]),
+                String::from("its 38 bytes of tags are not 20 for each of 2 blocks"),
+            ),
+        ] {
+            assert_eq!(fault(&bytes), words);
+        }
     }
 
     #[test]

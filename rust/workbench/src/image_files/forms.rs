@@ -11,7 +11,7 @@ use super::diskcopy::{self, DiskCopy, DATA_BYTES, TAG_BYTES};
 use crate::files;
 use crate::platter::{self, Platter};
 
-/// How many blocks a drive has.
+/// Counts the blocks of a drive.
 const ALL: usize = BLOCKS as usize;
 
 /// Length of an image of blocks of 532 bytes.
@@ -20,7 +20,7 @@ pub const LENGTH: usize = ALL * SECTOR_BYTES;
 /// Length of an image of blocks of 512 bytes.
 pub const DATA_LENGTH: usize = ALL * DATA_BYTES;
 
-/// An image in one of its forms.
+/// Holds an image in one of its forms.
 #[derive(Clone, Copy, Debug, PartialEq, Eq)]
 pub enum Image<'a> {
     Raw532(&'a [u8]),
@@ -406,44 +406,46 @@ mod tests {
             message.ends_with("workbench put-table takes it"),
             "{message}"
         );
+        fs::remove_dir_all(folder).expect("removed");
+    }
 
-        for (bytes, words) in [
-            (
-                vec![0; LENGTH],
-                "is an image of 9728 blocks of 532 bytes and no platter; workbench import makes \
-                 one of it",
-            ),
-            (
-                vec![0; DATA_LENGTH],
-                "is an image of 9728 blocks of 512 bytes and no platter; workbench import makes \
-                 one of it",
-            ),
-            (
-                diskcopy::write("Shop", &[0; 512], &[]),
-                "is a DiskCopy 4.2 image \"Shop\" of 1 block of 512 bytes without tags, and no \
-                 platter; workbench import makes one of it",
-            ),
-            (
-                diskcopy::write("Big", &vec![0; 9729 * 512], &[]),
-                "without tags, and no platter; the drive has 9728 blocks",
-            ),
-            (
-                diskcopy::write("Floppy", &[0; 512], &[0; 12]),
-                "is no platter, and no good DiskCopy 4.2 image: each block has 12 tag bytes, \
-                 as a floppy's has, and a drive's block has 20",
-            ),
-            (
-                platter::empty_table().to_vec(),
-                "is a table's image and no platter; workbench put-table puts it on one",
-            ),
-        ] {
-            fs::write(&path, bytes).expect("written");
-            for message in [load_platter(&path), open_platter(&path)] {
-                let message = message.expect_err("no platter");
-                assert!(message.ends_with(words), "{message}");
-            }
+    /// Checks what is said of a file with these bytes in the place of a platter.
+    fn is_no_platter(bytes: &[u8], words: &str) {
+        let folder = test_folder("in-its-place");
+        let path = folder.join("x");
+        fs::write(&path, bytes).expect("written");
+        for message in [load_platter(&path), open_platter(&path)] {
+            let message = message.expect_err("no platter");
+            assert!(message.ends_with(words), "{message}");
         }
         fs::remove_dir_all(folder).expect("removed");
+    }
+
+    #[test]
+    fn images_in_the_place_of_a_platter_are_pointed_on() {
+        let import = "and no platter; workbench import makes one of it";
+        for (length, size) in [(LENGTH, 532), (DATA_LENGTH, 512)] {
+            let words = format!("/x is an image of 9728 blocks of {size} bytes {import}");
+            is_no_platter(&vec![0; length], &words);
+        }
+        let words = "/x is a DiskCopy 4.2 image \"Shop\" of 1 block of 512 bytes without tags, ";
+        is_no_platter(
+            &diskcopy::write("Shop", &[0; 512], &[]),
+            &format!("{words}{import}"),
+        );
+        is_no_platter(
+            &diskcopy::write("Big", &vec![0; 9729 * 512], &[]),
+            "without tags, and no platter; the drive has 9728 blocks",
+        );
+        is_no_platter(
+            &diskcopy::write("Floppy", &[0; 512], &[0; 12]),
+            "/x is no platter, and no good DiskCopy 4.2 image: each block has 12 tag bytes, as a \
+             floppy's has, and a drive's block has 20",
+        );
+        is_no_platter(
+            &platter::empty_table(),
+            "/x is a table's image and no platter; workbench put-table puts it on one",
+        );
     }
 
     #[test]

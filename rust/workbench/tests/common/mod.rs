@@ -46,3 +46,20 @@ pub fn ended(command: &mut Command, folder: &Path, input: &str) -> Output {
     drop(pipe);
     child.wait_with_output().expect("its end")
 }
+
+/// Runs the workbench in a folder. Says its exit status, its output and its messages.
+pub fn workbench(folder: &Path, arguments: &[&str], input: &str) -> (i32, String, String) {
+    let mut command = Command::new(program());
+    command.args(arguments).env("WORKBENCH_ROOT", root());
+    let output = ended(&mut command, folder, input);
+    let text = |bytes| String::from_utf8(bytes).expect("text");
+    let status = output.status.code().expect("a status");
+    (status, text(output.stdout), text(output.stderr))
+}
+
+/// Runs the workbench, which goes well. Says its output.
+pub fn done(folder: &Path, arguments: &[&str], input: &str) -> String {
+    let (status, out, message) = workbench(folder, arguments, input);
+    assert_eq!((status, message.as_str()), (0, ""), "{arguments:?}: {out}");
+    out
+}

@@ -438,47 +438,46 @@ mod tests {
     }
 
     #[test]
-    fn options_of_import_and_export() {
-        let (here, nowhere) = (PathBuf::from(HERE), PathBuf::from(NOWHERE));
+    fn options_of_import() {
         let work = Work::Import {
-            image: here.clone(),
-            platter: nowhere.clone(),
+            image: PathBuf::from(HERE),
+            platter: PathBuf::from(NOWHERE),
             tags: Some(TagPlace::Last),
             keep_going: true,
         };
         let words = ["import", "--keep-going", HERE, NOWHERE, "--tags", "last"];
         assert_eq!(asks(&words), Ok(work));
+    }
+
+    #[test]
+    fn options_of_export() {
+        let keep_going = Export {
+            keep_going: true,
+            ..Export::default()
+        };
+        let raw512 = Export {
+            form: ImageForm::Raw512,
+            tags: TagPlace::Last,
+            ..Export::default()
+        };
+        let rescued = Export {
+            form: ImageForm::DiskCopy,
+            without_table: true,
+            ..Export::default()
+        };
         for (words, how) in [
-            (
-                &["--keep-going"][..],
-                Export {
-                    keep_going: true,
-                    ..Export::default()
-                },
-            ),
-            (
-                &["--form", "raw512", "--tags", "last"],
-                Export {
-                    form: ImageForm::Raw512,
-                    tags: TagPlace::Last,
-                    ..Export::default()
-                },
-            ),
-            (
-                &["--without-table", "--form", "diskcopy", "--tags", "first"],
-                Export {
-                    form: ImageForm::DiskCopy,
-                    without_table: true,
-                    ..Export::default()
-                },
-            ),
+            ("--keep-going", keep_going),
+            ("--form raw512 --tags last", raw512),
+            ("--without-table --form diskcopy --tags first", rescued),
+            ("--form raw532", Export::default()),
         ] {
             let work = Work::Export {
-                platter: here.clone(),
-                image: nowhere.clone(),
+                platter: PathBuf::from(HERE),
+                image: PathBuf::from(NOWHERE),
                 how,
             };
-            let words = [&["export", HERE, NOWHERE], words].concat();
+            let words: Vec<&str> = words.split(' ').collect();
+            let words = [&["export", HERE, NOWHERE], &words[..]].concat();
             assert_eq!(asks(&words), Ok(work));
         }
     }
