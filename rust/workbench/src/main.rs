@@ -1,7 +1,8 @@
 //! The workbench as a command.
 //!
 //! Exit status: 0 all as it should be; 1 the history is broken, an expectation is
-//! not met or a block could not be read; 2 a wrong argument, plan or file.
+//! not met, a block could not be read or a file was taken although it is wrong; 2 a
+//! wrong argument, plan or file.
 
 use std::env;
 use std::fs::File;

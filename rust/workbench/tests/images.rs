@@ -8,6 +8,8 @@ use std::path::Path;
 
 use common::{done, folder, workbench};
 
+const GUIDE: &str = include_str!("../../../docs/WORKBENCH.md");
+
 const BLOCKS: usize = 9728;
 
 /// Makes the data of all blocks, and the tags of all.
@@ -49,6 +51,15 @@ fn whole(data: &[u8], tags: &[u8]) -> Vec<u8> {
     blocks.collect()
 }
 
+/// Checks that the guide shows what is said of an image with a header.
+fn is_in_the_guide(said: &str) {
+    for line in said.lines() {
+        let named = line.replace("a.dc42", "profile.dc42");
+        let named = named.replace("Shop.platter", "shop.platter");
+        assert!(GUIDE.contains(&format!("    {named}\n")), "{named}");
+    }
+}
+
 #[test]
 fn every_form_comes_back_from_every_other() {
     let here = folder("forms");
@@ -67,6 +78,7 @@ fn every_form_comes_back_from_every_other() {
                 Shop.platter: the 9728 blocks of a.dc42, the tags before the 512 bytes of each, \
                 with an empty table\n";
     assert_eq!(out, said);
+    is_in_the_guide(&out);
     let read = |name| fs::read(here.join(name)).expect("a file");
     assert!(read("from532") == read("Shop.platter"));
 

@@ -8,6 +8,8 @@ use std::path::PathBuf;
 
 use common::{done, folder, workbench};
 
+const GUIDE: &str = include_str!("../../../docs/WORKBENCH.md");
+
 const ON_P: [&str; 3] = ["run", "--platter", "p"];
 
 /// Makes a platter whose block 17 lives in spare 0, and takes its table off to `t`. Then
@@ -37,6 +39,24 @@ fn helps(message: &str) {
     ] {
         assert!(message.contains(words), "{words:?}: {message}");
     }
+}
+
+#[test]
+fn the_guide_shows_what_can_be_had() {
+    let here = with_lost_table("guide");
+    fs::rename(here.join("p"), here.join("shop.platter")).expect("renamed");
+    let (from, to) = ("p.unreadable", "shop.platter.unreadable");
+    fs::rename(here.join(from), here.join(to)).expect("renamed");
+    let (_, _, message) = workbench(&here, &["table", "shop.platter"], "");
+    let shown: String = message
+        .lines()
+        .map(|line| format!("    {line}\n"))
+        .collect();
+    assert!(
+        shown.lines().count() > 9 && GUIDE.contains(&shown),
+        "{shown}"
+    );
+    fs::remove_dir_all(here).expect("removed");
 }
 
 #[test]
