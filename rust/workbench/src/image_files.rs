@@ -61,8 +61,8 @@ pub fn import(
     let (image, platter) = (image.display(), platter.display());
     let wrong = wrong.iter().map(|fault| format!("{image}: {fault}"));
     let wrong = wrong.collect();
-    let blocks = found.blocks();
-    let done = format!("{platter}: the {blocks} blocks of {image}, {came}with an empty table");
+    let blocks = show::count(found.blocks() as u64, "block", "blocks");
+    let done = format!("{platter}: the {blocks} of {image}, {came}with an empty table");
     let lines = vec![what, done];
     Ok(Imported { lines, wrong })
 }
@@ -178,9 +178,16 @@ impl Exported {
         }
         if !self.dropped.is_empty() {
             let blocks = show::ranges(&self.dropped);
+            let (place, other) = match how.tags {
+                TagPlace::First => ("first", "last"),
+                TagPlace::Last => ("last", "first"),
+            };
             notes.push(format!(
-                "  tags that are not zero were left out (--form diskcopy keeps them), of blocks \
-                 {blocks}"
+                "  the tags, the {place} 20 bytes of a block, were left out; they are not zero in \
+                 blocks {blocks}"
+            ));
+            notes.push(format!(
+                "  (--form diskcopy keeps them; --tags {other} if they are the {other} 20 bytes)"
             ));
         }
         notes

@@ -90,10 +90,12 @@ fn every_form_comes_back_from_every_other() {
     assert_eq!(done(&here, &words, ""), said);
     assert!(read("b.dc42") == shop);
     let words = ["export", "Shop.platter", "b.512", "--form", "raw512"];
+    let out = done(&here, &words, "");
+    let said = "b.512: the 9728 blocks of Shop.platter, the 512 data bytes of each\n";
+    assert!(out.starts_with(said), "{out}");
     let said =
-        "b.512: the 9728 blocks of Shop.platter, the 512 data bytes of each\n  tags that are \
-                not zero were left out (--form diskcopy keeps them), of blocks 0..9727\n";
-    assert_eq!(done(&here, &words, ""), said);
+        "were left out; they are not zero in blocks 0..9727\n  (--form diskcopy keeps them; ";
+    assert!(out.contains(said), "{out}");
     assert!(read("b.512") == data);
     fs::remove_dir_all(here).expect("removed");
 }
