@@ -393,6 +393,32 @@ mod tests {
     }
 
     #[test]
+    fn no_other_sector_changes_and_a_save_that_fails_changes_none() {
+        let folder = test_folder("one-sector");
+        let path = folder.join("p");
+        good(&path, &[7; 532]);
+        let before = fs::read(&path).expect("a platter");
+        // The name that comes first is taken, by a folder.
+        fs::create_dir(folder.join("p.old-table")).expect("a folder");
+        fs::create_dir(folder.join("p.new")).expect("a folder in the way");
+        let message = put(None, &path, false).expect_err("a folder in the way");
+        assert!(message.contains("/p cannot be written: "), "{message}");
+        assert!(fs::read(&path).expect("a platter") == before);
+        assert_eq!(
+            fs::read(folder.join("p.old-table.2")).expect("old bytes"),
+            [7; 532]
+        );
+        fs::remove_dir(folder.join("p.new")).expect("removed");
+        let lines = put(None, &path, false).expect("put");
+        assert!(lines[1].ends_with("/p.old-table.3"), "{lines:?}");
+        let mut after = fs::read(&path).expect("a platter");
+        let sector = TABLE.number() as usize * SECTOR_BYTES;
+        after[sector..sector + SECTOR_BYTES].fill(7);
+        assert!(after == before);
+        fs::remove_dir_all(folder).expect("removed");
+    }
+
+    #[test]
     fn without_a_table_every_block_is_at_home() {
         let path = Path::new("p");
         let mut platter = Platter::blank();
