@@ -10,6 +10,7 @@ use reference::geometry::{Sector, TABLE};
 use reference::image::{form_b, Form, Table};
 use reference::surface::{cut_obeys, obeys, Access, Left};
 
+use crate::clock::Clock;
 use crate::faults::Faults;
 use crate::history::History;
 use crate::platter::Platter;
@@ -69,6 +70,7 @@ pub struct Board {
     buffer: [u8; BUFFER],
     platter: Platter,
     history: History,
+    clock: Clock,
     pub faults: Faults,
     pub power: Power,
     /// It was started, and not switched off since.
@@ -85,6 +87,7 @@ impl Board {
             buffer: [0; BUFFER],
             platter,
             history: History::default(),
+            clock: Clock::new(),
             faults: Faults::default(),
             power: Power::default(),
             on: false,
@@ -102,6 +105,15 @@ impl Board {
 
     pub fn history(&self) -> &History {
         &self.history
+    }
+
+    /// The time that the run would have taken, and where the heads are.
+    pub fn clock(&self) -> &Clock {
+        &self.clock
+    }
+
+    pub fn clock_mut(&mut self) -> &mut Clock {
+        &mut self.clock
     }
 
     /// Says whether the drive was started, and not switched off since.
@@ -214,6 +226,7 @@ impl Board {
         match call {
             Call::Start => {
                 self.on = true;
+                self.clock.park();
                 let sectors = self.platter.sectors();
                 self.history.start(sectors, answer, &self.buffer);
             }
@@ -232,6 +245,7 @@ impl Board {
             "the simulated surface broke its rules: {access:?} ordered {effect:?}"
         );
         self.platter.leave(access, &sent, &outcome.left);
+        self.clock.access(purpose.reads(), sector, outcome.answer);
         done.push(Accessed {
             purpose,
             sector,

@@ -6,6 +6,7 @@ use reference::geometry::{home, spare, Block, Sector};
 use reference::image::{three_bytes, Cause, Entry, Spare, Table};
 
 use crate::board::{Accessed, Board, Cut};
+use crate::clock::{Time, READ_HANDSHAKES, WRITE_HANDSHAKES};
 use crate::{bus, status};
 
 /// A read's retry count and threshold.
@@ -56,6 +57,8 @@ pub struct Report {
     pub accesses: Vec<Accessed>,
     pub end: End,
     pub changes: Vec<Change>,
+    /// What it would have taken on the drive, with the handshakes before it.
+    pub took: Time,
 }
 
 impl Report {
@@ -98,35 +101,36 @@ impl Host {
 
     /// Power on.
     pub fn start(&mut self) -> Report {
-        self.perform(&[Call::Start])
+        self.perform(&[Call::Start], Time::ZERO)
     }
 
     /// Raises CMD.
     pub fn raise(&mut self) -> Report {
-        self.perform(&[Call::Raise])
+        self.perform(&[Call::Raise], Time::ZERO)
     }
 
     /// Lowers CMD with a byte on the bus.
     pub fn lower(&mut self, byte: u8) -> Report {
-        self.perform(&[Call::Lower(byte)])
+        self.perform(&[Call::Lower(byte)], Time::ZERO)
     }
 
     /// The reset line.
     pub fn reset(&mut self) -> Report {
-        self.perform(&[Call::Reset])
+        self.perform(&[Call::Reset], Time::ZERO)
     }
 
     /// A read command.
     pub fn read(&mut self, number: u32, retry: Retry) -> Report {
         let mut command = command_bytes(0x00, number);
         command.extend([retry.retries, retry.threshold]);
-        let report = self.command(&[
+        let calls = [
             Call::Raise,
             Call::Lower(GO_ON),
             Call::Feed(command),
             Call::Raise,
             Call::Lower(GO_ON),
-        ]);
+        ];
+        let report = self.command(&calls, READ_HANDSHAKES);
         if let End::Finished(_) = report.end {
             bus::carry(self.board.data());
         }
@@ -136,7 +140,7 @@ impl Host {
     /// A write command, or a write/verify.
     pub fn write(&mut self, number: u32, verify: bool, data: &[u8]) -> Report {
         let opcode = if verify { 0x02 } else { 0x01 };
-        self.command(&[
+        let calls = [
             Call::Raise,
             Call::Lower(GO_ON),
             Call::Feed(command_bytes(opcode, number)),
@@ -145,13 +149,14 @@ impl Host {
             Call::Feed(data.to_vec()),
             Call::Raise,
             Call::Lower(GO_ON),
-        ])
+        ];
+        self.command(&calls, WRITE_HANDSHAKES)
     }
 
     /// Makes the calls of a command. CMD is not raised again if offer 01 stands.
-    fn command(&mut self, calls: &[Call]) -> Report {
+    fn command(&mut self, calls: &[Call], handshakes: Time) -> Report {
         let stands = self.board.last() == Answer::Offer(Offer::Command);
-        let report = self.perform(if stands { &calls[1..] } else { calls });
+        let report = self.perform(if stands { &calls[1..] } else { calls }, handshakes);
         if let End::Finished(status) = report.end {
             self.tally.commands += 1;
             self.tally.failed += u64::from(!status::good(status));
@@ -160,9 +165,28 @@ impl Host {
         report
     }
 
-    /// Makes calls until one finishes a command or is refused, or the power fails.
-    fn perform(&mut self, calls: &[Call]) -> Report {
+    /// Makes calls, behind handshakes that take so long.
+    fn perform(&mut self, calls: &[Call], handshakes: Time) -> Report {
         let before = self.board.table();
+        let begun = self.board.clock().now();
+        self.board.clock_mut().pass(handshakes);
+        let (accesses, end) = self.make(calls);
+        self.tally.accesses += accesses.len() as u64;
+        self.tally.cuts += u64::from(matches!(end, End::Cut(_)));
+        let changes = match calls {
+            [Call::Start] => vec![],
+            _ => changes(before.as_ref(), self.board.table().as_ref()),
+        };
+        Report {
+            accesses,
+            end,
+            changes,
+            took: self.board.clock().now() - begun,
+        }
+    }
+
+    /// Makes calls until one finishes a command or is refused, or the power fails.
+    fn make(&mut self, calls: &[Call]) -> (Vec<Accessed>, End) {
         let mut accesses = vec![];
         let mut end = End::Waits;
         for call in calls {
@@ -183,17 +207,7 @@ impl Host {
                 break;
             }
         }
-        self.tally.accesses += accesses.len() as u64;
-        self.tally.cuts += u64::from(matches!(end, End::Cut(_)));
-        let changes = match calls {
-            [Call::Start] => vec![],
-            _ => changes(before.as_ref(), self.board.table().as_ref()),
-        };
-        Report {
-            accesses,
-            end,
-            changes,
-        }
+        (accesses, end)
     }
 }
 

@@ -3,7 +3,8 @@
 //! `platter` holds the sectors, `faults` what the surface is ordered to do, and
 //! `surface` answers an access by the two; `power` says at which access the power fails.
 //! `board` puts them under the proved controller, with `history` beside it, and `host`
-//! makes the host's commands; `bus` carries what it is sent, with the parity bit.
+//! makes the host's commands; `bus` carries what it is sent, with the parity bit, and
+//! `clock` estimates what all of it would take.
 //! `plan` reads a line of a plan, with its `data`, and `run` does it; `traffic` makes
 //! random commands. `health` has the figures of the health block, and `table` says the
 //! table in words. `show`, `status`, `trials`, `trace` and `summary` say what happened,
@@ -14,6 +15,7 @@
 
 pub mod board;
 pub mod bus;
+pub mod clock;
 pub mod data;
 pub mod faults;
 pub mod files;

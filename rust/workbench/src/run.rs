@@ -12,11 +12,13 @@ use std::io::{self, BufRead, Write};
 use std::path::PathBuf;
 
 use crate::board::Board;
+use crate::clock::Time;
 use crate::host::{End, Host, Report};
 use crate::picture::{Moment, Outcome};
 use crate::plan::{self, Line, Order};
 use crate::platter::Platter;
 use crate::progress::Progress;
+use crate::summary::Longest;
 use crate::{image_files, show, summary, table, trace};
 use cuts::{Again, Compared};
 
@@ -67,6 +69,7 @@ pub struct Run<W: Write> {
     expectations: u32,
     unmet: u32,
     moments: Vec<Moment>,
+    longest: Longest,
     /// The line in which the power failed, if the drive was not started since.
     failed_in: Option<usize>,
     /// What is done again with power cuts.
@@ -97,6 +100,7 @@ impl<W: Write> Run<W> {
             expectations: 0,
             unmet: 0,
             moments: vec![],
+            longest: Longest::default(),
             failed_in: None,
             again: None,
             compared: Compared::default(),
@@ -142,7 +146,7 @@ impl<W: Write> Run<W> {
     pub fn finish(mut self) -> Result<(bool, Vec<Moment>), Stop> {
         writeln!(self.out)?;
         writeln!(self.out, "Summary")?;
-        for line in summary::lines(&mut self.host) {
+        for line in summary::lines(&self.host, &self.longest) {
             writeln!(self.out, "  {line}")?;
         }
         if self.expectations > 0 {
@@ -220,6 +224,7 @@ impl<W: Write> Run<W> {
                 command: String::new(),
                 accesses: vec![],
                 outcome: Outcome::None,
+                took: Time::ZERO,
             });
         }
         Ok(())
@@ -274,16 +279,20 @@ impl<W: Write> Run<W> {
             End::Cut(cut) => writeln!(self.out, "    {}", trace::cut_line(cut))?,
             _ => {}
         }
+        if report.took > Time::ZERO {
+            writeln!(self.out, "    about {}", report.took)?;
+        }
         Ok(())
     }
 
     /// Keeps a report: that the power failed, its accesses if they are to be done again,
-    /// and all of it for the picture.
+    /// its time if none took longer, and all of it for the picture.
     fn remember(&mut self, name: &str, report: &Report) {
         if report.cut() {
             self.failed_in = Some(self.number);
         }
         self.count_for_cuts(report);
+        self.longest.hold(name, report.took);
         if !self.settings.moments {
             return;
         }
@@ -292,6 +301,7 @@ impl<W: Write> Run<W> {
             command: name.to_string(),
             accesses: trace::marks(&report.accesses),
             outcome: show::outcome(report),
+            took: report.took,
         });
     }
 

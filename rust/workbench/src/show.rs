@@ -280,6 +280,7 @@ pub fn ranges(numbers: &[u32]) -> String {
 #[cfg(test)]
 mod tests {
     use super::*;
+    use crate::clock::Time;
 
     fn done(purpose: Purpose, answer: u8) -> Accessed {
         Accessed {
@@ -295,6 +296,7 @@ mod tests {
             accesses,
             end: End::Finished(status),
             changes: vec![],
+            took: Time::ZERO,
         }
     }
 

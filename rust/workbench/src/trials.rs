@@ -150,6 +150,7 @@ impl Course {
 mod tests {
     use super::*;
     use crate::board::Cut;
+    use crate::clock::Time;
     use crate::power::Fate;
 
     fn access(purpose: Purpose, number: u32, answer: u8) -> Accessed {
@@ -183,6 +184,7 @@ mod tests {
             accesses: parts.concat(),
             end: host::End::Finished(status),
             changes: vec![],
+            took: Time::ZERO,
         }
     }
 

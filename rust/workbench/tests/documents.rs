@@ -46,7 +46,7 @@ fn the_guide_shows_the_first_plan() {
     assert_eq!(plan.len(), 6);
     agree(&plan, include_str!("../../../plans/first.plan"));
     let output = shown(GUIDE, "so a spare takes the block:\n");
-    assert_eq!(output.len(), 17);
+    assert_eq!(output.len(), 18);
     agree(&output, include_str!("../../../plans/first.expected"));
 }
 

@@ -8,6 +8,7 @@ mod marks;
 pub use marks::{Mark, Outcome};
 
 use super::svg::{counted, room, shorten, Canvas, EDGE, FAINT, WIDTH};
+use crate::clock::Time;
 
 /// One host command, or a heading, of a plan's run.
 #[derive(Clone, Debug, PartialEq, Eq)]
@@ -20,6 +21,8 @@ pub struct Moment {
     pub accesses: Vec<Mark>,
     /// How the command ended.
     pub outcome: Outcome,
+    /// What it would have taken on the drive.
+    pub took: Time,
 }
 
 /// The headings' column, and the lines of words in it.
@@ -66,6 +69,7 @@ struct Card {
     label: String,
     marks: Vec<Mark>,
     outcome: Outcome,
+    took: Time,
 }
 
 /// A row: its heading, and its cards, each with its place and its line.
@@ -92,8 +96,8 @@ pub fn timeline(title: &str, moments: &[Moment]) -> String {
     canvas.finish(title, end + 20)
 }
 
-/// "162 commands (1 moved a block, 0 failed), 223 surface accesses (9 errors)", and power
-/// cuts, if there are any. Commands count when they finished, accesses when they were
+/// "162 commands (1 moved a block, 0 failed), 223 surface accesses (9 errors)", power
+/// cuts, if there are any, and the time of all. Commands count when they finished, accesses when they were
 /// answered, whatever asked for them.
 fn summary(moments: &[Moment]) -> String {
     let count = |wanted: fn(Outcome) -> bool| moments.iter().filter(|m| wanted(m.outcome)).count();
@@ -110,12 +114,28 @@ fn summary(moments: &[Moment]) -> String {
         0 => String::new(),
         cuts => format!(", {}", counted(cuts, "power cut")),
     };
-    format!("{commands} ({moved} moved a block, {failed} failed), {accesses} ({errors}){cuts}")
+    let about = about(time_of(moments.iter()));
+    format!(
+        "{commands} ({moved} moved a block, {failed} failed), {accesses} ({errors}){cuts}{about}"
+    )
 }
 
 /// How many accesses the marks stand for.
 fn accesses_of<'a>(marks: impl Iterator<Item = &'a Mark>) -> usize {
     marks.map(|mark| mark.accesses()).sum()
+}
+
+/// How long the moments take together.
+fn time_of<'a>(moments: impl Iterator<Item = &'a Moment>) -> Time {
+    moments.map(|moment| moment.took).sum()
+}
+
+/// ", about 3.6 s", or nothing if it takes no time.
+fn about(took: Time) -> String {
+    match took {
+        Time::ZERO => String::new(),
+        took => format!(", about {took}"),
+    }
 }
 
 /// The row of the moments from a heading to the next.
@@ -192,6 +212,7 @@ fn card(moments: &[&Moment]) -> Card {
         label: label(moments),
         marks: marks.copied().collect(),
         outcome: moments[0].outcome,
+        took: time_of(moments.iter().copied()),
     }
 }
 
@@ -294,13 +315,30 @@ impl Card {
     fn width(&self) -> i32 {
         let pieces = self.pieces();
         let marks: i32 = pieces.iter().map(|piece| piece.room() + self.apart()).sum();
-        let inner = room(&self.label, 12).max(marks + self.outcome.room());
-        inner + 2 * MARGIN
+        let words = room(&self.label, 12) + self.time_room();
+        words.max(marks + self.outcome.room()) + 2 * MARGIN
+    }
+
+    /// Room for the time behind the label.
+    fn time_room(&self) -> i32 {
+        match self.took {
+            Time::ZERO => 0,
+            took => room(&took.to_string(), 12) + MARGIN,
+        }
+    }
+
+    /// Draws the time in the card's upper right corner, unless there is none.
+    fn draw_time(&self, canvas: &mut Canvas, right: i32, y: i32) {
+        if self.took > Time::ZERO {
+            let style = format!(r#"text-anchor="end" fill="{FAINT}""#);
+            canvas.text((right - MARGIN, y + 18), &style, &self.took.to_string());
+        }
     }
 
     fn draw(&self, canvas: &mut Canvas, x: i32, y: i32) {
         canvas.rect((x, y), (self.width(), CARD), CARD_STYLE);
         canvas.text((x + MARGIN, y + 18), "", &self.label);
+        self.draw_time(canvas, x + self.width(), y);
         let (mut x, y) = (x + MARGIN, y + 35);
         for piece in self.pieces() {
             piece.draw(canvas, x, y);
@@ -314,7 +352,8 @@ impl Card {
         let accesses = counted(accesses_of(self.marks.iter()), "access");
         let errors = self.marks.iter().map(|mark| mark.errors()).sum();
         let (label, errors) = (&self.label, counted(errors, "error"));
-        format!("{label}: {accesses}, {errors}{}", self.outcome.words())
+        let (end, about) = (self.outcome.words(), about(self.took));
+        format!("{label}: {accesses}, {errors}{end}{about}")
     }
 }
 
@@ -362,6 +401,7 @@ mod tests {
     use super::super::svg::check;
     use super::Mark::*;
     use super::*;
+    use crate::clock::REVOLUTION;
 
     fn heading(words: &str) -> Moment {
         Moment {
@@ -376,6 +416,7 @@ mod tests {
             command: command.to_string(),
             accesses: accesses.to_vec(),
             outcome,
+            took: Time::ZERO,
         }
     }
 
@@ -541,6 +582,22 @@ mod tests {
         let first = drawn(&[moment("start", &[], Outcome::Cut)]);
         assert!(first.contains("<title>start: 0 accesses, 0 errors, power fails</title>"));
         assert!(!first.contains(">no access</text>"));
+    }
+
+    #[test]
+    fn commands_that_share_a_card_have_their_time_together() {
+        let took = REVOLUTION * 30;
+        let timed = |moment: Moment| Moment { took, ..moment };
+        let all: Vec<Moment> = each("read", 0..4, &[Read]).into_iter().map(timed).collect();
+        let svg = drawn(&all);
+        let words = "4 reads, blocks 0–3: 4 accesses, 0 errors, good, about 2.0 s";
+        assert!(svg.contains(&format!("<title>{words}</title>")), "{svg}");
+        assert!(svg.contains(">2.0 s</text>"));
+        assert!(svg.contains(", 4 surface accesses (0 errors), about 2.0 s</text>"));
+        let width = |moments: &[Moment]| row(moments).cards[0].2.width();
+        let without = width(&[moment("read 1", &[Read], Outcome::None)]);
+        let with = width(&[timed(moment("read 1", &[Read], Outcome::None))]);
+        assert_eq!(with - without, room("0.500 s", 12) + MARGIN);
     }
 
     #[test]

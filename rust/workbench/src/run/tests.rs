@@ -1,6 +1,7 @@
 mod power;
 
 use super::*;
+use crate::clock::Time;
 use crate::files::test_folder;
 use crate::picture::Mark;
 use crate::platter;
@@ -180,7 +181,8 @@ fn equal_commands_are_one_line_and_a_trace_has_all() {
     };
     let (_, _, out) = played(plan, trace);
     let part = "read 5: 2 reads, 1 timeout, good, E 0\n    read sector 5: timeout\n    \
-                read sector 5: good\n    status 04 00 00 00: timeout met, E 0\nread 6";
+                read sector 5: good\n    status 04 00 00 00: timeout met, E 0\n    \
+                about 0.155 s\nread 6";
     assert!(out.contains(part), "{out}");
 }
 
@@ -353,7 +355,7 @@ fn health_in_a_trace() {
                 expect failed accesses 1\n";
     let (ended, _, out) = played(plan, trace);
     let part = "health: 31 spares unused, no bad block, no latch, no unstored changes\n    \
-                status 00 00 00 00: nothing to report, E 0\n  \
+                status 00 00 00 00: nothing to report, E 0\n    about 0.003 s\n  \
                 NOT as line 5 expects: failed and accesses 1\n";
     assert!(out.contains(part), "{out}");
     assert_eq!(ended, Ok(false));
@@ -383,6 +385,7 @@ fn figures(end: End, first: [u8; 5]) -> (bool, String) {
         accesses: vec![],
         end,
         changes: vec![],
+        took: Time::ZERO,
     };
     let mut data = [0; 532];
     data[..5].copy_from_slice(&first);
@@ -569,4 +572,32 @@ fn random_traffic_is_allowed_and_the_same_again() {
     assert_eq!(played(plan, Settings::default()).2, out);
     let other = plan.replace("seed 2", "seed 3");
     assert_ne!(played(&other, Settings::default()).2, out);
+}
+
+/// The summary's line about time.
+fn time_line(plan: &str) -> String {
+    let (ended, _, out) = played(plan, Settings::default());
+    assert_eq!(ended, Ok(true), "{out}");
+    let line = out.lines().find(|line| line.starts_with("  about "));
+    line.unwrap_or_default().to_string()
+}
+
+#[test]
+fn the_summary_has_the_time_and_the_longest_line() {
+    let plan = "start\nwrite 0..9 \"one\"\nfault sector 5 reads next 2 timeout\nread 0..9 3 2\n";
+    let words = "  about 0.915 s on the drive, the longest 0.322 s: read 5";
+    assert_eq!(time_line(plan), words);
+    assert_eq!(time_line(plan), words);
+    assert_eq!(
+        time_line("start\n"),
+        "  about 0.151 s on the drive, the longest 0.151 s: start"
+    );
+    assert_eq!(time_line("say nothing is done\n"), "");
+}
+
+#[test]
+fn power_cuts_that_are_tried_take_no_time() {
+    let lines = "write 0..9 \"one\"\ncompare 0..9 with \"one\"\n";
+    let tried = format!("start\ncuts from here\n{lines}cuts to here\n");
+    assert_eq!(time_line(&tried), time_line(&format!("start\n{lines}")));
 }
