@@ -1,12 +1,14 @@
 //! What the surface is ordered to do: faults planned sector by sector, and random
 //! ones at a stated rate.
 
-use std::collections::{HashMap, VecDeque};
+mod random;
 
-use reference::geometry::{Sector, TABLE};
-use reference::rng::Rng;
+use std::collections::{BTreeSet, HashMap, VecDeque};
+
+use reference::geometry::Sector;
 
 use crate::board::Purpose;
+pub use random::{Random, Share, NONE};
 
 /// What one access is ordered to do.
 #[derive(Clone, Copy, Debug, PartialEq, Eq)]
@@ -102,40 +104,13 @@ impl Fault {
     }
 }
 
-/// Random faults: of every `of` accesses `faults` have one, on average.
-#[derive(Clone, Debug)]
-pub struct Random {
-    rng: Rng,
-    faults: u32,
-    of: u32,
-}
-
-impl Random {
-    /// Faults at this rate, `of` not 0.
-    pub fn new(seed: u64, faults: u32, of: u32) -> Random {
-        let rng = Rng::new(seed);
-        Random { rng, faults, of }
-    }
-
-    /// The table's sector is never made unreadable: without it there is no drive.
-    fn order(&mut self, purpose: Purpose, sector: Sector) -> Option<Effect> {
-        if self.rng.below(self.of) >= self.faults {
-            return None;
-        }
-        Some(match (purpose.reads(), self.rng.below(100)) {
-            (_, 0) => Effect::NoSettle,
-            (true, 1..=80) => Effect::Crc,
-            (false, 1..=40) if sector != TABLE => Effect::Unreadable,
-            _ => Effect::Timeout,
-        })
-    }
-}
-
 /// All that was ordered.
 #[derive(Clone, Debug, Default)]
 pub struct Faults {
     planned: HashMap<Sector, Vec<(Kind, Fault)>>,
     random: Option<Random>,
+    /// Random faults that no line of a plan ordered.
+    beside: Option<Random>,
 }
 
 impl Faults {
@@ -149,9 +124,30 @@ impl Faults {
         self.random = Some(random);
     }
 
-    /// Forgets all faults, random ones too.
+    /// Sets random faults that come beside those of a plan.
+    pub fn set_beside(&mut self, random: Random) {
+        self.beside = Some(random);
+    }
+
+    /// Returns the random faults that come beside those of a plan.
+    pub fn beside(&self) -> Option<&Random> {
+        self.beside.as_ref()
+    }
+
+    /// Returns the sectors that died of random faults, in their order.
+    pub fn dead(&self) -> Vec<Sector> {
+        let random = self.random.iter().chain(&self.beside);
+        let dead: BTreeSet<Sector> = random.flat_map(Random::dead).collect();
+        dead.into_iter().collect()
+    }
+
+    /// Forgets all faults that a plan ordered, random ones too.
     pub fn clear(&mut self) {
-        *self = Faults::default();
+        let beside = self.beside.take();
+        *self = Faults {
+            beside,
+            ..Faults::default()
+        };
     }
 
     /// Forgets what was planned for a sector.
@@ -160,13 +156,14 @@ impl Faults {
     }
 
     /// What this access is ordered to do: what the first planned fault says that
-    /// does not let it pass, else a random fault, else good.
+    /// does not let it pass, else a random fault, one of the plan first, else good.
     pub fn order(&mut self, purpose: Purpose, sector: Sector) -> Effect {
         let planned = self.planned.get_mut(&sector).into_iter().flatten();
         let mut meant = planned.filter(|(kind, _)| kind.covers(purpose));
         meant
             .find_map(|(_, fault)| fault.order())
             .or_else(|| self.random.as_mut()?.order(purpose, sector))
+            .or_else(|| self.beside.as_mut()?.order(purpose, sector))
             .unwrap_or(Effect::Good)
     }
 }
@@ -294,33 +291,38 @@ mod tests {
         assert_eq!(reads(&mut faults, 1), [Good]);
     }
 
-    #[test]
-    fn random_faults_leave_the_table_readable() {
-        let mut faults = Faults::default();
-        faults.set_random(Random::new(7, 1, 1));
-        let mut met = |purpose, sector| {
-            (0..1000).any(|_| faults.order(purpose, sector) == Effect::Unreadable)
-        };
-        assert!(!met(Purpose::Store, TABLE));
-        assert!(met(Purpose::Write, sector(17)));
-        assert!(met(Purpose::TrialWrite, sector(17)));
+    /// Random faults at every access.
+    fn always(seed: u64, dying: Share) -> Random {
+        Random::new(seed, Share { some: 1, of: 1 }, dying)
     }
 
     #[test]
-    fn random_faults_come_at_their_rate_and_again_from_the_same_seed() {
-        let ordered = || {
-            let mut faults = Faults::default();
-            faults.set_random(Random::new(7, 1, 50));
-            reads(&mut faults, 10_000)
-        };
-        let effects = ordered();
-        let count = effects.iter().filter(|&&effect| effect != Good).count();
-        assert!((150..250).contains(&count), "{count}");
-        assert!(!effects.contains(&Effect::Unreadable));
-        assert_eq!(effects, ordered());
+    fn a_plan_clears_its_own_random_faults_alone() {
         let mut faults = Faults::default();
-        faults.set_random(Random::new(7, 1, 1));
+        faults.set_random(always(7, NONE));
+        assert_ne!(reads(&mut faults, 10), [Good; 10]);
         faults.clear();
         assert_eq!(reads(&mut faults, 10), [Good; 10]);
+        faults.set_beside(always(7, NONE));
+        faults.add(sector(17), Kind::Reads, Fault::next(2, Good));
+        assert_eq!(reads(&mut faults, 3)[..2], [Good; 2]);
+        faults.clear();
+        assert!(!reads(&mut faults, 10).contains(&Good));
+        assert_eq!(faults.beside().map(Random::faults), Some(11));
+    }
+
+    #[test]
+    fn sectors_die_of_either_kind_of_random_faults() {
+        let mut faults = Faults::default();
+        assert_eq!(faults.dead(), []);
+        let dying = Share { some: 1, of: 1 };
+        faults.set_random(always(7, dying));
+        faults.order(Purpose::Read, sector(18));
+        faults.set_beside(always(7, dying));
+        faults.order(Purpose::Read, sector(17));
+        assert_eq!(faults.dead(), [sector(17), sector(18)]);
+        faults.clear();
+        faults.order(Purpose::Read, sector(9));
+        assert_eq!(faults.dead(), [sector(9)]);
     }
 }

@@ -8,12 +8,17 @@ use std::env;
 use std::fs::File;
 use std::io::ErrorKind::BrokenPipe;
 use std::io::{self, BufRead, BufReader, BufWriter, IsTerminal, Write};
+use std::num::NonZero;
 use std::path::Path;
 use std::process::ExitCode;
+use std::thread;
 
-use usage::{Asked, Export, Plan, Work};
+use usage::{Asked, Export, Plan, Seeds, Work};
+use workbench::faults::Share;
 use workbench::image_files::Imported;
+use workbench::odds::{self, Ask};
 use workbench::picture::{self, Moment};
+use workbench::progress::Progress;
 use workbench::run::{Run, Settings, Stop};
 use workbench::table_files::Source;
 use workbench::{files, image_files, rescue, show, table_files};
@@ -69,6 +74,7 @@ fn carry_out(work: Work) -> Result<bool, String> {
         }
         Work::Picture { source, to } => picture_of(&source, &to),
         Work::Timeline { plan, to } => timeline(&plan, &to),
+        Work::Odds { plan, odds } => odds_of(&plan, odds),
     }
 }
 
@@ -191,4 +197,51 @@ fn timeline(plan: &Plan, to: &Path) -> Result<bool, String> {
     let svg = picture::timeline(&format!("The run of {name}"), &moments);
     files::write(to, svg.as_bytes())?;
     Ok(good)
+}
+
+/// The odds of a plan under random faults, or one of their runs.
+fn odds_of(plan: &Plan, asked: usage::Odds) -> Result<bool, String> {
+    let share = |(some, of)| Share { some, of };
+    let ask = Ask {
+        name: plan.name.clone(),
+        plan: files::read(&plan.path)?,
+        folder: plan
+            .path
+            .parent()
+            .map(Path::to_path_buf)
+            .unwrap_or_default(),
+        rate: share(asked.rate),
+        dying: share(asked.dying),
+    };
+    match asked.seeds {
+        Seeds::One { seed, trace } => {
+            let settings = Settings {
+                trace,
+                ..ask.settings(Some(seed))
+            };
+            play(Some(plan), settings, io::stdout().lock()).map(|(good, _)| good)
+        }
+        Seeds::To {
+            last,
+            jobs,
+            json,
+            picture,
+        } => {
+            let jobs = jobs.unwrap_or_else(processors);
+            let odds = ask.odds(last, jobs, Progress::new())?;
+            say(&odds::text(&odds))?;
+            if let Some(file) = json {
+                files::write(&file, odds::json(&odds).as_bytes())?;
+            }
+            if let Some(file) = picture {
+                files::write(&file, picture::odds(&odds).as_bytes())?;
+            }
+            Ok(odds.good())
+        }
+    }
+}
+
+/// How many threads the machine runs at once.
+fn processors() -> usize {
+    thread::available_parallelism().map_or(1, NonZero::get)
 }

@@ -1,9 +1,11 @@
-//! Pictures: a platter and the run of a plan, each as one SVG file that needs
+//! Pictures: a platter, the run of a plan and the odds of one, each as one SVG file that needs
 //! nothing else. The same input gives the same bytes.
 
+mod odds;
 mod platter;
 mod svg;
 mod timeline;
 
+pub use odds::odds;
 pub use platter::platter;
 pub use timeline::{timeline, Mark, Moment, Outcome};

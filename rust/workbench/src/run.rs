@@ -7,12 +7,14 @@ mod health;
 #[cfg(test)]
 mod tests;
 mod traffic;
+mod wrong;
 
 use std::io::{self, BufRead, Write};
 use std::path::PathBuf;
 
 use crate::board::Board;
 use crate::clock::Time;
+use crate::faults::Random;
 use crate::host::{End, Host, Report};
 use crate::picture::{Moment, Outcome};
 use crate::plan::{self, Line, Order};
@@ -21,6 +23,7 @@ use crate::progress::Progress;
 use crate::summary::Longest;
 use crate::{image_files, show, summary, table, trace};
 use cuts::{Again, Compared};
+pub use wrong::{Ended, Why, Wrong};
 
 /// How a plan is run.
 #[derive(Clone, Debug, Default)]
@@ -33,6 +36,10 @@ pub struct Settings {
     pub trace: bool,
     /// What happens is kept, for a picture.
     pub moments: bool,
+    /// Random faults that come beside those of the plan.
+    pub beside: Option<Random>,
+    /// It is one of many runs: it shows no progress, and writes no file.
+    pub one_of_many: bool,
 }
 
 /// Why a run stops.
@@ -70,6 +77,7 @@ pub struct Run<W: Write> {
     unmet: u32,
     moments: Vec<Moment>,
     longest: Longest,
+    watch: wrong::Watch,
     /// The line in which the power failed, if the drive was not started since.
     failed_in: Option<usize>,
     /// What is done again with power cuts.
@@ -84,8 +92,15 @@ impl<W: Write> Run<W> {
             Some(path) => image_files::open_platter(path)?,
             None => Platter::blank(),
         };
-        let host = Host::new(Board::new(platter));
-        Ok(Run::over(host, settings, Progress::new(), out))
+        let mut host = Host::new(Board::new(platter));
+        if let Some(random) = settings.beside.clone() {
+            host.board.faults.set_beside(random);
+        }
+        let progress = match settings.one_of_many {
+            true => Progress::silent(),
+            false => Progress::new(),
+        };
+        Ok(Run::over(host, settings, progress, out))
     }
 
     /// Runs over this host.
@@ -101,6 +116,7 @@ impl<W: Write> Run<W> {
             unmet: 0,
             moments: vec![],
             longest: Longest::default(),
+            watch: wrong::Watch::default(),
             failed_in: None,
             again: None,
             compared: Compared::default(),
@@ -293,6 +309,7 @@ impl<W: Write> Run<W> {
         }
         self.count_for_cuts(report);
         self.longest.hold(name, report.took);
+        self.watch(name, report);
         if !self.settings.moments {
             return;
         }

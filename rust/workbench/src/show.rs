@@ -98,7 +98,7 @@ fn at_spare(report: &Report) -> Option<String> {
 }
 
 /// The first access that is no store.
-fn first_access(accesses: &[Accessed]) -> Option<&Accessed> {
+pub fn first_access(accesses: &[Accessed]) -> Option<&Accessed> {
     accesses.iter().find(|a| !is_store(a))
 }
 

@@ -68,6 +68,7 @@ pub fn lines(host: &Host, longest: &Longest) -> Vec<String> {
         None => lines.push(String::from("the drive is off")),
     }
     lines.push(unreadable(host));
+    lines.extend(dead(host));
     lines
 }
 
@@ -116,6 +117,13 @@ fn unreadable(host: &Host) -> String {
         true => String::from("no sector is unreadable"),
         false => format!("unreadable sectors: {}", ranges(&numbers)),
     }
+}
+
+/// Says which sectors died of random faults.
+fn dead(host: &Host) -> Option<String> {
+    let sectors = host.board.faults.dead();
+    let numbers: Vec<u32> = sectors.iter().map(|sector| sector.number()).collect();
+    (!numbers.is_empty()).then(|| format!("dead sectors: {}", ranges(&numbers)))
 }
 
 /// The last line.

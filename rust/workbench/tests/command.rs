@@ -25,7 +25,7 @@ fn help() {
     let (status, out, _) = workbench(&here, &["--help"], "");
     assert_eq!(status, 0);
     for word in [
-        "week", "run", "import", "export", "table", "convert", "picture", "timeline",
+        "week", "run", "import", "export", "table", "convert", "picture", "timeline", "odds",
     ] {
         assert!(out.contains(&format!("\n  workbench {word} ")), "{word}");
     }
@@ -48,6 +48,11 @@ fn wrong_arguments() {
         &["convert", "none", "out"],
         &["picture", "none", "out.svg"],
         &["timeline", "week"],
+        &["odds"],
+        &["odds", "banner", "--seeds", "9"],
+        &["odds", "banner", "--seeds", "0", "--rate", "1/50"],
+        &["odds", "banner", "--seeds", "9", "--rate", "0/0"],
+        &["odds", "none", "--seeds", "9", "--rate", "1/50"],
     ] {
         let (status, out, message) = workbench(&here, arguments, "");
         assert_eq!((status, out.as_str()), (2, ""), "{arguments:?}");
@@ -259,5 +264,67 @@ fn pictures() {
 
     let svg = picture(&here, "timeline", "week");
     assert!(svg.contains(">The run of week.plan<") && svg.contains(">162 commands ("));
+    fs::remove_dir_all(here).expect("removed");
+}
+
+/// Asks for the odds of the banner with these further words.
+fn odds(here: &Path, words: &str) -> (i32, String, String) {
+    let words = format!("odds banner --rate 1/20 {words}");
+    let words: Vec<&str> = words.split_whitespace().collect();
+    workbench(here, &words, "")
+}
+
+#[test]
+fn odds_are_the_same_on_any_number_of_threads() {
+    let here = folder("odds");
+    let (status, out, message) = odds(&here, "--seeds 12 --jobs 1 --json 1.json --picture 1.svg");
+    assert_eq!((status, message.as_str()), (0, ""));
+    let other = odds(&here, "--picture 3.svg --jobs 3 --json 3.json --seeds 12");
+    assert_eq!(other, (0, out.clone(), String::new()));
+    let read = |name: &str| fs::read_to_string(here.join(name)).expect("a file");
+    assert!(read("1.json") == read("3.json") && read("1.svg") == read("3.svg"));
+    assert!(out.starts_with("The odds of banner: 12 runs, with seeds 1..12\n"));
+    assert!(out.contains("\nno history is broken: "), "{out}");
+    assert!(read("1.svg").contains(">The odds of banner</text>"));
+    fs::remove_dir_all(here).expect("removed");
+}
+
+#[test]
+fn one_run_of_the_odds_is_shown_again() {
+    let here = folder("odds-again");
+    let (_, out, _) = odds(&here, "--seeds 12");
+    let failure = out.lines().find(|line| line.contains("unreadable block "));
+    let (_, seed) = failure
+        .expect("a failure")
+        .split_once("seed ")
+        .expect("a seed");
+    let (status, out, _) = odds(&here, &format!("--seed {seed}"));
+    assert_eq!(status, 1);
+    assert!(out.contains(", failed, E "), "{out}");
+    assert!(out.contains("\n  dead sectors: "), "{out}");
+    assert!(out.ends_with(", history: allowed\n"), "{out}");
+    let (_, traced, _) = odds(&here, &format!("--seed {seed} --trace"));
+    assert!(traced.contains("\n    read sector ") && traced.len() > out.len());
+    assert_eq!(odds(&here, &format!("--seed {seed}")).1, out);
+    fs::remove_dir_all(here).expect("removed");
+}
+
+#[test]
+fn odds_that_cannot_be_counted() {
+    let here = folder("odds-wrong");
+    fs::write(here.join("my.plan"), "start\nread 17\nexpect failed\n").expect("written");
+    let asked = ["odds", "my.plan", "--seeds", "9", "--rate", "1/50"];
+    let (status, out, message) = workbench(&here, &asked, "");
+    assert_eq!((status, out.as_str()), (2, ""));
+    let words = "workbench: my.plan:3: the plan is not good without random faults \
+                 (expectation not met)";
+    assert!(message.starts_with(words), "{message}");
+    fs::write(here.join("my.plan"), "read 17\n").expect("written");
+    let (status, _, message) = workbench(&here, &asked, "");
+    assert_eq!(status, 2);
+    assert!(message.starts_with("workbench: my.plan:1: the drive is not started"));
+    let (status, out, message) = odds(&here, "--seeds 2 --json none/odds.json");
+    assert_eq!(status, 2);
+    assert!(out.starts_with("The odds of banner") && message.contains("none/odds.json"));
     fs::remove_dir_all(here).expect("removed");
 }

@@ -80,6 +80,13 @@ fn the_guide_shows_a_table_of_form_b() {
 }
 
 #[test]
+fn the_guide_shows_the_odds_of_the_banner() {
+    let lines = shown(GUIDE, "edited with verify and read\nagain, and gave:\n");
+    assert_eq!(lines.len(), 35);
+    agree(&lines, include_str!("../../../plans/banner.odds"));
+}
+
+#[test]
 fn the_guide_lists_the_plans() {
     let (_, rest) = GUIDE
         .split_once("## The repository's plans\n")

@@ -5,7 +5,7 @@ use std::collections::VecDeque;
 use reference::geometry::Sector;
 
 use super::words::Words;
-use crate::faults::{Effect, Fault, Faults, Kind, Random};
+use crate::faults::{Effect, Fault, Faults, Kind, Random, Share, NONE};
 
 /// A fault line.
 #[derive(Clone, Debug, PartialEq, Eq)]
@@ -18,8 +18,8 @@ pub enum Order {
     },
     Random {
         seed: u32,
-        faults: u32,
-        of: u32,
+        rate: Share,
+        dying: Share,
     },
     ClearAll,
     Clear(Vec<Sector>),
@@ -38,11 +38,9 @@ impl Order {
                     faults.add(sector, kind, fault.clone());
                 }
             }
-            Order::Random {
-                seed,
-                faults: some,
-                of,
-            } => faults.set_random(Random::new(seed.into(), some, of)),
+            Order::Random { seed, rate, dying } => {
+                faults.set_random(Random::new(seed.into(), rate, dying));
+            }
             Order::ClearAll => faults.clear(),
             Order::Clear(sectors) => sectors.iter().for_each(|s| faults.clear_sector(*s)),
         }
@@ -167,12 +165,22 @@ fn random(mut words: Words) -> Result<Order, String> {
     if !words.take("rate") {
         return Err(String::from("rate is missing"));
     }
-    let rate = words.need("a rate")?;
-    let (faults, of) = rate
-        .split_once('/')
-        .ok_or(format!("a rate is N/M, as 1/50, not \"{rate}\""))?;
-    let of = Words::new(of).positive("the rate's second number")?;
-    let faults = Words::new(faults).number("the rate's first number", of)?;
+    let rate = share(&mut words, "rate")?;
+    let dying = match words.take("dying") {
+        true => share(&mut words, "share")?,
+        false => NONE,
+    };
     words.end()?;
-    Ok(Order::Random { seed, faults, of })
+    Ok(Order::Random { seed, rate, dying })
+}
+
+/// Reads a share, N/M.
+fn share(words: &mut Words, what: &str) -> Result<Share, String> {
+    let share = words.need(&format!("a {what}"))?;
+    let (some, of) = share
+        .split_once('/')
+        .ok_or(format!("a {what} is N/M, as 1/50, not \"{share}\""))?;
+    let of = Words::new(of).positive(&format!("the {what}'s second number"))?;
+    let some = Words::new(some).number(&format!("the {what}'s first number"), of)?;
+    Ok(Share { some, of })
 }

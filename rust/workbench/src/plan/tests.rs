@@ -1,5 +1,5 @@
 use super::*;
-use crate::faults::{Effect, Fault, Kind};
+use crate::faults::{Effect, Fault, Kind, Share, NONE};
 use reference::geometry::Sector;
 use std::collections::VecDeque;
 
@@ -92,11 +92,20 @@ fn faults() {
     );
     let random = Order::Random {
         seed: 7,
-        faults: 1,
-        of: 50,
+        rate: Share { some: 1, of: 50 },
+        dying: NONE,
     };
     assert_eq!(
         parse("fault random seed 7 rate 1/50"),
+        Ok(Line::Fault(random))
+    );
+    let random = Order::Random {
+        seed: 7,
+        rate: Share { some: 1, of: 50 },
+        dying: Share { some: 1, of: 4 },
+    };
+    assert_eq!(
+        parse("fault random seed 7 rate 1/50 dying 1/4"),
         Ok(Line::Fault(random))
     );
     assert_eq!(parse("fault clear"), Ok(Line::Fault(Order::ClearAll)));
@@ -188,7 +197,7 @@ fn expectations_and_traffic() {
 }
 
 /// Lines with a fault in them, and a part of what is said of each.
-const WRONG: [(&str, &str); 71] = [
+const WRONG: [(&str, &str); 75] = [
     ("power", "\"fails\" is missing"),
     ("power off", "after power comes \"fails\", not \"off\""),
     (
@@ -324,7 +333,23 @@ const WRONG: [(&str, &str); 71] = [
         "fault sector 17 writes fail 31 of 100",
         "a fault is missing",
     ),
-    ("fault random seed 7 rate 3/2", "first number is 2 at most"),
+    (
+        "fault random seed 7 rate 3/2",
+        "the rate's first number is 2 at most",
+    ),
+    ("fault random seed 7 rate 1/2 dying", "a share is missing"),
+    (
+        "fault random seed 7 rate 1/2 dying 1",
+        "a share is N/M, as 1/50, not \"1\"",
+    ),
+    (
+        "fault random seed 7 rate 1/2 dying 0/0",
+        "the share's second number is 1 at least",
+    ),
+    (
+        "fault random seed 7 rate 1/2 dead 1/2",
+        "\"dead 1/2\" is too much",
+    ),
     ("expect joy", "\"joy\" cannot be expected"),
 ];
 

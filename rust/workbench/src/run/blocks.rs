@@ -44,10 +44,12 @@ impl<W: Write> Run<W> {
         let lost = self.not_good(blocks);
         self.expectations += 1;
         if lost.is_empty() {
-            files::write(&self.settings.folder.join(path), bytes)?;
+            if !self.settings.one_of_many {
+                files::write(&self.settings.folder.join(path), bytes)?;
+            }
             writeln!(self.out, "  {} bytes written to {path}", bytes.len())?;
         } else {
-            self.unmet += 1;
+            self.not_met();
             let lost = ranges(&lost);
             writeln!(self.out, "  NOT written to {path}: not read were {lost}")?;
         }
@@ -85,7 +87,7 @@ impl<W: Write> Run<W> {
         let name = data.name();
         if !others.is_empty() {
             self.expectations += 1;
-            self.unmet += 1;
+            self.not_met();
             return Ok(writeln!(self.out, "  NOT {name}: {}", ranges(others))?);
         }
         if self.last_cut() {

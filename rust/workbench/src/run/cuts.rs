@@ -270,7 +270,7 @@ impl<W: Write> Run<W> {
             let words = "none is mixed, and every history is allowed";
             return Ok(writeln!(self.out, "  {words}")?);
         }
-        self.unmet += 1;
+        self.not_met();
         for order in wrong.iter().take(3) {
             let When::Access(access) = order.when else {
                 continue;

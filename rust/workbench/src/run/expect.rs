@@ -20,7 +20,7 @@ impl<W: Write> Run<W> {
         let failing: Vec<String> = expectations.iter().filter(fails).map(named).collect();
         self.expectations += 1;
         if !failing.is_empty() {
-            self.unmet += 1;
+            self.not_met();
             let wanted = failing.join(" and ");
             writeln!(self.out, "  NOT as line {} expects: {wanted}", self.number)?;
         }

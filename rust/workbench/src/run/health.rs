@@ -27,7 +27,7 @@ impl<W: Write> Run<W> {
         self.record("health", report)?;
         self.expectations += u32::from(read.is_some());
         if let Some(Err(fault)) = read {
-            self.unmet += 1;
+            self.not_met();
             writeln!(self.out, "  NOT a health block: {fault}")?;
         }
         Ok(())

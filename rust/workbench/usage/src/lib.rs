@@ -3,6 +3,7 @@
 //! once.
 
 mod library;
+mod odds;
 mod options;
 mod repository;
 mod work;
@@ -11,6 +12,7 @@ use std::ffi::OsString;
 use std::io::{self, Write};
 use std::process::ExitCode;
 
+pub use odds::{Odds, Seeds};
 pub use work::{Export, ImageForm, Plan, TagPlace, Work};
 
 /// The help: every command, and every line of a plan with an example.

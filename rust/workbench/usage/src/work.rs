@@ -3,6 +3,7 @@
 use std::fs::{self, File};
 use std::path::{Path, PathBuf};
 
+use crate::odds::{self, Odds};
 use crate::options::{Known, Sorted};
 use crate::repository::ROOT;
 use crate::HELP;
@@ -58,6 +59,11 @@ pub enum Work {
     Timeline {
         plan: Plan,
         to: PathBuf,
+    },
+    /// Run a plan many times under random faults.
+    Odds {
+        plan: Plan,
+        odds: Odds,
     },
 }
 
@@ -122,6 +128,11 @@ pub fn parse(words: &[&str], plans: Option<&Path>) -> Result<Work, String> {
             plan: plan(name, plans)?,
             to: PathBuf::from(to),
         }),
+        ["odds", rest @ ..] if !rest.is_empty() => {
+            let (name, odds) = odds::parse(rest)?;
+            let plan = plan(name, plans)?;
+            Ok(Work::Odds { plan, odds })
+        }
         [] => Err(String::from("what is to be done? see --help")),
         [first, ..] => Err(match help_of(first) {
             Some(line) => usage_is(line),
@@ -555,6 +566,7 @@ mod tests {
                 "workbench picture PLATTER OUT.svg",
             ),
             (&["timeline", "week"], "workbench timeline PLAN OUT.svg"),
+            (&["odds"], "workbench odds PLAN --seeds N --rate A/B [..]"),
         ] {
             assert_eq!(fault(words), format!("the usage is {shown}; see --help"));
         }
