@@ -165,12 +165,22 @@ fn ending(ended: &Ended) -> Ending {
     }
 }
 
+/// Returns a name as a shell takes it for one word.
+fn quoted(name: &str) -> String {
+    let plain = |letter: char| letter.is_alphanumeric() || "._/-+".contains(letter);
+    match name.chars().all(plain) {
+        true => name.to_string(),
+        false => format!("'{}'", name.replace('\'', r"'\''")),
+    }
+}
+
 impl Odds<'_> {
     /// Returns the command that does one of the runs again.
     pub fn again(&self, seed: impl std::fmt::Display) -> String {
         let Ask {
             name, rate, dying, ..
         } = self.ask;
+        let name = quoted(name);
         format!(
             "./workbench odds {name} --seed {seed} --rate {}/{} --dying {}/{}",
             rate.some, rate.of, dying.some, dying.of

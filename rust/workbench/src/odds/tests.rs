@@ -230,7 +230,7 @@ fn a_broken_history_is_named_with_the_command_that_repeats_it() {
     odds.runs = made(&[(Ending::Whole, 0), (Ending::Broken, 3), (Ending::Broken, 1)]);
     assert!(!odds.good());
     let text = text(&odds);
-    let last = "2 histories are BROKEN\nthe first again: ./workbench odds a plan --seed 2 \
+    let last = "2 histories are BROKEN\nthe first again: ./workbench odds 'a plan' --seed 2 \
                 --rate 1/50 --dying 1/4\n";
     assert!(text.ends_with(last), "{text}");
     assert!(json(&odds).contains("\"broken_seeds\": [\n    2,\n    3\n  ]"));
@@ -255,7 +255,7 @@ fn lines_of_the_odds() {
         "  spares used                0     6.00       16",
         "  sectors died    runs  whole  no spare  history broken",
         "            33       1      0         1               0",
-        "one run again: ./workbench odds a plan --seed S --rate 1/50 --dying 1/4",
+        "one run again: ./workbench odds 'a plan' --seed S --rate 1/50 --dying 1/4",
     ] {
         assert!(text.lines().any(|shown| shown == line), "{line}\n{text}");
     }
@@ -336,4 +336,11 @@ fn every_ending_has_its_place() {
     for (place, ending) in Ending::all().into_iter().enumerate() {
         assert_eq!(ending.place(), place);
     }
+}
+
+#[test]
+fn names_for_a_shell() {
+    assert_eq!(quoted("plans/week-2.plan"), "plans/week-2.plan");
+    assert_eq!(quoted("my plan"), "'my plan'");
+    assert_eq!(quoted("it's"), r"'it'\''s'");
 }

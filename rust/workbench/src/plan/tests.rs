@@ -90,28 +90,24 @@ fn faults() {
         fault_of("fault sector 9791 reads in-turn crc good*3 timeout"),
         (vec![9791], Kind::Reads, Fault::InTurn(turns))
     );
-    let random = Order::Random {
-        seed: 7,
-        rate: Share { some: 1, of: 50 },
-        dying: NONE,
-    };
-    assert_eq!(
-        parse("fault random seed 7 rate 1/50"),
-        Ok(Line::Fault(random))
-    );
-    let random = Order::Random {
-        seed: 7,
-        rate: Share { some: 1, of: 50 },
-        dying: Share { some: 1, of: 4 },
-    };
-    assert_eq!(
-        parse("fault random seed 7 rate 1/50 dying 1/4"),
-        Ok(Line::Fault(random))
-    );
     assert_eq!(parse("fault clear"), Ok(Line::Fault(Order::ClearAll)));
     let sector = Sector::new(17).expect("a sector");
     let clear = Order::Clear(vec![sector]);
     assert_eq!(parse("fault sector 17 clear"), Ok(Line::Fault(clear)));
+}
+
+#[test]
+fn random_faults() {
+    let random = |dying| Order::Random {
+        seed: 7,
+        rate: Share { some: 1, of: 50 },
+        dying,
+    };
+    let quarter = Share { some: 1, of: 4 };
+    for (words, dying) in [("", NONE), (" dying 1/4", quarter)] {
+        let line = format!("fault random seed 7 rate 1/50{words}");
+        assert_eq!(parse(&line), Ok(Line::Fault(random(dying))));
+    }
 }
 
 #[test]

@@ -205,70 +205,73 @@ mod tests {
         }
     }
 
+    /// Words, and what is said of them.
+    const WRONG: &[(&str, &str)] = &[
+        ("--seeds 9 --rate 1/50", "a plan is missing; see --help"),
+        (
+            "b --rate 1/50",
+            "--seeds N is missing, or --seed S for one run",
+        ),
+        ("b --seeds 9", "--rate A/B is missing"),
+        ("b --seeds", "--seeds needs a number"),
+        ("b --rate", "--rate needs A/B, as 1/50"),
+        ("b --seeds 0 --rate 1/50", "--seeds is 1 at least, not 0"),
+        (
+            "b --seeds x --rate 1/50",
+            "--seeds is a number, and \"x\" is none",
+        ),
+        (
+            "b --seeds +9 --rate 1/50",
+            "--seeds is a number, and \"+9\" is none",
+        ),
+        (
+            "b --seeds 4294967296 --rate 1/50",
+            "--seeds is 4294966271 at most, not 4294967296",
+        ),
+        (
+            "b --seeds 9 --seeds 9 --rate 1/50",
+            "--seeds is there twice",
+        ),
+        (
+            "b --seeds 9 --seed 9 --rate 1/50",
+            "--seeds and --seed do not go together",
+        ),
+        (
+            "b --seeds 9 --rate 1/50 --trace",
+            "--trace goes with --seed S alone",
+        ),
+        (
+            "b --seed 9 --rate 1/50 --json o",
+            "--json goes with --seeds N alone",
+        ),
+        ("b --seeds 9 --rate 5", "--rate is A/B, as 1/50, not \"5\""),
+        (
+            "b --seeds 9 --rate 0/0",
+            "the second number of --rate is 1 at least, not 0",
+        ),
+        (
+            "b --seeds 9 --rate 3/2",
+            "the first number of --rate is 2 at most, not 3",
+        ),
+        (
+            "b --seeds 9 --rate 1/2 --dying 1/0",
+            "the second number of --dying is 1 at least, not 0",
+        ),
+        (
+            "b --seeds 9 --rate 1/2 --jobs 0",
+            "--jobs is 1 at least, not 0",
+        ),
+        (
+            "b c --seeds 9 --rate 1/2",
+            "one plan is run at a time, so not \"c\" too",
+        ),
+        ("b --fast", "\"--fast\" is no option of odds; see --help"),
+    ];
+
     #[test]
     fn what_is_wrong_is_said() {
-        for (words, message) in [
-            ("--seeds 9 --rate 1/50", "a plan is missing; see --help"),
-            (
-                "b --rate 1/50",
-                "--seeds N is missing, or --seed S for one run",
-            ),
-            ("b --seeds 9", "--rate A/B is missing"),
-            ("b --seeds", "--seeds needs a number"),
-            ("b --rate", "--rate needs A/B, as 1/50"),
-            ("b --seeds 0 --rate 1/50", "--seeds is 1 at least, not 0"),
-            (
-                "b --seeds x --rate 1/50",
-                "--seeds is a number, and \"x\" is none",
-            ),
-            (
-                "b --seeds +9 --rate 1/50",
-                "--seeds is a number, and \"+9\" is none",
-            ),
-            (
-                "b --seeds 4294967296 --rate 1/50",
-                "--seeds is 4294966271 at most, not 4294967296",
-            ),
-            (
-                "b --seeds 9 --seeds 9 --rate 1/50",
-                "--seeds is there twice",
-            ),
-            (
-                "b --seeds 9 --seed 9 --rate 1/50",
-                "--seeds and --seed do not go together",
-            ),
-            (
-                "b --seeds 9 --rate 1/50 --trace",
-                "--trace goes with --seed S alone",
-            ),
-            (
-                "b --seed 9 --rate 1/50 --json o",
-                "--json goes with --seeds N alone",
-            ),
-            ("b --seeds 9 --rate 5", "--rate is A/B, as 1/50, not \"5\""),
-            (
-                "b --seeds 9 --rate 0/0",
-                "the second number of --rate is 1 at least, not 0",
-            ),
-            (
-                "b --seeds 9 --rate 3/2",
-                "the first number of --rate is 2 at most, not 3",
-            ),
-            (
-                "b --seeds 9 --rate 1/2 --dying 1/0",
-                "the second number of --dying is 1 at least, not 0",
-            ),
-            (
-                "b --seeds 9 --rate 1/2 --jobs 0",
-                "--jobs is 1 at least, not 0",
-            ),
-            (
-                "b c --seeds 9 --rate 1/2",
-                "one plan is run at a time, so not \"c\" too",
-            ),
-            ("b --fast", "\"--fast\" is no option of odds; see --help"),
-        ] {
-            assert_eq!(asks(words), Err(String::from(message)), "{words}");
+        for (words, message) in WRONG {
+            assert_eq!(asks(words), Err(String::from(*message)), "{words}");
         }
     }
 }
