@@ -2,6 +2,8 @@
 
 #![allow(dead_code)] // each test needs a part of it
 
+pub mod checkout;
+
 use std::fs;
 use std::io::Write;
 use std::path::{Path, PathBuf};
