@@ -8,11 +8,11 @@
 //! `plan` reads a line of a plan, with its `data`, and `run` does it; `traffic` makes
 //! random commands. `health` has the figures of the health block, and `table` says the
 //! table in words. `show`, `status`, `trials`, `trace` and `summary` say what happened,
-//! `progress` how far a long line is, and `picture` draws it. `odds` runs a plan many
-//! times under random faults. `image_files` brings images on a platter and takes them
-//! off; `table_files` shows the tables of files, and turns their images into the other
-//! form; `rescue` takes tables off a platter and puts them on it; `files` reads and writes
-//! all files. The command line is in the package `usage`.
+//! `progress` how far a long line is, `picture` draws it, and `report` makes a page of
+//! it. `odds` runs a plan many times under random faults. `image_files` brings images on a
+//! platter and takes them off; `table_files` shows the tables of files, and turns their
+//! images into the other form; `rescue` takes tables off a platter and puts them on it;
+//! `files` reads and writes all files. The command line is in the package `usage`.
 
 pub mod board;
 pub mod bus;
@@ -30,6 +30,7 @@ pub mod plan;
 pub mod platter;
 pub mod power;
 pub mod progress;
+pub mod report;
 pub mod rescue;
 pub mod run;
 pub mod show;

@@ -21,7 +21,7 @@ use workbench::picture::{self, Moment};
 use workbench::progress::Progress;
 use workbench::run::{Run, Settings, Stop};
 use workbench::table_files::Source;
-use workbench::{files, image_files, rescue, show, table_files};
+use workbench::{files, image_files, report, rescue, show, table_files};
 
 fn main() -> ExitCode {
     let asked = usage::asked(env::args_os().skip(1));
@@ -75,6 +75,7 @@ fn carry_out(work: Work) -> Result<bool, String> {
         Work::Picture { source, to } => picture_of(&source, &to),
         Work::Timeline { plan, to } => timeline(&plan, &to),
         Work::Odds { plan, odds } => odds_of(&plan, odds),
+        Work::Report { plan, to } => page(&plan, &to),
     }
 }
 
@@ -244,4 +245,15 @@ fn odds_of(plan: &Plan, asked: usage::Odds) -> Result<bool, String> {
 /// How many threads the machine runs at once.
 fn processors() -> usize {
     thread::available_parallelism().map_or(1, NonZero::get)
+}
+
+/// The page of a plan's run, on a platter in memory.
+fn page(plan: &Plan, to: &Path) -> Result<bool, String> {
+    let name = plan.path.file_name().unwrap_or_default().to_string_lossy();
+    let folder = plan.path.parent().map(Path::to_path_buf);
+    let page = report::page(&name, folder.unwrap_or_default(), open(&plan.path)?);
+    let page = page.map_err(|stop| format!("{}:{stop}", plan.name))?;
+    files::write(to, page.html.as_bytes())?;
+    say(&format!("{}: {}\n", to.display(), page.last_line))?;
+    Ok(page.good)
 }

@@ -3,9 +3,10 @@
 
 mod odds;
 mod platter;
-mod svg;
+pub(crate) mod svg;
 mod timeline;
 
 pub use odds::odds;
 pub use platter::platter;
+pub(crate) use platter::view;
 pub use timeline::{timeline, Mark, Moment, Outcome};

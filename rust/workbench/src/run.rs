@@ -4,6 +4,7 @@ mod blocks;
 mod cuts;
 mod expect;
 mod health;
+mod page;
 #[cfg(test)]
 mod tests;
 mod traffic;
@@ -20,6 +21,7 @@ use crate::picture::{Moment, Outcome};
 use crate::plan::{self, Line, Order};
 use crate::platter::Platter;
 use crate::progress::Progress;
+use crate::report::Log;
 use crate::summary::Longest;
 use crate::{image_files, show, summary, table, trace};
 use cuts::{Again, Compared};
@@ -40,6 +42,8 @@ pub struct Settings {
     pub beside: Option<Random>,
     /// It is one of many runs: it shows no progress, and writes no file.
     pub one_of_many: bool,
+    /// What happens is kept, for a page.
+    pub log: bool,
 }
 
 /// Why a run stops.
@@ -78,6 +82,7 @@ pub struct Run<W: Write> {
     moments: Vec<Moment>,
     longest: Longest,
     watch: wrong::Watch,
+    log: Log,
     /// The line in which the power failed, if the drive was not started since.
     failed_in: Option<usize>,
     /// What is done again with power cuts.
@@ -117,6 +122,7 @@ impl<W: Write> Run<W> {
             moments: vec![],
             longest: Longest::default(),
             watch: wrong::Watch::default(),
+            log: Log::default(),
             failed_in: None,
             again: None,
             compared: Compared::default(),
@@ -131,20 +137,25 @@ impl<W: Write> Run<W> {
     /// Runs all lines. The platter is saved after each line that changed it, so a
     /// line that stops the run leaves it as it was before.
     pub fn plan(&mut self, mut input: impl BufRead) -> Result<(), Stop> {
+        while self.next(&mut input)?.is_some() {}
+        Ok(())
+    }
+
+    /// Does the next line. Hands back its text, or nothing at the end of the plan.
+    pub fn next(&mut self, input: &mut impl BufRead) -> Result<Option<String>, Stop> {
         let mut bytes = vec![];
-        loop {
-            bytes.clear();
-            self.number += 1;
-            let read = input.read_until(b'\n', &mut bytes);
-            if read.map_err(|error| error.to_string())? == 0 {
-                self.cuts_are_over()?;
-                return self.save();
-            }
-            let line = std::str::from_utf8(&bytes).map_err(|_| String::from("no UTF-8 text"))?;
-            self.line(plan::parse(line)?, line.trim())?;
+        self.number += 1;
+        let read = input.read_until(b'\n', &mut bytes);
+        if read.map_err(|error| error.to_string())? == 0 {
+            self.cuts_are_over()?;
             self.save()?;
-            self.out.flush()?;
+            return Ok(None);
         }
+        let line = String::from_utf8(bytes).map_err(|_| String::from("no UTF-8 text"))?;
+        self.line(plan::parse(&line)?, line.trim())?;
+        self.save()?;
+        self.out.flush()?;
+        Ok(Some(line))
     }
 
     fn save(&mut self) -> Result<(), Stop> {
@@ -310,6 +321,9 @@ impl<W: Write> Run<W> {
         self.count_for_cuts(report);
         self.longest.hold(name, report.took);
         self.watch(name, report);
+        if self.settings.log {
+            self.log.command(self.number, name, report);
+        }
         if !self.settings.moments {
             return;
         }

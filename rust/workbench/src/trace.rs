@@ -15,22 +15,27 @@ pub fn lines(accesses: &[Accessed]) -> impl Iterator<Item = String> + '_ {
 
 /// The rereads of a trial together, and all other accesses alone, also a reread that ended
 /// its trial by no settle.
-fn parts(accesses: &[Accessed]) -> impl Iterator<Item = &[Accessed]> {
+pub fn parts(accesses: &[Accessed]) -> impl Iterator<Item = &[Accessed]> {
     let counts = |a: &Accessed| a.purpose == Purpose::Reread && a.answer != surface::NO_SETTLE;
     accesses.chunk_by(move |one, next| counts(one) && counts(next))
 }
 
 /// The rereads of a trial, two at least.
 fn all_rereads(rereads: &[Accessed]) -> String {
+    let sector = rereads[0].sector.number();
+    let words = answers(rereads);
+    format!("reread sector {sector}, {} times: {words}", rereads.len())
+}
+
+/// Counts the answers to the rereads of a trial, in words.
+pub fn answers(rereads: &[Accessed]) -> String {
     let answers = |wanted: u8| rereads.iter().filter(|a| a.answer == wanted).count() as u64;
     let counts = [
         (answers(surface::GOOD), "good", "good"),
         (answers(surface::CRC), "CRC error", "CRC errors"),
         (answers(surface::TIMEOUT), "timeout", "timeouts"),
     ];
-    let sector = rereads[0].sector.number();
-    let words = met(counts).join(", ");
-    format!("reread sector {sector}, {} times: {words}", rereads.len())
+    met(counts).join(", ")
 }
 
 /// The word for an access.
@@ -54,16 +59,20 @@ pub fn cut_line(cut: Cut) -> String {
 
 /// One access, for a trace.
 fn access(accessed: &Accessed) -> String {
-    let purpose = verb(accessed.purpose);
-    let how = match accessed.answer {
+    let (purpose, how) = (verb(accessed.purpose), how(accessed));
+    format!("{purpose} sector {}: {how}", accessed.sector.number())
+}
+
+/// Says how an access went.
+pub fn how(accessed: &Accessed) -> &'static str {
+    match accessed.answer {
         surface::GOOD if accessed.purpose.reads() => "good",
         surface::GOOD if accessed.unreadable => "done, and the sector is unreadable",
         surface::GOOD => "done",
         surface::CRC => "CRC error",
         surface::TIMEOUT => "timeout",
         _ => "no settle",
-    };
-    format!("{purpose} sector {}: {how}", accessed.sector.number())
+    }
 }
 
 /// The status bytes, for a trace.

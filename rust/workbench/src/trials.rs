@@ -133,7 +133,8 @@ fn names(trials: &[Trial]) -> String {
 }
 
 impl Course {
-    fn words(self) -> String {
+    /// Says how the trial went.
+    pub fn words(self) -> String {
         let rereads = count(self.rereads.into(), "reread", "rereads");
         let failed = self.failed;
         match self.end {

@@ -4,7 +4,7 @@
 mod inset;
 mod map;
 mod symbols;
-mod view;
+pub(crate) mod view;
 
 use reference::geometry::home;
 use reference::image::{Entry, Form, Table};

@@ -65,6 +65,11 @@ pub enum Work {
         plan: Plan,
         odds: Odds,
     },
+    /// Make a page of a plan's run.
+    Report {
+        plan: Plan,
+        to: PathBuf,
+    },
 }
 
 /// Says how blocks are taken off a platter.
@@ -133,6 +138,10 @@ pub fn parse(words: &[&str], plans: Option<&Path>) -> Result<Work, String> {
             let plan = plan(name, plans)?;
             Ok(Work::Odds { plan, odds })
         }
+        ["report", name, to] => Ok(Work::Report {
+            plan: plan(name, plans)?,
+            to: PathBuf::from(to),
+        }),
         [] => Err(String::from("what is to be done? see --help")),
         [first, ..] => Err(match help_of(first) {
             Some(line) => usage_is(line),
@@ -369,7 +378,14 @@ mod tests {
         let to = PathBuf::from("o");
         assert_eq!(
             asks(&["timeline", "latch", "o"]),
-            Ok(Work::Timeline { plan: latch, to })
+            Ok(Work::Timeline {
+                plan: latch.clone(),
+                to: to.clone()
+            })
+        );
+        assert_eq!(
+            asks(&["report", "latch", "o"]),
+            Ok(Work::Report { plan: latch, to })
         );
         let file = format!("{PLANS}/week.plan");
         let week = |trace| Work::Run {
@@ -567,6 +583,7 @@ mod tests {
             ),
             (&["timeline", "week"], "workbench timeline PLAN OUT.svg"),
             (&["odds"], "workbench odds PLAN --seeds N --rate A/B [..]"),
+            (&["report", "week"], "workbench report PLAN OUT.html"),
         ] {
             assert_eq!(fault(words), format!("the usage is {shown}; see --help"));
         }

@@ -1,0 +1,46 @@
+//! A page of a plan's run: one HTML file that needs nothing else. It has the verdict, the
+//! story, the time line, the platter and the table. The same plan gives the same bytes.
+//!
+//! `told` runs the plan and keeps what happens, in a `log` and a list of lines, all of
+//! them `kept` in lists of bounded length. `page` writes the file with the parts
+//! `verdict`, `story`, `timeline` and `platter`; `data` is what the page's script reads.
+
+mod data;
+mod html;
+mod kept;
+mod log;
+mod page;
+mod platter;
+mod sectors;
+mod story;
+#[cfg(test)]
+mod tests;
+mod timeline;
+mod told;
+mod verdict;
+
+use std::io::BufRead;
+use std::path::PathBuf;
+
+pub use log::Log;
+use told::Told;
+
+/// A page.
+pub struct Page {
+    pub html: String,
+    /// All was as it should be.
+    pub good: bool,
+    /// The last line of the run's output.
+    pub last_line: String,
+}
+
+/// Runs a plan on a platter in memory, and makes the page. A line that cannot be done is
+/// told with its number.
+pub fn page(name: &str, folder: PathBuf, plan: impl BufRead) -> Result<Page, String> {
+    let told = Told::run(name, folder, plan)?;
+    Ok(Page {
+        html: page::html(&told),
+        good: told.good,
+        last_line: told.last_line,
+    })
+}
