@@ -26,6 +26,7 @@ fn help() {
     assert_eq!(status, 0);
     for word in [
         "week", "run", "import", "export", "table", "convert", "picture", "timeline", "odds",
+        "report",
     ] {
         assert!(out.contains(&format!("\n  workbench {word} ")), "{word}");
     }
@@ -53,6 +54,8 @@ fn wrong_arguments() {
         &["odds", "banner", "--seeds", "0", "--rate", "1/50"],
         &["odds", "banner", "--seeds", "9", "--rate", "0/0"],
         &["odds", "none", "--seeds", "9", "--rate", "1/50"],
+        &["report", "week"],
+        &["report", "none", "out.html"],
     ] {
         let (status, out, message) = workbench(&here, arguments, "");
         assert_eq!((status, out.as_str()), (2, ""), "{arguments:?}");
@@ -326,5 +329,30 @@ fn odds_that_cannot_be_counted() {
     let (status, out, message) = odds(&here, "--seeds 2 --json none/odds.json");
     assert_eq!(status, 2);
     assert!(out.starts_with("The odds of banner") && message.contains("none/odds.json"));
+    fs::remove_dir_all(here).expect("removed");
+}
+
+#[test]
+fn pages() {
+    let here = folder("pages");
+    let (status, out, message) = workbench(&here, &["report", "week", "week.html"], "");
+    let said = "week.html: 162 commands, 419 accesses, 1 move, history: allowed\n";
+    assert_eq!((status, out.as_str(), message.as_str()), (0, said, ""));
+    let page = fs::read_to_string(here.join("week.html")).expect("a page");
+    assert!(page.starts_with("<!DOCTYPE html>\n") && page.ends_with("</html>\n"));
+    assert!(page.contains("<h1>The run of week.plan</h1>"));
+
+    fs::write(here.join("my.plan"), "start\nread 17\nexpect failed\n").expect("written");
+    let (status, _, _) = workbench(&here, &["report", "my.plan", "my.html"], "");
+    assert_eq!(status, 1);
+    let page = fs::read_to_string(here.join("my.html")).expect("a page");
+    assert!(page.contains("NOT as line 3 expects: failed"));
+
+    fs::write(here.join("my.plan"), "start\nwrite 17 xx\n").expect("written");
+    let (status, out, message) = workbench(&here, &["report", "my.plan", "none.html"], "");
+    assert_eq!((status, out.as_str()), (2, ""));
+    let named = "workbench: my.plan:2: \"xx\" is no data";
+    assert!(message.starts_with(named), "{message}");
+    assert!(!here.join("none.html").exists());
     fs::remove_dir_all(here).expect("removed");
 }

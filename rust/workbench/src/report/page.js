@@ -51,6 +51,18 @@
     return link;
   }
 
+  // Adds words to an element, with a link for each sector that they name.
+  function say(element, words) {
+    let from = 0;
+    for (const found of words.matchAll(/sector (\d{1,4})\b/g)) {
+      const end = found.index + found[0].length;
+      element.append(words.slice(from, end - found[1].length), linkTo("#sector-" + found[1], found[1]));
+      from = end;
+    }
+    element.append(words.slice(from));
+    return element;
+  }
+
   // The sector where a block lives.
   function home(block) {
     return block in data.moves ? data.moves[block] : block < reserved ? block : block + behind - reserved;
@@ -82,15 +94,15 @@
     const often = times > 1 ? ", " + times + " times" : "";
     const shown = document.getElementById("line-" + line) !== null;
     const where = shown ? linkTo("#line-" + line, "line " + line) : "line " + line;
-    item.append(where, ", " + data.words[name] + often + ": " + data.words[words]);
-    return item;
+    item.append(where);
+    return say(item, ", " + data.words[name] + often + ": " + data.words[words]);
   }
 
   // Shows a sector in the panel.
   function tell(sector) {
     const [cylinder, head, place] = parts(sector);
     const title = made("h3", "Sector " + sector);
-    const where = made("p", "Cylinder " + cylinder + ", head " + head + ", place " + place + ". " + sentence(sector));
+    const where = say(made("p"), "Cylinder " + cylinder + ", head " + head + ", place " + place + ". " + sentence(sector));
     const story = data.stories[sector];
     if (story === undefined) {
       panel.replaceChildren(title, where, made("p", "It was not met in the run."));
@@ -209,10 +221,11 @@
   document.getElementById("before").addEventListener("click", () => ofNote(-1));
   window.addEventListener("hashchange", follow);
 
-  // On paper all that is folded is open.
+  // On paper all that is folded is open, unless that is very much.
   let opened = [];
   window.addEventListener("beforeprint", () => {
-    opened = [...document.querySelectorAll("details:not([open])")];
+    const folded = [...document.querySelectorAll("details:not([open])")];
+    opened = folded.length > 150 ? [] : folded;
     for (const folded of opened) folded.open = true;
   });
   window.addEventListener("afterprint", () => {

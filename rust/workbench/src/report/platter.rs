@@ -19,7 +19,7 @@ use crate::table;
 const LETTERS: usize = 400;
 
 /// So many sectors of note have their story in the page's text.
-const STORIES: usize = 200;
+const STORIES: usize = 300;
 
 /// How the map is used.
 const HINT: &str = "Point at a sector, or click it. With the keyboard: arrow keys on the map, \

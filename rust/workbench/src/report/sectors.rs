@@ -12,7 +12,7 @@ use crate::{surface, trace, trials};
 
 /// The events of one sector: while few are kept in all, and then.
 const EVENTS: Room = Room {
-    plain: (4, 4),
+    plain: (6, 6),
     noted: (12, 8),
 };
 const FEWER_EVENTS: Room = Room {

@@ -13,7 +13,9 @@ const HEADING: usize = 1000;
 
 /// A chapter: its heading, if it has one, and its lines.
 pub struct Chapter<'a> {
-    pub heading: Option<&'a Step>,
+    heading: Option<&'a Step>,
+    /// It is the only one.
+    alone: bool,
     pub parts: Vec<Part<'a, Step>>,
 }
 
@@ -21,25 +23,34 @@ pub struct Chapter<'a> {
 pub fn chapters(told: &Told) -> Vec<Chapter<'_>> {
     let mut chapters = vec![Chapter {
         heading: None,
+        alone: false,
         parts: vec![],
     }];
     for part in told.steps.parts() {
         match part {
             Part::Thing(step, ..) if step.kind == Kind::Say => chapters.push(Chapter {
                 heading: Some(step),
+                alone: false,
                 parts: vec![],
             }),
             part => chapters.last_mut().expect("the first").parts.push(part),
         }
     }
     chapters.retain(|chapter| chapter.heading.is_some() || !chapter.parts.is_empty());
+    if let [only] = &mut chapters[..] {
+        only.alone = true;
+    }
     chapters
 }
 
 impl Chapter<'_> {
     /// Splits the heading at its colon: the title, and what follows.
     pub fn heading(&self) -> (String, String) {
-        let text = self.heading.map_or("The beginning", |step| &step.text);
+        let text = match self.heading {
+            Some(step) => &step.text,
+            None if self.alone => "The run",
+            None => "The beginning",
+        };
         let (title, rest) = text.split_once(": ").unwrap_or((text, ""));
         (shorten(title, HEADING), shorten(rest, HEADING))
     }

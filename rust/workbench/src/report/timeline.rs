@@ -39,6 +39,7 @@ fn keys(html: &mut Html) {
     let keys = [
         ("r", "", "read, good"),
         ("w", "", "write, done"),
+        ("u", "", "write that leaves its sector unreadable"),
         ("s", "", "store of the table"),
         ("c", "", "CRC error"),
         ("t", "", "timeout"),
@@ -168,7 +169,8 @@ fn mark(html: &mut Html, row: &Row, times: u64) {
         (surface::TIMEOUT, _) => ("t", String::new()),
         (surface::NO_SETTLE, _) => ("n", String::new()),
         (_, Purpose::Read | Purpose::Reread) => ("r", String::new()),
-        (_, Purpose::Write | Purpose::TrialWrite) => ("w", String::new()),
+        (_, Purpose::Write | Purpose::TrialWrite) if row.well => ("w", String::new()),
+        (_, Purpose::Write | Purpose::TrialWrite) => ("u", String::new()),
         (_, Purpose::Store) => ("s", String::new()),
     };
     let (verb, how) = (trace::verb(row.purpose), escape(&row.how));

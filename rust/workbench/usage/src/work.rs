@@ -138,10 +138,7 @@ pub fn parse(words: &[&str], plans: Option<&Path>) -> Result<Work, String> {
             let plan = plan(name, plans)?;
             Ok(Work::Odds { plan, odds })
         }
-        ["report", name, to] => Ok(Work::Report {
-            plan: plan(name, plans)?,
-            to: PathBuf::from(to),
-        }),
+        ["report", name, to] => report(plan(name, plans)?, to),
         [] => Err(String::from("what is to be done? see --help")),
         [first, ..] => Err(match help_of(first) {
             Some(line) => usage_is(line),
@@ -286,6 +283,18 @@ fn put_table(words: &[&str]) -> Result<Work, String> {
     })
 }
 
+/// Asks for a page, which must not take the place of its plan.
+fn report(plan: Plan, to: &str) -> Result<Work, String> {
+    let same = |to| fs::canonicalize(&plan.path).is_ok_and(|path| path == to);
+    match fs::canonicalize(to).is_ok_and(same) {
+        true => Err(format!("{to} is the plan itself: name another file")),
+        false => Ok(Work::Report {
+            plan,
+            to: PathBuf::from(to),
+        }),
+    }
+}
+
 /// Finds how a command is called, in the help.
 fn help_of(command: &str) -> Option<&str> {
     let mut lines = HELP.lines().filter_map(|line| line.strip_prefix("  "));
@@ -387,6 +396,8 @@ mod tests {
             asks(&["report", "latch", "o"]),
             Ok(Work::Report { plan: latch, to })
         );
+        let itself = fault(&["report", HERE, "Cargo.toml"]);
+        assert!(itself.starts_with("Cargo.toml is the plan itself"));
         let file = format!("{PLANS}/week.plan");
         let week = |trace| Work::Run {
             plan: Some(of(&file, file.clone())),

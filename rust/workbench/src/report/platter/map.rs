@@ -51,6 +51,8 @@ pub fn map(html: &mut Html, told: &Told, states: &States) {
             axes(html);
             homes(html);
             cells(html, told, states);
+            grid(html);
+            signs_of(html, states);
             html.raw("<rect id=\"chosen\" width=\"0\" height=\"0\"/>\n");
             html.raw("<rect id=\"pointed\" width=\"0\" height=\"0\"/>\n");
         });
@@ -107,26 +109,34 @@ fn cells(html: &mut Html, told: &Told, states: &States) {
     let live = |kind| matches!(kind, Use::Spare(_, State::Moved(_)));
     path(html, "live", reserved(states, live));
     path(html, "table", [table_sector()].into());
-    signs(
-        html,
-        "left",
-        &states.left,
-        "m-4 0a4 4 0 1 0 8 0a4 4 0 1 0 -8 0",
-    );
+}
+
+/// Writes lines between the cells.
+fn grid(html: &mut Html) {
+    let (width, height) = (CYLINDERS * CELL.0, HEIGHT - CORNER.1);
+    let columns = (1..=CYLINDERS).map(|column| {
+        let x = CORNER.0 + column * CELL.0 - 1;
+        format!("M{x} {}v{height}", CORNER.1)
+    });
+    let rows = (0..HEADS * PLACES).map(|row| {
+        let y = cell(row).1 + CELL.1 - 1;
+        format!("M{} {y}h{width}", CORNER.0)
+    });
+    let steps: String = columns.chain(rows).collect();
+    html.raw(&format!("<path class=\"grid\" d=\"{steps}\"/>\n"));
+}
+
+/// Writes the signs of what is not as it was made.
+fn signs_of(html: &mut Html, states: &States) {
     let dead = |kind| matches!(kind, Use::Spare(_, State::Dead));
-    signs(
-        html,
-        "dead",
-        &reserved(states, dead),
-        "m-4 -4l8 8m0 -8l-8 8",
-    );
+    let (dead, cross) = (reserved(states, dead), "m-4 -4l8 8m0 -8l-8 8");
+    let ring = "m-4 0a4 4 0 1 0 8 0a4 4 0 1 0 -8 0";
+    signs(html, "left", &states.left, ring);
+    signs(html, "halo", &dead, cross);
+    signs(html, "dead", &dead, cross);
     signs(html, "bad", &states.bad, "m0 -5l5 5l-5 5l-5 -5z");
-    signs(
-        html,
-        "unreadable",
-        &states.view.unreadable,
-        "m-2.5 0a2.5 2.5 0 1 0 5 0a2.5 2.5 0 1 0 -5 0",
-    );
+    let square = "m-2 -2h4v4h-4z";
+    signs(html, "unreadable", &states.view.unreadable, square);
 }
 
 /// Lists the sectors of the reserved cylinder with such a use.
@@ -178,7 +188,7 @@ pub fn keys(html: &mut Html) {
         ("left", "○", "home of a block that moved"),
         ("dead", "✕", "dead spare"),
         ("bad", "◆", "bad block"),
-        ("unreadable", "●", "unreadable"),
+        ("unreadable", "■", "unreadable"),
     ];
     html.block("ul", r#"class="keys""#, |html| {
         for (class, sign, words) in keys {
