@@ -63,7 +63,7 @@ impl<T> Ends<T> {
             self.first.push(item);
             return;
         }
-        if self.last.len() == last.max(1) {
+        while self.last.len() >= last.max(1) {
             self.last.pop_front();
         }
         self.last.push_back(item);
@@ -87,6 +87,12 @@ impl<T> Kept<T> {
             counted: 0,
             last_noted: false,
         }
+    }
+
+    /// Gives it another room for things that are added from now on.
+    pub fn set_room(&mut self, room: Room) {
+        self.plain.most = room.plain;
+        self.noted.most = room.noted;
     }
 
     /// Adds a thing that stands for so many.
@@ -234,6 +240,20 @@ mod tests {
         assert_eq!(kept.parts(), parts);
         assert_eq!(kept.things(), [&0, &1, &10, &30, &99]);
         assert_eq!(kept.left_out(), 95);
+    }
+
+    #[test]
+    fn less_room() {
+        let mut kept = Kept::new(Room {
+            plain: (2, 3),
+            noted: (1, 1),
+        });
+        (0..9).for_each(|number| kept.push(number, 1, false));
+        assert_eq!(kept.things(), [&0, &1, &6, &7, &8]);
+        kept.set_room(ROOM);
+        kept.push(9, 1, false);
+        assert_eq!(kept.things(), [&0, &1, &9]);
+        assert_eq!(kept.left_out(), 7);
     }
 
     #[test]

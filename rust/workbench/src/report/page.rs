@@ -14,6 +14,9 @@ use crate::show::count;
 const STYLE: &str = include_str!("page.css");
 const SCRIPT: &str = include_str!("page.js");
 
+/// So many chapters have a link at the top.
+const CHAPTERS: usize = 60;
+
 /// So much of a plan's line is shown.
 const LETTERS: usize = 300;
 
@@ -68,7 +71,7 @@ fn head(html: &mut Html, title: &str) {
     });
 }
 
-/// Writes the title, and links to the parts and the chapters.
+/// Writes the title, and links to the parts and the chapters. Says if lines are left out.
 fn header(html: &mut Html, title: &str, told: &Told) {
     html.block("header", "", |html| {
         html.raw("<a class=\"skip\" href=\"#verdict\">To the verdict</a>\n");
@@ -84,16 +87,25 @@ fn header(html: &mut Html, title: &str, told: &Told) {
             let words = format!("The run is long: {lines} of the plan are left out here.");
             html.line("p", r#"class="gap""#, &words);
         }
-        let chapters = story::chapters(told);
-        if chapters.len() < 3 {
-            return;
+        chapters(html, told);
+    });
+}
+
+/// Writes links to the chapters, the first of many.
+fn chapters(html: &mut Html, told: &Told) {
+    let chapters = story::chapters(told);
+    if chapters.len() < 3 {
+        return;
+    }
+    html.block("nav", r#"class="chapters" aria-label="Chapters""#, |html| {
+        for (place, chapter) in chapters.iter().take(CHAPTERS).enumerate() {
+            let name = shorten(&chapter.heading().0, 40);
+            html.line("a", &format!(r##"href="#chapter-{place}""##), &name);
         }
-        html.block("nav", r#"class="chapters" aria-label="Chapters""#, |html| {
-            for (place, chapter) in chapters.iter().enumerate() {
-                let name = shorten(&chapter.heading().0, 40);
-                html.line("a", &format!(r##"href="#chapter-{place}""##), &name);
-            }
-        });
+        if chapters.len() > CHAPTERS {
+            let words = format!("and {} more", chapters.len() - CHAPTERS);
+            html.line("span", r#"class="gap""#, &words);
+        }
     });
 }
 

@@ -80,9 +80,10 @@ impl Sectors {
                 story.events.lengthen(1);
                 continue;
             }
-            let before = story.events.kept();
+            self.kept -= story.events.kept();
+            story.events.set_room(room);
             story.events.push(event, 1, noted);
-            self.kept += story.events.kept() - before;
+            self.kept += story.events.kept();
         }
     }
 

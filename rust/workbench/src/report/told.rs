@@ -169,11 +169,16 @@ impl Told {
             log,
         };
         told.good = run.finish().map_err(reason)?.0;
-        let mut summary = said.take().into_iter().filter(|line| !line.is_empty());
-        told.last_line = summary.next_back().unwrap_or_default();
-        let lines = summary.skip(1).map(|line| line.trim().to_string());
-        told.summary = lines.collect();
+        told.sum_up(said.take());
         Ok(told)
+    }
+
+    /// Keeps the summary of a run, whose first line is its heading.
+    fn sum_up(&mut self, said: Vec<String>) {
+        let mut lines = said.into_iter().filter(|line| !line.is_empty());
+        self.last_line = lines.next_back().unwrap_or_default();
+        let lines = lines.skip(1).map(|line| line.trim().to_string());
+        self.summary = lines.collect();
     }
 
     /// Says whether the story has the line of this number.
