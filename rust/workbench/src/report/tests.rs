@@ -95,6 +95,18 @@ fn a_broken_expectation_and_a_failed_command() {
 }
 
 #[test]
+fn a_broken_history_is_told_with_its_reason() {
+    let mut told = Told::run("p", PathBuf::new(), "start\nread 5\n".as_bytes()).expect("a run");
+    let words = "broken, after start 1: a good read of block 5 gave other bytes";
+    (told.allowed, told.verdict) = (false, words.to_string());
+    let html = page::html(&told);
+    well_formed(&html);
+    assert!(html.contains("<p class=\"banner bad\" data-verdict=\"broken\">"));
+    assert!(html.contains(&format!("<strong> History: {words}</strong>")));
+    assert!(html.contains("What it would have had to keep"));
+}
+
+#[test]
 fn text_of_a_plan_is_escaped() {
     let evil = "<script>alert(1)</script><img src=x onerror=alert(1)> \"' &amp; </style>";
     let plan = format!(
