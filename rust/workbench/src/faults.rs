@@ -76,6 +76,11 @@ impl Fault {
         }
     }
 
+    /// Says whether it orders nothing more, ever.
+    fn is_used_up(&self) -> bool {
+        matches!(self, Fault::InTurn(turns) if turns.is_empty())
+    }
+
     /// What it orders for the next access, nothing if it lets it pass.
     fn order(&mut self) -> Option<Effect> {
         match self {
@@ -107,7 +112,9 @@ impl Fault {
 /// All that was ordered.
 #[derive(Clone, Debug, Default)]
 pub struct Faults {
-    planned: HashMap<Sector, Vec<(Kind, Fault)>>,
+    /// Those of each sector's reads, and those of its writes, in the order of their lines;
+    /// none is used up.
+    planned: HashMap<(Sector, bool), VecDeque<(Kind, Fault)>>,
     random: Option<Random>,
     /// Random faults that no line of a plan ordered.
     beside: Option<Random>,
@@ -116,7 +123,9 @@ pub struct Faults {
 impl Faults {
     /// Plans one more fault, to be asked after those that this sector has.
     pub fn add(&mut self, sector: Sector, kind: Kind, fault: Fault) {
-        self.planned.entry(sector).or_default().push((kind, fault));
+        let reads = kind != Kind::Writes;
+        let planned = self.planned.entry((sector, reads)).or_default();
+        planned.push_back((kind, fault));
     }
 
     /// From now on random faults come too, these and no others.
@@ -152,19 +161,32 @@ impl Faults {
 
     /// Forgets what was planned for a sector.
     pub fn clear_sector(&mut self, sector: Sector) {
-        self.planned.remove(&sector);
+        for reads in [true, false] {
+            self.planned.remove(&(sector, reads));
+        }
     }
 
     /// What this access is ordered to do: what the first planned fault says that
     /// does not let it pass, else a random fault, one of the plan first, else good.
     pub fn order(&mut self, purpose: Purpose, sector: Sector) -> Effect {
-        let planned = self.planned.get_mut(&sector).into_iter().flatten();
-        let mut meant = planned.filter(|(kind, _)| kind.covers(purpose));
-        meant
-            .find_map(|(_, fault)| fault.order())
+        self.planned(purpose, sector)
             .or_else(|| self.random.as_mut()?.order(purpose, sector))
             .or_else(|| self.beside.as_mut()?.order(purpose, sector))
             .unwrap_or(Effect::Good)
+    }
+
+    /// Gives what the first planned fault says that does not let the access pass. Forgets
+    /// one that is used up by it.
+    fn planned(&mut self, purpose: Purpose, sector: Sector) -> Option<Effect> {
+        let planned = self.planned.get_mut(&(sector, purpose.reads()))?;
+        let numbered = planned.iter_mut().enumerate();
+        let mut meant = numbered.filter(|(_, (kind, _))| kind.covers(purpose));
+        let (place, effect) =
+            meant.find_map(|(place, (_, fault))| Some((place, fault.order()?)))?;
+        if planned[place].1.is_used_up() {
+            planned.remove(place);
+        }
+        Some(effect)
     }
 }
 
@@ -203,6 +225,21 @@ mod tests {
     fn the_next_so_many() {
         let mut faults = with(&[Fault::next(2, Crc)]);
         assert_eq!(reads(&mut faults, 4), [Crc, Crc, Good, Good]);
+    }
+
+    #[test]
+    fn used_up_faults_are_forgotten() {
+        let mut faults = with(&vec![Fault::next(1, Crc); 20_000]);
+        let turns = VecDeque::from([(1, Timeout), (2, Good)]);
+        faults.add(sector(17), Kind::Writes, Fault::InTurn(turns));
+        faults.add(sector(17), Kind::Reads, Fault::spread(1, 2, Timeout));
+        assert_eq!(reads(&mut faults, 20_000), [Crc; 20_000]);
+        let left = |faults: &Faults| faults.planned.values().map(VecDeque::len).sum::<usize>();
+        assert_eq!(left(&faults), 2);
+        let mut write = || faults.order(Purpose::Write, sector(17));
+        assert_eq!([write(), write(), write()], [Timeout, Good, Good]);
+        assert_eq!(left(&faults), 1);
+        assert_eq!(reads(&mut faults, 4), [Good, Timeout, Good, Timeout]);
     }
 
     #[test]
@@ -287,8 +324,10 @@ mod tests {
         assert_eq!(faults.order(Purpose::TrialWrite, sector(17)), Good);
         assert_eq!(faults.order(Purpose::Reread, sector(17)), Crc);
         assert_eq!(reads(&mut faults, 1), [Crc]);
+        faults.add(sector(17), Kind::Writes, Fault::All(Timeout));
         faults.clear_sector(sector(17));
         assert_eq!(reads(&mut faults, 1), [Good]);
+        assert_eq!(faults.order(Purpose::Write, sector(17)), Good);
     }
 
     /// Random faults at every access.

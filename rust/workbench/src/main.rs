@@ -98,12 +98,14 @@ fn play(
     mut settings: Settings,
     out: impl Write,
 ) -> Result<(bool, Vec<Moment>), String> {
+    settings.typed = plan.is_none() && io::stdin().is_terminal();
+    let typed = settings.typed;
     let input = match plan {
         Some(Plan { path, .. }) => {
             settings.folder = path.parent().map(Path::to_path_buf).unwrap_or_default();
             open(path)?
         }
-        None => standard_input(),
+        None => standard_input(typed),
     };
     let name = plan.map_or("standard input", |plan| plan.name.as_str());
     let mut run = Run::new(settings, BufWriter::new(out))?;
@@ -111,10 +113,14 @@ fn play(
     let number = run.number();
     match played.and_then(|()| run.finish()) {
         Ok(ended) => Ok(ended),
-        Err(Stop::Line(message)) => Err(format!("{name}:{number}: {message}")),
+        Err(Stop::Empty) if typed => {
+            eprintln!("workbench: no line was done");
+            Ok((true, vec![]))
+        }
         // Whoever read the output has seen enough.
         Err(Stop::Output(error)) if error.kind() == BrokenPipe => Ok((false, vec![])),
         Err(Stop::Output(error)) => Err(usage::output_fault(error)),
+        Err(stop) => Err(format!("{name}{}", stop.told(number))),
     }
 }
 
@@ -125,9 +131,9 @@ fn open(path: &Path) -> Result<Box<dyn BufRead>, String> {
     }
 }
 
-fn standard_input() -> Box<dyn BufRead> {
-    if io::stdin().is_terminal() {
-        eprintln!("workbench: lines of a plan, please; --help shows them, and Ctrl-D ends");
+fn standard_input(typed: bool) -> Box<dyn BufRead> {
+    if typed {
+        eprintln!("workbench: lines of a plan, please; help shows them, and Ctrl-D ends");
     }
     Box::new(io::stdin().lock())
 }
@@ -252,7 +258,7 @@ fn page(plan: &Plan, to: &Path) -> Result<bool, String> {
     let name = plan.path.file_name().unwrap_or_default().to_string_lossy();
     let folder = plan.path.parent().map(Path::to_path_buf);
     let page = report::page(&name, folder.unwrap_or_default(), open(&plan.path)?);
-    let page = page.map_err(|stop| format!("{}:{stop}", plan.name))?;
+    let page = page.map_err(|stop| format!("{}{stop}", plan.name))?;
     files::write(to, page.html.as_bytes())?;
     say(&format!("{}: {}\n", to.display(), page.last_line))?;
     Ok(page.good)

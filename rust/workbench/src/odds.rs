@@ -89,7 +89,7 @@ impl Ask {
         };
         let (name, command) = (&self.name, &wrong.command);
         Err(match (&without.stopped, wrong.why) {
-            (Some((line, message)), _) => format!("{name}:{line}: {message}"),
+            (Some(stopped), _) => format!("{name}{stopped}"),
             (None, why) => format!(
                 "{name}:{}: {command} is not good without random faults ({}), so that no \
                  run of the plan would be whole",

@@ -1,5 +1,7 @@
 //! A line of a plan. `docs/WORKBENCH.md` describes each with an example.
 
+mod help;
+mod near;
 mod orders;
 mod power;
 #[cfg(test)]
@@ -10,6 +12,7 @@ use crate::data::{Blocks, Data};
 use crate::host::{Retry, USUAL};
 use crate::power as ordered;
 pub use orders::Order;
+use usage::quote;
 use words::Words;
 
 /// What a line asks for.
@@ -18,6 +21,8 @@ pub enum Line {
     /// Nothing: an empty line or a comment.
     Nothing,
     Say(String),
+    /// Lines of a plan in words, to be shown.
+    Help(String),
     Start,
     Reset,
     Raise,
@@ -81,6 +86,10 @@ pub enum Expectation {
     Status([u8; 4]),
 }
 
+/// The words of `expect`, as the help has them.
+const EXPECTED: &str = "good, failed, refused, spared, in-place, stored, not-stored, cut, \
+                        errors E, accesses N and status HH HH HH HH";
+
 /// Reads a line.
 pub fn parse(line: &str) -> Result<Line, String> {
     let mut words = Words::new(line);
@@ -90,6 +99,7 @@ pub fn parse(line: &str) -> Result<Line, String> {
     match first {
         comment if comment.starts_with('#') => Ok(Line::Nothing),
         "say" => Ok(Line::Say(words.rest().to_string())),
+        "help" => help(words),
         "start" => alone(Line::Start, words),
         "reset" => alone(Line::Reset, words),
         "raise" => alone(Line::Raise, words),
@@ -107,8 +117,16 @@ pub fn parse(line: &str) -> Result<Line, String> {
         "power" => power::parse(words).map(Line::Power),
         "cuts" => power::cuts(words),
         "expect" => expect(words),
-        other => Err(format!("\"{other}\" begins no line of a plan; see --help")),
+        other => Err(help::unknown(other)),
     }
+}
+
+fn help(mut words: Words) -> Result<Line, String> {
+    let text = match words.next() {
+        Some(word) => help::of(word)?,
+        None => String::from(help::all()),
+    };
+    alone(Line::Help(text), words)
 }
 
 fn alone(line: Line, words: Words) -> Result<Line, String> {
@@ -123,7 +141,7 @@ fn lower(mut words: Words) -> Result<Line, String> {
 fn hex_byte(word: &str) -> Result<u8, String> {
     match reference::text::parse_token(word.as_bytes()) {
         Ok((byte, 1)) => Ok(byte),
-        _ => Err(format!("a byte is two hex digits, not \"{word}\"")),
+        _ => Err(format!("a byte is two hex digits, not {}", quote(word))),
     }
 }
 
@@ -140,11 +158,12 @@ fn read(mut words: Words) -> Result<Line, String> {
 /// R and T, up to this word.
 fn retry(words: &mut Words, until: &str) -> Result<Retry, String> {
     let mut retry = USUAL;
-    if words.peek().is_some_and(|word| word != until) {
-        retry.retries = words.number("R", 255)? as u8;
-    }
-    if words.peek().is_some_and(|word| word != until) {
-        retry.threshold = words.number("T", 255)? as u8;
+    for (name, count) in [("R", &mut retry.retries), ("T", &mut retry.threshold)] {
+        if let Some(word) = words.peek().filter(|word| *word != until) {
+            let number = words.number(name, 255);
+            let number = number.map_err(|fault| fault + &near::meant(word, &[until]))?;
+            *count = number as u8;
+        }
     }
     Ok(retry)
 }
@@ -196,7 +215,10 @@ fn traffic(mut words: Words) -> Result<Line, String> {
         match word {
             "seed" => traffic.seed = words.number("a seed", u32::MAX)?,
             "blocks" => traffic.blocks = words.range()?,
-            other => return Err(format!("\"{other}\" is no part of traffic")),
+            other => {
+                let meant = near::meant(other, &["seed", "blocks"]);
+                return Err(format!("{} is no part of traffic{meant}", quote(other)));
+            }
         }
     }
     Ok(Line::Traffic(traffic))
@@ -208,7 +230,9 @@ fn expect(mut words: Words) -> Result<Line, String> {
         expectations.push(expectation(word, &mut words)?);
     }
     match expectations.is_empty() {
-        true => Err(String::from("what is expected is missing")),
+        true => Err(format!(
+            "what is expected is missing; the words are {EXPECTED}"
+        )),
         false => Ok(Line::Expect(expectations)),
     }
 }
@@ -232,6 +256,19 @@ fn expectation(word: &str, words: &mut Words) -> Result<Expectation, String> {
             }
             Ok(Expectation::Status(status))
         }
-        other => Err(format!("\"{other}\" cannot be expected")),
+        other => Err(not_expected(other)),
     }
+}
+
+/// Says that a word cannot be expected, and which can.
+fn not_expected(word: &str) -> String {
+    let words: Vec<&str> = EXPECTED.split([' ', ',']).collect();
+    let the_words = match near::meant(word, &words) {
+        meant if meant.is_empty() => String::from("; the words"),
+        meant => format!("{meant} The words"),
+    };
+    format!(
+        "{} cannot be expected{the_words} are {EXPECTED}",
+        quote(word)
+    )
 }

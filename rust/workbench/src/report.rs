@@ -35,7 +35,7 @@ pub struct Page {
 }
 
 /// Runs a plan on a platter in memory, and makes the page. A line that cannot be done is
-/// told with its number.
+/// told with its number, as it stands behind the plan's name.
 pub fn page(name: &str, folder: PathBuf, plan: impl BufRead) -> Result<Page, String> {
     let told = Told::run(name, folder, plan)?;
     Ok(Page {

@@ -4,13 +4,14 @@ mod blocks;
 mod cuts;
 mod expect;
 mod health;
+mod lines;
 mod page;
 #[cfg(test)]
 mod tests;
 mod traffic;
 mod wrong;
 
-use std::io::{self, BufRead, Write};
+use std::io::{self, Write};
 use std::path::PathBuf;
 
 use crate::board::Board;
@@ -18,7 +19,7 @@ use crate::clock::Time;
 use crate::faults::Random;
 use crate::host::{End, Host, Report};
 use crate::picture::{Moment, Outcome};
-use crate::plan::{self, Line, Order};
+use crate::plan::{Line, Order};
 use crate::platter::Platter;
 use crate::progress::Progress;
 use crate::report::Log;
@@ -44,6 +45,8 @@ pub struct Settings {
     pub one_of_many: bool,
     /// What happens is kept, for a page.
     pub log: bool,
+    /// A person types the lines: a wrong one is told, and the run goes on.
+    pub typed: bool,
 }
 
 /// Why a run stops.
@@ -51,8 +54,22 @@ pub struct Settings {
 pub enum Stop {
     /// A line cannot be done.
     Line(String),
+    /// No line did anything.
+    Empty,
     /// The output cannot be written.
     Output(io::Error),
+}
+
+impl Stop {
+    /// Says why, with the number of the line, as it stands behind the plan's name: ":12: no
+    /// UTF-8 text".
+    pub fn told(&self, number: usize) -> String {
+        match self {
+            Stop::Line(message) => format!(":{number}: {message}"),
+            Stop::Empty => String::from(": the plan is empty: no line does anything"),
+            Stop::Output(error) => format!(":{number}: {error}"),
+        }
+    }
 }
 
 impl From<String> for Stop {
@@ -75,6 +92,10 @@ pub struct Run<W: Write> {
     progress: Progress,
     /// The number of the line.
     number: usize,
+    /// Some line did something.
+    busy: bool,
+    /// So many typed lines were wrong.
+    wrong: u64,
     /// What the host's last line came to, command by command.
     last: Vec<Report>,
     expectations: u32,
@@ -116,6 +137,8 @@ impl<W: Write> Run<W> {
             settings,
             progress,
             number: 0,
+            busy: false,
+            wrong: 0,
             last: vec![],
             expectations: 0,
             unmet: 0,
@@ -127,35 +150,6 @@ impl<W: Write> Run<W> {
             again: None,
             compared: Compared::default(),
         }
-    }
-
-    /// The number of the line that was read last.
-    pub fn number(&self) -> usize {
-        self.number
-    }
-
-    /// Runs all lines. The platter is saved after each line that changed it, so a
-    /// line that stops the run leaves it as it was before.
-    pub fn plan(&mut self, mut input: impl BufRead) -> Result<(), Stop> {
-        while self.next(&mut input)?.is_some() {}
-        Ok(())
-    }
-
-    /// Does the next line. Hands back its text, or nothing at the end of the plan.
-    pub fn next(&mut self, input: &mut impl BufRead) -> Result<Option<String>, Stop> {
-        let mut bytes = vec![];
-        self.number += 1;
-        let read = input.read_until(b'\n', &mut bytes);
-        if read.map_err(|error| error.to_string())? == 0 {
-            self.cuts_are_over()?;
-            self.save()?;
-            return Ok(None);
-        }
-        let line = String::from_utf8(bytes).map_err(|_| String::from("no UTF-8 text"))?;
-        self.line(plan::parse(&line)?, line.trim())?;
-        self.save()?;
-        self.out.flush()?;
-        Ok(Some(line))
     }
 
     fn save(&mut self) -> Result<(), Stop> {
@@ -180,6 +174,9 @@ impl<W: Write> Run<W> {
             let met = self.expectations - self.unmet;
             let all = self.expectations;
             writeln!(self.out, "  {met} of {all} expectations met")?;
+        }
+        for words in show::met([(self.wrong, "line was wrong", "lines were wrong")]) {
+            writeln!(self.out, "  {words}")?;
         }
         writeln!(self.out, "{}", summary::last_line(&self.host))?;
         self.out.flush()?;
@@ -209,6 +206,7 @@ impl<W: Write> Run<W> {
         match line {
             Line::Nothing => Ok(()),
             Line::Say(text) => self.say(text),
+            Line::Help(text) => Ok(writeln!(self.out, "{text}")?),
             Line::Fault(order) => {
                 order.give(&mut self.host.board.faults);
                 Ok(writeln!(self.out, "{text}")?)
@@ -252,6 +250,7 @@ impl<W: Write> Run<W> {
                 accesses: vec![],
                 outcome: Outcome::None,
                 took: Time::ZERO,
+                other_bytes: false,
             });
         }
         Ok(())
@@ -333,6 +332,7 @@ impl<W: Write> Run<W> {
             accesses: trace::marks(&report.accesses),
             outcome: show::outcome(report),
             took: report.took,
+            other_bytes: false,
         });
     }
 
@@ -367,6 +367,7 @@ fn needs_start(line: &Line) -> bool {
         line,
         Line::Nothing
             | Line::Say(_)
+            | Line::Help(_)
             | Line::Start
             | Line::Fault(_)
             | Line::Power(_)

@@ -84,6 +84,58 @@ fn a_bad_plan_is_named_with_its_line() {
 }
 
 #[test]
+fn an_empty_plan_is_a_wrong_one() {
+    let here = folder("empty-plan");
+    fs::write(here.join("my.plan"), "# nothing yet\n\n").expect("written");
+    let empty = "the plan is empty: no line does anything";
+    for (arguments, name) in [
+        (&["run"][..], "standard input"),
+        (&["run", "my.plan"], "my.plan"),
+        (&["timeline", "my.plan", "out.svg"], "my.plan"),
+        (&["report", "my.plan", "out.html"], "my.plan"),
+        (
+            &["odds", "my.plan", "--seeds", "2", "--rate", "1/2"],
+            "my.plan",
+        ),
+        (
+            &["odds", "my.plan", "--seed", "2", "--rate", "1/2"],
+            "my.plan",
+        ),
+    ] {
+        let ended = workbench(&here, arguments, "");
+        let message = format!("workbench: {name}: {empty}\n");
+        assert_eq!(ended, (2, String::new(), message));
+    }
+    assert!(!here.join("out.svg").exists() && !here.join("out.html").exists());
+    fs::remove_dir_all(here).expect("removed");
+}
+
+#[test]
+fn what_is_no_plan_does_not_spill() {
+    let here = folder("no-plan");
+    let control = |c: char| c.is_control() && c != '\n';
+    for bytes in [
+        vec![0; 5_000_000],
+        b"\x1b]0;title\x07 \x1b[2J".repeat(1000),
+        b"say so\nwrite 17 file a\x1b[31m\x07\n".to_vec(),
+        b"start\nwrite 17 file a\x1b[31m\x07\n".to_vec(),
+        vec![0xFF; 1000],
+    ] {
+        fs::write(here.join("my.plan"), &bytes).expect("written");
+        let (status, out, message) = workbench(&here, &["run", "my.plan"], "");
+        assert_eq!(status, 2);
+        assert!(message.starts_with("workbench: my.plan:"), "{message}");
+        assert_eq!(message.lines().count(), 1, "{message}");
+        assert!(
+            message.len() < 200 && !message.contains(control),
+            "{message}"
+        );
+        assert!(!out.contains(control), "{out}");
+    }
+    fs::remove_dir_all(here).expect("removed");
+}
+
+#[test]
 fn a_platter_is_kept_from_run_to_run() {
     let here = folder("kept");
     let on_platter = ["run", "--platter", "shop.platter"];
@@ -257,6 +309,7 @@ fn pictures() {
     let line = ">spare 0: block 17, CRC error</text>";
     let svg = picture(&here, "picture", "p");
     assert!(svg.contains(line) && svg.contains(", 1 unreadable sector<"));
+    assert!(svg.contains(">1 unreadable sector: 30</text>"));
 
     let platter = fs::read(here.join("p")).expect("a platter");
     fs::write(here.join("table"), &platter[4960 * 532..][..532]).expect("written");
@@ -267,6 +320,14 @@ fn pictures() {
 
     let svg = picture(&here, "timeline", "week");
     assert!(svg.contains(">The run of week.plan<") && svg.contains(">162 commands ("));
+    assert!(!svg.contains("other bytes"));
+    let plan = "start\nwrite 0..3 \"one\"\ncompare 0..3 with \"two\"\n";
+    fs::write(here.join("my.plan"), plan).expect("written");
+    let (status, _, _) = workbench(&here, &["timeline", "my.plan", "out.svg"], "");
+    assert_eq!(status, 1);
+    let svg = fs::read_to_string(here.join("out.svg")).expect("a picture");
+    let words = "4 reads, blocks 0–3: 4 accesses, 0 errors, good, other bytes";
+    assert!(svg.contains(&format!("<title>{words}, about 0.")));
     fs::remove_dir_all(here).expect("removed");
 }
 

@@ -122,7 +122,7 @@ fn a_plan_that_is_not_whole_without_random_faults_is_refused() {
     };
     assert_eq!(
         fault("start\nread 17\nrad 17\n"),
-        "a plan:3: \"rad\" begins no line of a plan; see --help"
+        "a plan:3: \"rad\" begins no line of a plan; did you mean \"read\"?"
     );
     assert!(fault("read 17\n").starts_with("a plan:1: the drive is not started yet"));
     let unread = "fault sector 17 reads all crc\nstart\nread 16\nread 17\n";

@@ -2,6 +2,7 @@
 //! line from the home of each moved block to its spare.
 
 mod inset;
+mod lists;
 mod map;
 mod symbols;
 pub(crate) mod view;
@@ -24,8 +25,8 @@ const LISTED: usize = 15;
 /// Of more moves than this the lines are paler.
 const FEW_MOVES: usize = 12;
 
-/// The legend begins here.
-const LEGEND: i32 = INSET.1 + 238;
+/// The lists of bad blocks and unreadable sectors begin here, and below them the legend.
+const LISTS: i32 = INSET.1 + 238;
 
 const BOLD: &str = r#"font-size="14" font-weight="bold""#;
 
@@ -44,7 +45,8 @@ pub fn platter(title: &str, table: Option<&(Form, Table)>, unreadable: &[u32]) -
     box_dots(&mut canvas, &view, INK, 6);
     dots(&mut canvas, &view);
     list(&mut canvas, &view);
-    let end = canvas.legend(LEGEND, 4, &keys(&view));
+    let top = lists::lists(&mut canvas, LISTS, &view);
+    let end = canvas.legend(top, 4, &keys(&view));
     canvas.finish(title, end + 20)
 }
 
@@ -267,6 +269,7 @@ mod tests {
         assert!(svg.contains("<title>sector 4929: spare 1, unused</title>"));
         assert!(svg.contains("<title>sector 4960: the table</title>"));
         assert!(svg.contains("<title>unreadable: sectors 17</title>"));
+        assert!(svg.contains(">1 unreadable sector: 17</text>"));
         assert!(svg.contains(">reserved, no use: 31<"));
         assert!(svg.len() < 20_000, "{}", svg.len());
     }
@@ -331,7 +334,7 @@ mod tests {
             }
         }
         let last = INSET.1 + 5 + 19 + 14 * LISTED as i32;
-        assert!(last < LEGEND, "{last}");
+        assert!(last < LISTS, "{last}");
     }
 
     #[test]
@@ -386,9 +389,10 @@ mod tests {
         ] {
             assert!(svg.contains(&format!("<title>{words}</title>")), "{words}");
         }
-        // One in a box of the enlarged cylinder, two on the map, one in the
-        // legend.
-        assert_eq!(svg.matches("l6 6l-6 6l-6 -6Z").count(), 4);
+        // One in a box of the enlarged cylinder, two on the map, one before their
+        // list, one in the legend.
+        assert_eq!(svg.matches("l6 6l-6 6l-6 -6Z").count(), 5);
+        assert!(svg.contains(">3 bad blocks: 4927..4928, 9727</text>"));
     }
 
     #[test]

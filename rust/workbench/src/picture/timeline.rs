@@ -1,14 +1,16 @@
 //! The time line of a plan's run: a row for each heading, and in it a card for
 //! each host command, with a mark for each of its surface accesses and a symbol
-//! for its outcome. The rereads of a trial are one mark. Clean commands of one
-//! kind share a card.
+//! for its outcome. The rereads of a trial are one mark. Neighbouring commands of
+//! one kind that came to the same share a card.
 
+mod choice;
 mod marks;
 
 pub use marks::{Mark, Outcome};
 
 use super::svg::{counted, room, shorten, Canvas, EDGE, FAINT, WIDTH};
 use crate::clock::Time;
+use crate::show;
 
 /// One host command, or a heading, of a plan's run.
 #[derive(Clone, Debug, PartialEq, Eq)]
@@ -23,6 +25,8 @@ pub struct Moment {
     pub outcome: Outcome,
     /// What it would have taken on the drive.
     pub took: Time,
+    /// A comparison found other bytes than it should.
+    pub other_bytes: bool,
 }
 
 /// The headings' column, and the lines of words in it.
@@ -68,14 +72,23 @@ struct Line {
 struct Card {
     label: String,
     marks: Vec<Mark>,
+    /// The marks are those of each of so many commands.
+    times: usize,
     outcome: Outcome,
     took: Time,
+    other_bytes: bool,
 }
 
-/// A row: its heading, and its cards, each with its place and its line.
+/// What stands in a row: a card, or a gap for so many commands that have none.
+enum Item {
+    Card(Card),
+    Gap(usize),
+}
+
+/// A row: its heading, and its items, each with its place and its line.
 struct Row {
     heading: Vec<Line>,
-    cards: Vec<(i32, i32, Card)>,
+    items: Vec<(i32, i32, Item)>,
 }
 
 /// What is drawn in a card's row of marks.
@@ -92,13 +105,14 @@ pub fn timeline(title: &str, moments: &[Moment]) -> String {
     for moments in moments.chunk_by(|_, next| next.heading.is_none()) {
         top = draw_row(&mut canvas, top, &row(moments));
     }
-    let end = canvas.legend(top, 6, &marks::keys());
+    let other_bytes = moments.iter().any(|moment| moment.other_bytes);
+    let end = canvas.legend(top, 6, &marks::keys(other_bytes));
     canvas.finish(title, end + 20)
 }
 
-/// "162 commands (1 moved a block, 0 failed), 223 surface accesses (9 errors)", power
-/// cuts, if there are any, and the time of all. Commands count when they finished, accesses when they were
-/// answered, whatever asked for them.
+/// "162 commands (1 moved a block, 0 failed), 223 surface accesses (9 errors)", blocks with
+/// other bytes and power cuts, if there are any, and the time of all. Commands count when
+/// they finished, accesses when they were answered, whatever asked for them.
 fn summary(moments: &[Moment]) -> String {
     let count = |wanted: fn(Outcome) -> bool| moments.iter().filter(|m| wanted(m.outcome)).count();
     let finished = |outcome| !matches!(outcome, Outcome::Refused | Outcome::Cut | Outcome::None);
@@ -110,14 +124,16 @@ fn summary(moments: &[Moment]) -> String {
     let commands = counted(commands, "command");
     let accesses = counted(accesses_of(marks()), "surface access");
     let errors = counted(errors, "error");
+    let others = match moments.iter().filter(|moment| moment.other_bytes).count() {
+        0 => String::new(),
+        others => format!(", {} with other bytes", counted(others, "block")),
+    };
     let cuts = match count(|outcome| outcome == Outcome::Cut) {
         0 => String::new(),
         cuts => format!(", {}", counted(cuts, "power cut")),
     };
-    let about = about(time_of(moments.iter()));
-    format!(
-        "{commands} ({moved} moved a block, {failed} failed), {accesses} ({errors}){cuts}{about}"
-    )
+    let rest = format!("{others}{cuts}{}", about(time_of(moments.iter())));
+    format!("{commands} ({moved} moved a block, {failed} failed), {accesses} ({errors}){rest}")
 }
 
 /// How many accesses the marks stand for.
@@ -143,21 +159,40 @@ fn row(moments: &[Moment]) -> Row {
     let mut heading = moments[0].heading.as_deref().map_or(Vec::new(), lines);
     let commands: Vec<&Moment> = moments.iter().filter(|moment| !is_bare(moment)).collect();
     let alike: Vec<&[&Moment]> = commands.chunk_by(|one, next| share(one, next)).collect();
-    let (first, more) = alike.split_at(alike.len().min(MOST_CARDS));
-    heading.extend(not_drawn(more.iter().map(|same| same.len()).sum()));
-    let cards = first.iter().map(|same| card(same)).collect();
+    let drawn = choice::drawn(&alike, MOST_CARDS);
+    heading.extend(not_drawn(&choice::left_out(&alike, &drawn)));
     Row {
         heading,
-        cards: placed(cards),
+        items: placed(items(&alike, &drawn)),
     }
 }
 
-/// What a heading says of commands for which there are no more cards.
-fn not_drawn(commands: usize) -> Option<Line> {
-    (commands > 0).then(|| Line {
-        bold: false,
-        words: format!("{commands} more not drawn"),
-    })
+/// Makes cards of those groups of commands that are drawn, and gaps of the others.
+fn items(alike: &[&[&Moment]], drawn: &[bool]) -> Vec<Item> {
+    let groups: Vec<(&&[&Moment], &bool)> = alike.iter().zip(drawn).collect();
+    let runs = groups.chunk_by(|one, next| !one.1 && !next.1);
+    let items = runs.map(|run| match run {
+        [(same, true)] => Item::Card(card(same)),
+        left_out => Item::Gap(left_out.iter().map(|(same, _)| same.len()).sum()),
+    });
+    items.collect()
+}
+
+/// Says in a heading how many commands have no card.
+fn not_drawn(commands: &[&Moment]) -> Vec<Line> {
+    let line = |words| Line { bold: false, words };
+    let notable = commands.iter().filter(|moment| choice::is_notable(moment));
+    let rest = match notable.count() {
+        0 => String::from("no failure or move"),
+        1 => String::from("1 failure or move"),
+        some => format!("{some} failures or moves"),
+    };
+    let all = commands.len();
+    let words = match all {
+        0 => String::new(),
+        _ => format!("{all} more not drawn, {rest} among them"),
+    };
+    wrapped(&words, LETTERS).into_iter().map(line).collect()
 }
 
 /// A heading alone.
@@ -174,30 +209,29 @@ fn lines(heading: &str) -> Vec<Line> {
     name.chain(rest).collect()
 }
 
-/// The words in lines of at most this many letters.
+/// The words in lines of at most this many letters; longer words are cut.
 fn wrapped(words: &str, most: usize) -> Vec<String> {
-    let mut lines: Vec<String> = Vec::new();
-    for word in words.split_whitespace() {
-        let word = shorten(word, most);
-        match lines.last_mut() {
-            Some(line) if line.chars().count() + 1 + word.chars().count() <= most => {
-                line.push(' ');
-                line.push_str(&word);
-            }
-            _ => lines.push(word),
-        }
-    }
-    lines
+    let words = words.split_whitespace().map(|word| shorten(word, most));
+    let words: Vec<String> = words.collect();
+    show::wrapped(&words.join(" "), most)
 }
 
-/// The two commands share a card: clean ones of one kind with like accesses.
+/// The two commands share a card: they are of one kind, have like accesses, and came to
+/// the same. A move and a power cut have cards of their own.
 fn share(one: &Moment, next: &Moment) -> bool {
-    let clean = matches!(one.outcome, Outcome::Good | Outcome::None);
-    clean
+    let alone = matches!(one.outcome, Outcome::Spared { .. } | Outcome::Cut);
+    !alone
         && one.outcome == next.outcome
+        && one.other_bytes == next.other_bytes
         && one.accesses == next.accesses
-        && one.accesses.iter().all(|mark| mark.errors() == 0)
         && split(&one.command).0 == split(&next.command).0
+}
+
+/// Says whether nothing went wrong in the command.
+fn is_clean(moment: &Moment) -> bool {
+    matches!(moment.outcome, Outcome::Good | Outcome::None)
+        && !moment.other_bytes
+        && moment.accesses.iter().all(|mark| mark.errors() == 0)
 }
 
 /// A command's first word and what follows it.
@@ -205,14 +239,22 @@ fn split(command: &str) -> (&str, &str) {
     command.split_once(' ').unwrap_or((command, ""))
 }
 
-/// The card of commands that share one.
+/// Makes the card of commands that share one: with the marks of all if nothing went wrong in
+/// them, and else with those that each of them has.
 fn card(moments: &[&Moment]) -> Card {
-    let marks = moments.iter().flat_map(|moment| &moment.accesses);
+    let first = moments[0];
+    let (shown, times) = match is_clean(first) {
+        true => (moments, 1),
+        false => (&moments[..1], moments.len()),
+    };
+    let marks = shown.iter().flat_map(|moment| &moment.accesses);
     Card {
         label: label(moments),
         marks: marks.copied().collect(),
-        outcome: moments[0].outcome,
+        times,
+        outcome: first.outcome,
         took: time_of(moments.iter().copied()),
+        other_bytes: first.other_bytes,
     }
 }
 
@@ -228,8 +270,18 @@ fn label(moments: &[&Moment]) -> String {
         _ if moments.iter().all(|next| split(&next.command).1 == rest) => {
             shorten(&format!("{counts} {rest}"), 60)
         }
+        _ if !is_clean(moments[0]) => shorten(&format!("{counts}{}", of_blocks(moments)), 60),
         _ => shorten(&counts, 60),
     }
+}
+
+/// Names the blocks of commands: ", blocks 3, 7–9".
+fn of_blocks(moments: &[&Moment]) -> String {
+    let number = |moment: &&Moment| split(split(&moment.command).1).0.parse().ok();
+    let numbers: Option<Vec<u32>> = moments.iter().map(number).collect();
+    numbers.map_or(String::new(), |numbers| {
+        format!(", blocks {}", show::ranges(&numbers).replace("..", "–"))
+    })
 }
 
 /// The first and the last number, if each command has the next one.
@@ -245,19 +297,51 @@ fn block_range(moments: &[&Moment]) -> Option<(u32, u32)> {
     follows.then_some((first, last))
 }
 
-/// The cards with their places, from left to right in as many lines as needed.
-fn placed(cards: Vec<Card>) -> Vec<(i32, i32, Card)> {
+/// Gives the items their places, from left to right in as many lines as needed.
+fn placed(items: Vec<Item>) -> Vec<(i32, i32, Item)> {
     let mut placed = Vec::new();
     let (mut x, mut line) = (CARDS, 0);
-    for card in cards {
-        let width = card.width();
+    for item in items {
+        let width = item.width();
         if x + width > CARDS_END && x > CARDS {
             (x, line) = (CARDS, line + 1);
         }
-        placed.push((x, line, card));
+        placed.push((x, line, item));
         x += width + CARD_GAP;
     }
     placed
+}
+
+impl Item {
+    fn width(&self) -> i32 {
+        match self {
+            Item::Card(card) => card.width(),
+            Item::Gap(commands) => room(&gap(*commands), 12),
+        }
+    }
+
+    fn draw(&self, canvas: &mut Canvas, x: i32, y: i32) {
+        match self {
+            Item::Card(card) => card.draw(canvas, x, y),
+            Item::Gap(commands) => {
+                let style = format!(r#"fill="{FAINT}""#);
+                canvas.text((x, y + CARD / 2 + 4), &style, &gap(*commands));
+            }
+        }
+    }
+
+    /// Tells the item in words.
+    fn told(&self) -> String {
+        match self {
+            Item::Card(card) => card.told(),
+            Item::Gap(commands) => format!("{} not drawn", counted(*commands, "command")),
+        }
+    }
+}
+
+/// Gives the words of a gap for so many commands.
+fn gap(commands: usize) -> String {
+    format!("… {commands} more …")
 }
 
 impl Piece {
@@ -312,14 +396,31 @@ impl Card {
         }
     }
 
+    /// Gives what stands above the marks.
+    fn title(&self) -> String {
+        match self.times > 1 && !self.marks.is_empty() {
+            true => format!("{}, each", self.label),
+            false => self.label.clone(),
+        }
+    }
+
+    /// Gives the outcome whose symbol is drawn: none for a good one with other bytes.
+    fn symbol(&self) -> Outcome {
+        match self.outcome {
+            Outcome::Good if self.other_bytes => Outcome::None,
+            outcome => outcome,
+        }
+    }
+
     fn width(&self) -> i32 {
         let pieces = self.pieces();
         let marks: i32 = pieces.iter().map(|piece| piece.room() + self.apart()).sum();
-        let words = room(&self.label, 12) + self.time_room();
-        words.max(marks + self.outcome.room()) + 2 * MARGIN
+        let others = i32::from(self.other_bytes) * marks::other_bytes_room();
+        let words = room(&self.title(), 12) + self.time_room();
+        words.max(marks + self.symbol().room() + others) + 2 * MARGIN
     }
 
-    /// Room for the time behind the label.
+    /// Room for the time behind the title.
     fn time_room(&self) -> i32 {
         match self.took {
             Time::ZERO => 0,
@@ -337,23 +438,30 @@ impl Card {
 
     fn draw(&self, canvas: &mut Canvas, x: i32, y: i32) {
         canvas.rect((x, y), (self.width(), CARD), CARD_STYLE);
-        canvas.text((x + MARGIN, y + 18), "", &self.label);
+        canvas.text((x + MARGIN, y + 18), "", &self.title());
         self.draw_time(canvas, x + self.width(), y);
         let (mut x, y) = (x + MARGIN, y + 35);
         for piece in self.pieces() {
             piece.draw(canvas, x, y);
             x += piece.room() + self.apart();
         }
-        self.outcome.draw(canvas, x, y);
+        self.symbol().draw(canvas, x, y);
+        if self.other_bytes {
+            marks::other_bytes(canvas, x + self.symbol().room(), y);
+        }
     }
 
     /// The card in words.
     fn told(&self) -> String {
-        let accesses = counted(accesses_of(self.marks.iter()), "access");
-        let errors = self.marks.iter().map(|mark| mark.errors()).sum();
-        let (label, errors) = (&self.label, counted(errors, "error"));
+        let accesses = counted(self.times * accesses_of(self.marks.iter()), "access");
+        let errors: usize = self.marks.iter().map(|mark| mark.errors()).sum();
+        let (label, errors) = (&self.label, counted(self.times * errors, "error"));
+        let others = match self.other_bytes {
+            true => ", other bytes",
+            false => "",
+        };
         let (end, about) = (self.outcome.words(), about(self.took));
-        format!("{label}: {accesses}, {errors}{end}{about}")
+        format!("{label}: {accesses}, {errors}{end}{others}{about}")
     }
 }
 
@@ -369,11 +477,11 @@ fn fitting<'a>(marks: impl Iterator<Item = &'a Mark>, room: i32) -> usize {
 /// Draws a row from this height on; hands back where the next begins.
 fn draw_row(canvas: &mut Canvas, top: i32, row: &Row) -> i32 {
     draw_heading(canvas, top, &row.heading);
-    for (x, line, card) in &row.cards {
+    for (x, line, item) in &row.items {
         let y = top + line * (CARD + CARD_GAP);
-        canvas.tip(&card.told(), |canvas| card.draw(canvas, *x, y));
+        canvas.tip(&item.told(), |canvas| item.draw(canvas, *x, y));
     }
-    let lines = row.cards.last().map_or(0, |(_, line, _)| line + 1);
+    let lines = row.items.last().map_or(0, |(_, line, _)| line + 1);
     let cards = lines * (CARD + CARD_GAP) - CARD_GAP;
     let heading = row.heading.len() as i32 * LABEL_LINE;
     let end = top + cards.max(heading).max(0) + ROW_GAP / 2;
@@ -417,6 +525,7 @@ mod tests {
             accesses: accesses.to_vec(),
             outcome,
             took: Time::ZERO,
+            other_bytes: false,
         }
     }
 
@@ -428,8 +537,12 @@ mod tests {
 
     /// The labels of the cards that these commands get, all in one row.
     fn labels(moments: &[Moment]) -> Vec<String> {
-        let cards = row(moments).cards.into_iter();
-        cards.map(|(_, _, card)| card.label).collect()
+        let items = row(moments).items.into_iter();
+        let label = |item| match item {
+            Item::Card(card) => card.title(),
+            Item::Gap(commands) => gap(commands),
+        };
+        items.map(|(_, _, item)| label(item)).collect()
     }
 
     /// The picture, looked over.
@@ -554,17 +667,94 @@ mod tests {
             ["health, 2 times"]
         );
         let failed = moment("health", &[], Outcome::Failed);
-        assert_eq!(labels(&[failed, health]), ["health", "health"]);
+        assert_eq!(labels(&[failed.clone(), health]), ["health", "health"]);
+        assert_eq!(labels(&[failed.clone(), failed]), ["health, 2 times"]);
     }
 
     #[test]
-    fn errors_and_failures_have_cards_of_their_own() {
-        let error = moment("read 1", &[CrcError, Read], Outcome::Good);
-        assert_eq!(labels(&[error.clone(), error]), ["read 1", "read 1"]);
-        let failed = moment("read 1", &[], Outcome::Failed);
-        assert_eq!(labels(&[failed.clone(), failed]), ["read 1", "read 1"]);
-        let refused = moment("raise", &[], Outcome::Refused);
-        assert_eq!(labels(&[refused.clone(), refused]), ["raise", "raise"]);
+    fn equal_errors_and_failures_fold() {
+        let fold = |one: &str, other: &str, marks: &[Mark], outcome| {
+            labels(&[moment(one, marks, outcome), moment(other, marks, outcome)])
+        };
+        let error = [CrcError, Read];
+        assert_eq!(
+            fold("read 1", "read 1", &error, Outcome::Good),
+            ["2 reads 1, each"]
+        );
+        assert_eq!(
+            fold("read 1", "read 2", &error, Outcome::Failed),
+            ["2 reads, blocks 1–2, each"]
+        );
+        assert_eq!(
+            fold("read 9 2 1", "read 7 3 1", &error, Outcome::Failed),
+            ["2 reads, blocks 9, 7, each"]
+        );
+        let reads = |numbers: [u32; 4]| {
+            labels(&numbers.map(|n| moment(&format!("read {n}"), &error, Outcome::Failed)))
+        };
+        assert_eq!(reads([3, 4, 5, 3]), ["4 reads, blocks 3–5, 3, each"]);
+        assert_eq!(
+            fold("raise", "raise", &[], Outcome::Refused),
+            ["raise, 2 times"]
+        );
+        assert_eq!(fold("read 1", "write 1", &error, Outcome::Failed).len(), 2);
+        let spared = Outcome::Spared {
+            block: 1,
+            sector: 4928,
+            cause: Cause::Crc,
+        };
+        assert_eq!(fold("read 1", "read 1", &error, spared).len(), 2);
+        let failed = moment("read 1", &error, Outcome::Failed);
+        let other = moment("read 1", &[CrcError], Outcome::Failed);
+        assert_eq!(labels(&[failed, other]).len(), 2);
+    }
+
+    #[test]
+    fn folded_failures_show_the_marks_of_one_and_count_those_of_all() {
+        let failed = |block| moment(&format!("read {block}"), &[CrcError; 11], Outcome::Failed);
+        let moments: Vec<Moment> = (100..140).map(failed).collect();
+        let svg = drawn(&moments);
+        let words = "40 reads, blocks 100–139: 440 accesses, 440 errors, failed";
+        assert!(svg.contains(&format!("<title>{words}</title>")));
+        assert!(svg.contains(">40 reads, blocks 100–139, each</text>"));
+        // Eleven on the card, and one in the legend.
+        assert_eq!(svg.matches("l8 8m0 -8l-8 8").count(), 12);
+        assert!(svg.contains(">40 commands (0 moved a block, 40 failed), 440 surface accesses"));
+    }
+
+    #[test]
+    fn other_bytes_are_a_failure() {
+        let good = moment("read 1", &[Read], Outcome::Good);
+        let other = Moment {
+            other_bytes: true,
+            ..moment("read 2", &[Read], Outcome::Good)
+        };
+        assert_eq!(labels(&[good.clone(), other.clone()]).len(), 2);
+        let more = Moment {
+            command: String::from("read 3"),
+            ..other.clone()
+        };
+        let svg = drawn(&[good, other.clone(), more]);
+        assert!(svg.contains("<title>read 1: 1 access, 0 errors, good</title>"));
+        let words = "2 reads, blocks 2–3: 2 accesses, 0 errors, good, other bytes";
+        assert!(svg.contains(&format!("<title>{words}</title>")));
+        // The words stand on the card and in the legend, and the tick of a good command on
+        // the first card and in the legend alone.
+        assert_eq!(svg.matches(">other bytes</text>").count(), 2);
+        assert_eq!(svg.matches("l3 3l5 -6").count(), 2);
+        assert!(svg.contains(" surface accesses (0 errors), 2 blocks with other bytes<"));
+        let spared = Outcome::Spared {
+            block: 2,
+            sector: 4928,
+            cause: Cause::Crc,
+        };
+        let moved = Moment {
+            outcome: spared,
+            ..other
+        };
+        let svg = drawn(&[moved]);
+        assert!(svg.contains(">2 → sector 4928, CRC error</text>"));
+        assert_eq!(svg.matches(">other bytes</text>").count(), 2);
     }
 
     #[test]
@@ -594,20 +784,115 @@ mod tests {
         assert!(svg.contains(&format!("<title>{words}</title>")), "{svg}");
         assert!(svg.contains(">2.0 s</text>"));
         assert!(svg.contains(", 4 surface accesses (0 errors), about 2.0 s</text>"));
-        let width = |moments: &[Moment]| row(moments).cards[0].2.width();
+        let width = |moments: &[Moment]| row(moments).items[0].2.width();
         let without = width(&[moment("read 1", &[Read], Outcome::None)]);
         let with = width(&[timed(moment("read 1", &[Read], Outcome::None))]);
         assert_eq!(with - without, room("0.500 s", 12) + MARGIN);
     }
 
     #[test]
+    fn folded_failures_have_their_time_together() {
+        let took = REVOLUTION * 30;
+        let failed = |block: u64| Moment {
+            took: took * (1 + block % 2),
+            ..moment(&format!("read {block}"), &[CrcError], Outcome::Failed)
+        };
+        let all: Vec<Moment> = (0..40).map(failed).collect();
+        let svg = drawn(&all);
+        let words = "40 reads, blocks 0–39: 40 accesses, 40 errors, failed, about 30.0 s";
+        assert!(svg.contains(&format!("<title>{words}</title>")), "{svg}");
+        assert!(svg.contains(">40 reads, blocks 0–39, each</text>"));
+        assert!(svg.contains(">30.0 s</text>"));
+        let title = room("40 reads, blocks 0–39, each", 12);
+        let width = title + room("30.0 s", 12) + 3 * MARGIN;
+        assert_eq!(row(&all).items[0].2.width(), width);
+    }
+
+    #[test]
+    fn the_line_below_the_title_has_other_bytes_power_cuts_and_the_time() {
+        let took = REVOLUTION * 30;
+        let timed = |moment: Moment| Moment { took, ..moment };
+        let other = Moment {
+            other_bytes: true,
+            ..timed(moment("read 1", &[Read], Outcome::Good))
+        };
+        let cut = timed(moment("read 2", &[Read], Outcome::Cut));
+        let svg = drawn(&[other, cut]);
+        let words = " (0 errors), 1 block with other bytes, 1 power cut, about 1.0 s</text>";
+        assert!(svg.contains(words), "{svg}");
+        let words = "read 1: 1 access, 0 errors, good, other bytes, about 0.500 s";
+        assert!(svg.contains(&format!("<title>{words}</title>")), "{svg}");
+    }
+
+    #[test]
     fn too_many_cards_are_counted() {
-        let failed = moment("read 1", &[], Outcome::Failed);
-        let all = [vec![failed; 300], each("read", 0..7, &[Read])].concat();
-        let lines = |count: usize| row(&all[..count]).heading;
-        assert!(lines(300).is_empty());
-        assert_eq!(lines(307)[0].words, "7 more not drawn");
-        assert_eq!(row(&all).cards.len(), 300);
+        let refused = |at: u32| moment(&format!("raise{at}"), &[], Outcome::Refused);
+        let refused: Vec<Moment> = (0..300).map(refused).collect();
+        let all = [refused, each("read", 0..7, &[Read])].concat();
+        assert!(row(&all[..300]).heading.is_empty());
+        let words: Vec<String> = row(&all).heading.into_iter().map(|l| l.words).collect();
+        assert_eq!(
+            words.join(" "),
+            "7 more not drawn, no failure or move among them"
+        );
+        let labels = labels(&all);
+        assert_eq!((labels.len(), labels[300].as_str()), (301, "… 7 more …"));
+        drawn(&all);
+    }
+
+    #[test]
+    fn failures_and_moves_are_drawn_before_others() {
+        let moved = Outcome::Spared {
+            block: 901,
+            sector: 4928,
+            cause: Cause::Crc,
+        };
+        let command = |at: u32| match at {
+            350 | 920 => moment(&format!("read {at}"), &[CrcError], Outcome::Failed),
+            400 => Moment {
+                other_bytes: true,
+                ..moment("read 400", &[Read], Outcome::Good)
+            },
+            901 => moment("read 901", &[CrcError], moved),
+            // Good ones that share no card.
+            _ => moment(&format!("x{at}"), &[Read], Outcome::Good),
+        };
+        let moments: Vec<Moment> = (0..1000).map(command).collect();
+        let labels = labels(&moments);
+        assert_eq!(labels[..2], ["x0", "x1"]);
+        let last = [
+            "x295",
+            "… 54 more …",
+            "read 350",
+            "… 49 more …",
+            "read 400",
+            "… 500 more …",
+            "read 901",
+            "… 18 more …",
+            "read 920",
+            "… 79 more …",
+        ];
+        assert_eq!(labels[295..], last);
+        let heading = row(&moments).heading;
+        assert_eq!(heading[0].words, "700 more not drawn, no");
+        drawn(&moments);
+    }
+
+    #[test]
+    fn of_too_many_failures_the_first_are_drawn_and_all_moves() {
+        let failed = |at: u32| moment(&format!("x{at}"), &[], Outcome::Failed);
+        let mut moments: Vec<Moment> = (0..310).map(failed).collect();
+        moments.push(Moment {
+            other_bytes: true,
+            ..moment("read 5", &[Read], Outcome::Good)
+        });
+        let words: Vec<String> = row(&moments).heading.into_iter().map(|l| l.words).collect();
+        assert_eq!(
+            words.join(" "),
+            "11 more not drawn, 11 failures or moves among them"
+        );
+        let labels = labels(&moments);
+        assert_eq!(labels[298..], ["x298", "… 11 more …", "read 5"]);
     }
 
     #[test]
@@ -658,7 +943,7 @@ mod tests {
         let rereads = |failed| Rereads { all: 100, failed };
         let two = |failed| labels(&each("write", 1..3, &[Write, rereads(failed)]));
         assert_eq!(two(0), ["2 writes, blocks 1–2"]);
-        assert_eq!(two(1), ["write 1", "write 2"]);
+        assert_eq!(two(1), ["2 writes, blocks 1–2, each"]);
     }
 
     #[test]
@@ -670,14 +955,18 @@ mod tests {
         };
         let command = |block| moment(&format!("read {block}"), &[NoSettle; 100], spared(block));
         let moments: Vec<Moment> = (0..9).map(command).collect();
-        let lines: Vec<i32> = row(&moments).cards.iter().map(|card| card.1).collect();
+        let lines: Vec<i32> = row(&moments).items.iter().map(|item| item.1).collect();
         assert_eq!(lines, [0, 1, 2, 3, 4, 5, 6, 7, 8]);
         let svg = drawn(&moments);
         for block in 0..9 {
             let words = format!("{block} → sector {}, no settle", 4928 + block);
             assert!(svg.contains(&format!(">{words}</text>")), "{words}");
         }
-        let short = row(&each("x", 0..2, &[CrcError])).cards;
+        let short = [
+            moment("x", &[], Outcome::Good),
+            moment("y", &[], Outcome::Good),
+        ];
+        let short = row(&short).items;
         assert_eq!((short[0].1, short[1].1), (0, 0));
         assert_eq!(short[1].0, CARDS + short[0].2.width() + CARD_GAP);
     }

@@ -4,6 +4,9 @@ use std::collections::VecDeque;
 
 use reference::geometry::Sector;
 
+use usage::quote;
+
+use super::near::meant;
 use super::words::Words;
 use crate::faults::{Effect, Fault, Faults, Kind, Random, Share, NONE};
 
@@ -54,7 +57,9 @@ pub fn parse(mut words: Words) -> Result<Order, String> {
         "random" => random(words),
         "clear" => words.end().map(|()| Order::ClearAll),
         other => Err(format!(
-            "after fault comes sector, random or clear, not \"{other}\""
+            "after fault comes sector, random or clear, not {}{}",
+            quote(other),
+            meant(other, &["sector", "random", "clear"])
         )),
     }
 }
@@ -68,7 +73,9 @@ fn planned(mut words: Words) -> Result<Order, String> {
         "clear" => return words.end().map(|()| Order::Clear(sectors)),
         other => {
             return Err(format!(
-                "\"{other}\" is neither reads, rereads, writes nor clear"
+                "{} is neither reads, rereads, writes nor clear{}",
+                quote(other),
+                meant(other, &["reads", "rereads", "writes", "clear"])
             ))
         }
     };
@@ -99,7 +106,9 @@ fn fault(words: &mut Words, kind: Kind) -> Result<Fault, String> {
         "fail" => fail(words, kind),
         "in-turn" => in_turn(words, kind),
         other => Err(format!(
-            "\"{other}\" is neither next, all, every, fail nor in-turn"
+            "{} is neither next, all, every, fail nor in-turn{}",
+            quote(other),
+            meant(other, &["next", "all", "every", "fail", "in-turn"])
         )),
     }
 }
@@ -108,9 +117,10 @@ fn fault(words: &mut Words, kind: Kind) -> Result<Fault, String> {
 /// reads does not say.
 fn fail(words: &mut Words, kind: Kind) -> Result<Fault, String> {
     let fails = words.number("the number of failures", u32::MAX)?;
-    if !words.take("of") {
+    if words.peek().is_none() {
         return Err(String::from("\"of\" and a number are missing"));
     }
+    words.expected("after the number of failures", &["of"])?;
     let of = words.positive("the number of accesses")?;
     if fails > of {
         return Err(format!(
@@ -152,19 +162,17 @@ fn effect(word: &str, kind: Kind) -> Result<Effect, String> {
         ("unreadable", Kind::Writes) => Ok(Effect::Unreadable),
         ("unreadable", _) => Err(String::from("a read leaves its sector as it is")),
         _ => Err(format!(
-            "\"{word}\" is no fault: crc, timeout, no-settle, unreadable or good"
+            "{} is no fault: crc, timeout, no-settle, unreadable or good{}",
+            quote(word),
+            meant(word, &["crc", "timeout", "no-settle", "unreadable", "good"])
         )),
     }
 }
 
 fn random(mut words: Words) -> Result<Order, String> {
-    if !words.take("seed") {
-        return Err(String::from("seed is missing"));
-    }
+    words.expected("after \"fault random\"", &["seed"])?;
     let seed = words.number("a seed", u32::MAX)?;
-    if !words.take("rate") {
-        return Err(String::from("rate is missing"));
-    }
+    words.expected("after the seed", &["rate"])?;
     let rate = share(&mut words, "rate")?;
     let dying = match words.take("dying") {
         true => share(&mut words, "share")?,
@@ -179,7 +187,7 @@ fn share(words: &mut Words, what: &str) -> Result<Share, String> {
     let share = words.need(&format!("a {what}"))?;
     let (some, of) = share
         .split_once('/')
-        .ok_or(format!("a {what} is N/M, as 1/50, not \"{share}\""))?;
+        .ok_or_else(|| format!("a {what} is N/M, as 1/50, not {}", quote(share)))?;
     let of = Words::new(of).positive(&format!("the {what}'s second number"))?;
     let some = Words::new(some).number(&format!("the {what}'s first number"), of)?;
     Ok(Share { some, of })

@@ -193,7 +193,7 @@ fn expectations_and_traffic() {
 }
 
 /// Lines with a fault in them, and a part of what is said of each.
-const WRONG: [(&str, &str); 75] = [
+const WRONG: [(&str, &str); 80] = [
     ("power", "\"fails\" is missing"),
     ("power off", "after power comes \"fails\", not \"off\""),
     (
@@ -346,8 +346,139 @@ const WRONG: [(&str, &str); 75] = [
         "fault random seed 7 rate 1/2 dead 1/2",
         "\"dead 1/2\" is too much",
     ),
-    ("expect joy", "\"joy\" cannot be expected"),
+    (
+        "expect joy",
+        "\"joy\" cannot be expected; the words are good, failed, ",
+    ),
+    (
+        "expect",
+        "what is expected is missing; the words are good, failed, ",
+    ),
+    (
+        "fault random sed 7",
+        "after \"fault random\" comes \"seed\", not \"sed\"",
+    ),
+    (
+        "fault sector 17 reads fail 31 100",
+        "comes \"of\", not \"100\"",
+    ),
+    ("help reads", "\"reads\" begins no line of a plan"),
+    ("help read now", "\"now\" is too much"),
 ];
+
+/// Lines with a slip of the pen in them, and the word that is offered.
+const SLIPS: [(&str, &str); 24] = [
+    ("raed 17", "read"),
+    ("Start", "start"),
+    ("wirte-verify 17 00", "write-verify"),
+    ("help cut", "cuts"),
+    ("expect god", "good"),
+    ("expect good errrors 4", "errors"),
+    ("expect in_place", "in-place"),
+    ("fault sectr 17", "sector"),
+    ("fault cler", "clear"),
+    ("fault sector 17 read next 1 crc", "reads"),
+    ("fault sector 17 claer", "clear"),
+    ("fault sector 17 reads nxt 1 crc", "next"),
+    ("fault sector 17 reads inturn crc", "in-turn"),
+    ("fault sector 17 reads all cr", "crc"),
+    ("fault sector 17 writes all unredable", "unreadable"),
+    ("fault sector 17 reads in-turn good*2 tiemout", "timeout"),
+    ("power fails druing the store", "during"),
+    ("power fails at access 3 od", "old"),
+    ("cuts form here", "from"),
+    ("traffic 5 sead 3", "seed"),
+    ("compare 17 wiht 00", "with"),
+    ("read 17 1 ot a.dat", "to"),
+    ("write 17 fil a.dat", "file"),
+    ("write 17 nothng", "nothing"),
+];
+
+#[test]
+fn near_words_are_offered() {
+    for (line, word) in SLIPS {
+        let message = parse(line).expect_err(line);
+        let offer = format!("; did you mean \"{word}\"?");
+        assert!(message.contains(&offer), "{line}: {message}");
+    }
+    let message = parse("xyzzy 17").expect_err("no line");
+    assert!(
+        message.ends_with("; the line \"help\" shows all"),
+        "{message}"
+    );
+    assert!(parse("expect god").is_err_and(|message| message.ends_with(EXPECTED)));
+}
+
+#[test]
+fn messages_quote_little_and_no_control_characters() {
+    let long = "\u{1b}[31m\0x".repeat(1_000_000);
+    for line in [
+        "",
+        "read ",
+        "read 1..",
+        "write 1 ",
+        "write 1 \"",
+        "lower ",
+        "start ",
+        "expect ",
+        "fault ",
+        "fault sector 1 ",
+        "fault sector 1 reads ",
+        "fault sector 1 reads all ",
+        "help ",
+        "fault random ",
+        "fault random seed 1 rate ",
+        "fault random seed 1 rate 1/2 dying ",
+        "power ",
+        "power fails ",
+        "cuts ",
+        "power fails at access 3 ",
+        "traffic 1 ",
+        "compare 1 ",
+    ] {
+        let message = parse(&format!("{line}{long}")).expect_err(line);
+        assert!(message.chars().count() < 220, "{line}: {message}");
+        assert!(!message.contains(char::is_control), "{line}: {message}");
+    }
+}
+
+#[test]
+fn the_help_knows_every_line_and_every_word() {
+    let words = help::words();
+    assert_eq!((words.len(), words[0], words[1]), (19, "say", "help"));
+    for word in words {
+        let message = parse(word).err().unwrap_or_default();
+        assert!(!message.contains("begins no line"), "{word}");
+        let Ok(Line::Help(text)) = parse(&format!("help {word}")) else {
+            panic!("{word}");
+        };
+        assert!(text.starts_with(&format!("  {word}")), "{text}");
+    }
+    let text = help::all().split_whitespace().collect::<Vec<_>>().join(" ");
+    assert!(text.contains(&format!("WORDS are {EXPECTED}.")));
+}
+
+#[test]
+fn help_of_a_line_tells_of_its_parts() {
+    let of = |word: &str| help::of(word).expect("lines");
+    let text = of("compare");
+    for part in ["BLOCKS is a number", "DATA is bytes", "R is 10 and T is 3"] {
+        assert!(text.contains(part), "{text}");
+    }
+    assert!(
+        !text.contains("KIND is") && !text.contains("WORDS are"),
+        "{text}"
+    );
+    assert_eq!(of("fault").matches("\n  fault ").count(), 7);
+    assert!(of("power").contains("LEFT is what a write under way leaves"));
+    assert!(of("cuts").contains("The lines from \"cuts from here\""));
+    assert_eq!(
+        of("start").trim(),
+        "start                               start"
+    );
+    assert!(help::all().starts_with("Lines of a plan") && help::all().contains("\nBLOCKS is"));
+    assert!(!help::all().contains("Exit status"));
+}
 
 #[test]
 fn wrong_lines() {
@@ -394,7 +525,7 @@ fn guide_examples() -> Vec<&'static str> {
 #[test]
 fn the_examples_of_help_and_guide_are_lines() {
     let (help, guide) = (help_examples(), guide_examples());
-    assert_eq!((help.len(), guide.len()), (28, 28));
+    assert_eq!((help.len(), guide.len()), (29, 29));
     for line in help.into_iter().chain(guide) {
         assert!(parse(line).is_ok(), "{line}: {:?}", parse(line));
     }

@@ -2,7 +2,9 @@
 
 use reference::geometry::{Sector, BLOCKS, SECTORS};
 use reference::text;
+use usage::{quote, short};
 
+use super::near;
 use crate::data::{Blocks, Data};
 
 /// Numbers of commands have 24 bits.
@@ -47,6 +49,18 @@ impl<'a> Words<'a> {
         found
     }
 
+    /// Takes these words, which come in this place.
+    pub fn expected(&mut self, place: &str, wanted: &[&str]) -> Result<(), String> {
+        let all = wanted.join(" ");
+        for word in wanted {
+            let found = self.need(&format!("\"{all}\""))?;
+            if found != *word {
+                return Err(format!("{place} comes \"{all}\", not {}", quote(found)));
+            }
+        }
+        Ok(())
+    }
+
     /// All that is left.
     pub fn rest(self) -> &'a str {
         self.rest
@@ -56,7 +70,7 @@ impl<'a> Words<'a> {
     pub fn end(self) -> Result<(), String> {
         match self.rest {
             "" => Ok(()),
-            rest => Err(format!("\"{rest}\" is too much")),
+            rest => Err(format!("{} is too much", quote(rest))),
         }
     }
 
@@ -104,7 +118,10 @@ impl<'a> Words<'a> {
         let last = number(last, what, most)?;
         match first <= last {
             true => Ok((first, last)),
-            false => Err(format!("{word} is no range: {first} is above {last}")),
+            false => Err(format!(
+                "{} is no range: {first} is above {last}",
+                short(word)
+            )),
         }
     }
 
@@ -139,10 +156,11 @@ fn number(word: &str, what: &str, most: u32) -> Result<u32, String> {
         false => u64::from_str_radix(digits, radix).ok(),
         true => None,
     };
-    let number = number.ok_or(format!("{what} is a number, and \"{word}\" is none"))?;
+    let number =
+        number.ok_or_else(|| format!("{what} is a number, and {} is none", quote(word)))?;
     match u32::try_from(number) {
         Ok(number) if number <= most => Ok(number),
-        _ => Err(format!("{what} is {most} at most, not {word}")),
+        _ => Err(format!("{what} is {most} at most, not {}", short(word))),
     }
 }
 
@@ -152,8 +170,17 @@ fn quoted(rest: &str) -> Result<&str, String> {
     match text {
         Some("") => Err(String::from("the text is empty")),
         Some(text) if !text.contains('"') => Ok(text),
-        _ => Err(format!("{rest} is no text between two quotation marks")),
+        _ => Err(format!(
+            "{} is no text between two quotation marks",
+            short(rest)
+        )),
     }
+}
+
+/// Says that a word is no data, and why.
+fn no_data(word: &str, fault: &str) -> String {
+    let meant = near::meant(word, &["file", "nothing"]);
+    format!("{} is no data: {fault}{meant}", quote(word))
 }
 
 /// Bytes as call scripts have them.
@@ -161,7 +188,7 @@ fn bytes(tokens: &str) -> Result<Vec<u8>, String> {
     let mut bytes = vec![];
     for token in tokens.split_whitespace() {
         let (byte, count) = text::parse_token(token.as_bytes())
-            .map_err(|fault| format!("\"{token}\" is no data: {fault}"))?;
+            .map_err(|fault| no_data(token, &fault.to_string()))?;
         bytes.resize(bytes.len() + count, byte);
     }
     match bytes.len() {

@@ -1,6 +1,6 @@
 //! The story: the plan's headings as chapters, and in them each line with what it said.
 
-use super::html::{linked, Html};
+use super::html::{escape, linked, Html};
 use super::kept::Part;
 use super::told::{is_unmet, Kind, Step, Told};
 use crate::picture::svg::shorten;
@@ -96,6 +96,7 @@ fn write_step(html: &mut Html, told: &Told, step: &Step) {
         write_number(html, number, told.has_source(number));
         html.block("div", r#"class="said""#, |html| match step.kind {
             Kind::Expect(met) => expectation(html, step, met),
+            Kind::Help => below_each_other(html, &step.said.parts()),
             _ => write_said(html, step),
         });
         html.block("div", r#"class="ended""#, |html| {
@@ -202,11 +203,11 @@ fn left_out(html: &mut Html, lines: u64) {
 /// Writes lines whose letters stand below each other.
 fn below_each_other(html: &mut Html, parts: &[Part<String>]) {
     let lines = parts.iter().map(|part| match part {
-        Part::Thing(line, ..) => line.trim().to_string(),
+        Part::Thing(line, ..) => escape(line.trim()),
         Part::Gap(gap) => format!("… {gap} lines left out …"),
     });
     let lines: Vec<String> = lines.collect();
-    html.words("pre", r#"tabindex="0""#, &lines.join("\n"));
+    html.element("pre", r#"tabindex="0""#, |html| html.raw(&lines.join("\n")));
     html.raw("\n");
 }
 

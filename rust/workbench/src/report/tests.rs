@@ -128,24 +128,58 @@ fn text_of_a_plan_is_escaped() {
 fn a_line_that_cannot_be_done_is_named() {
     let stopped = |plan: &str| page("p", PathBuf::new(), plan.as_bytes()).err();
     let message = stopped("start\n\nread 17 x\n").expect("a message");
-    assert!(message.starts_with("3: "), "{message}");
+    assert!(message.starts_with(":3: "), "{message}");
     let off = stopped("read 17\n").expect("a message");
-    assert!(off.starts_with("1: the drive is not started yet"), "{off}");
+    assert!(off.starts_with(":1: the drive is not started yet"), "{off}");
     let cuts = stopped("start\ncuts from here\n").expect("a message");
     assert!(
-        cuts.starts_with("3: \"cuts from here\", in line 2"),
+        cuts.starts_with(":3: \"cuts from here\", in line 2"),
         "{cuts}"
     );
 }
 
 #[test]
 fn a_plan_of_nothing() {
-    let page = made("");
+    for empty in ["", "\n# a remark\n"] {
+        let message = page("p", PathBuf::new(), empty.as_bytes()).err();
+        let told = ": the plan is empty: no line does anything";
+        assert_eq!(message.as_deref(), Some(told));
+    }
+    let page = made("say\n");
     assert!(page.good);
     assert!(page
         .html
         .contains("The drive is off; the table on the platter: run number 0"));
     made("start\nsay\n\n# a remark\n");
+}
+
+#[test]
+fn help_stands_in_columns() {
+    let page = made("help\nhelp table\nstart\n");
+    assert!(page.good);
+    let html = &page.html;
+    for words in [
+        "<pre tabindex=\"0\">Lines of a plan, each with an example:\n\n# TEXT  ",
+        "\nstart                               start\nwrite BLOCKS DATA  ",
+        "<pre tabindex=\"0\">table                               table</pre>",
+    ] {
+        assert!(html.contains(words), "{words}");
+    }
+}
+
+#[test]
+fn dumped_bytes_stand_below_each_other() {
+    let page = made("start\nwrite 17 26 00*531\ndump 17\n");
+    let first = format!("000  26{}  |&amp;{}|", " 00".repeat(15), ".".repeat(15));
+    let second = format!("010 {}  |{}|", " 00".repeat(16), ".".repeat(16));
+    assert!(page.html.contains(&format!(">{first}\n{second}\n*\n")));
+}
+
+#[test]
+fn a_byte_order_mark_is_no_part_of_the_first_line() {
+    let page = made("\u{FEFF}say First: so\r\nstart\r\n");
+    assert!(page.html.contains("<h3>First</h3>"));
+    assert!(!page.html.contains('\u{FEFF}'));
 }
 
 #[test]

@@ -12,7 +12,7 @@ use super::kept::{Kept, Room};
 use super::log::{Card, Log};
 use crate::picture::Outcome;
 use crate::plan::{self, Line};
-use crate::run::{Run, Settings, Stop};
+use crate::run::{Run, Settings};
 
 /// The lines of a plan that are kept, and those of them where something happened.
 const STEPS: Room = Room {
@@ -48,6 +48,8 @@ pub enum Kind {
     Expect(bool),
     /// Bytes in lines, which stand below each other.
     Dump,
+    /// Lines of a plan in words, in columns.
+    Help,
     /// A table of power cuts.
     Cuts,
     Other,
@@ -122,13 +124,14 @@ impl Told {
             ..Settings::default()
         };
         let said = Said::default();
-        let mut run = Run::new(settings, said.clone())?;
+        let run = Run::new(settings, said.clone());
+        let mut run = run.map_err(|message| format!(": {message}"))?;
         let mut lines = Lines::default();
         loop {
             match run.next(&mut plan) {
                 Ok(Some(text)) => lines.add(run.number(), &text, said.take(), run.log().take()),
                 Ok(None) => break,
-                Err(stop) => return Err(format!("{}: {}", run.number(), reason(stop))),
+                Err(stop) => return Err(stop.told(run.number())),
             }
         }
         Told::ended(name, run, lines, &said)
@@ -137,7 +140,7 @@ impl Told {
     /// Tells how a run ended.
     fn ended(name: &str, mut run: Run<Said>, lines: Lines, said: &Said) -> Result<Told, String> {
         let log = std::mem::take(run.log());
-        let expectations = run.expectations();
+        let (number, expectations) = (run.number(), run.expectations());
         let board = &run.host().board;
         let (history, platter) = (board.history(), board.platter());
         let stored = platter.table().map(|(_, table)| table);
@@ -168,7 +171,7 @@ impl Told {
             unreadable: sectors.iter().map(|sector| sector.number()).collect(),
             log,
         };
-        told.good = run.finish().map_err(reason)?.0;
+        told.good = run.finish().map_err(|stop| stop.told(number))?.0;
         told.sum_up(said.take());
         Ok(told)
     }
@@ -189,14 +192,6 @@ impl Told {
     /// Says whether the plan has the line of this number here.
     pub fn has_source(&self, number: usize) -> bool {
         self.sources.contains(&number)
-    }
-}
-
-/// Says why a run stopped.
-fn reason(stop: Stop) -> String {
-    match stop {
-        Stop::Line(message) => message,
-        Stop::Output(error) => error.to_string(),
     }
 }
 
@@ -282,6 +277,7 @@ fn kind(text: &str, said: &[String]) -> Option<(Kind, String)> {
         Ok(Line::Fault(_) | Line::Power(_) | Line::CutsFrom) => Kind::Order,
         Ok(Line::Expect(_)) => Kind::Expect(said.is_empty()),
         Ok(Line::Dump(_)) => Kind::Dump,
+        Ok(Line::Help(_)) => Kind::Help,
         Ok(Line::CutsTo) => Kind::Cuts,
         Ok(_) => Kind::Other,
     };

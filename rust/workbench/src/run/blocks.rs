@@ -42,13 +42,14 @@ impl<W: Write> Run<W> {
     /// Writes what was read to a file, if all of it is good.
     fn keep(&mut self, blocks: Blocks, path: &str, bytes: &[u8]) -> Result<(), Stop> {
         let lost = self.not_good(blocks);
-        self.expectations += 1;
         if lost.is_empty() {
             if !self.settings.one_of_many {
                 files::write(&self.settings.folder.join(path), bytes)?;
             }
+            self.expectations += 1;
             writeln!(self.out, "  {} bytes written to {path}", bytes.len())?;
         } else {
+            self.expectations += 1;
             self.not_met();
             let lost = ranges(&lost);
             writeln!(self.out, "  NOT written to {path}: not read were {lost}")?;
@@ -78,7 +79,18 @@ impl<W: Write> Run<W> {
             report
         })?;
         self.compared = compared;
+        self.mark_others(blocks, &others);
         self.show_compared(blocks, data, &others)
+    }
+
+    /// Marks the good reads of the host's last line that brought other bytes, for the
+    /// picture.
+    fn mark_others(&mut self, blocks: Blocks, others: &[u32]) {
+        let first = self.moments.len().saturating_sub(self.last.len());
+        let reads = blocks.numbers().zip(&self.last);
+        for ((number, report), moment) in reads.zip(&mut self.moments[first..]) {
+            moment.other_bytes = report.good() && others.binary_search(&number).is_ok();
+        }
     }
 
     /// Says whether blocks hold the data, of which these are not so. Blocks that the power

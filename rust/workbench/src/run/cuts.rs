@@ -139,15 +139,39 @@ impl<W: Write> Run<W> {
                     again.from
                 )))
             }
-            Line::Nothing | Line::Say(_) | Line::Expect(_) | Line::Table | Line::CutsTo => {
-                return Ok(())
-            }
+            Line::Nothing | Line::Say(_) | Line::Help(_) => return Ok(()),
+            Line::Expect(_) | Line::Table | Line::CutsTo => return Ok(()),
             Line::Read { to, .. } => *to = None,
             _ => {}
         }
         again.blocks.extend(named(&line));
         again.lines.push((self.number, line));
         Ok(())
+    }
+
+    /// Counts the lines that are kept, and their accesses.
+    pub(super) fn kept_for_cuts(&self) -> (usize, usize) {
+        let again = self.again.as_ref();
+        again.map_or((0, 0), |again| (again.lines.len(), again.accesses.len()))
+    }
+
+    /// Forgets a line that could not be done, before which so much was kept. If it made
+    /// accesses the others cannot be done again as they were: forgets all, and says so.
+    pub(super) fn forget_for_cuts(&mut self, (lines, accesses): (usize, usize)) -> bool {
+        let Some(again) = &mut self.again else {
+            return false;
+        };
+        again.lines.truncate(lines);
+        again.blocks = again
+            .lines
+            .iter()
+            .flat_map(|(_, line)| named(line))
+            .collect();
+        let in_part = again.accesses.len() > accesses;
+        if in_part {
+            self.again = None;
+        }
+        in_part
     }
 
     /// Counts the accesses of a report, if they are to be done again.

@@ -18,6 +18,7 @@ fn played(plan: &str, settings: Settings) -> (Result<bool, String>, usize, Strin
     let ended = match played.and_then(|()| run.finish()) {
         Ok((good, _)) => Ok(good),
         Err(Stop::Line(message)) => Err(message),
+        Err(Stop::Empty) => Err(String::from("empty")),
         Err(Stop::Output(error)) => panic!("{error}"),
     };
     (ended, number, String::from_utf8(out).expect("text"))
@@ -72,6 +73,107 @@ fn text_of_another_kind_is_refused() {
     let stopped = run.plan(&b"start\nsay \xFF\n"[..]);
     assert!(matches!(stopped, Err(Stop::Line(message)) if message == "no UTF-8 text"));
     assert_eq!(run.number(), 2);
+}
+
+#[test]
+fn a_byte_order_mark_and_ends_of_other_systems_are_taken() {
+    let plan = "\u{FEFF}start\r\nwrite 17 \"one\"\r\ncompare 17 with \"one\"\r\nsay so\r\n\r\n";
+    let (ended, _, out) = played(plan, Settings::default());
+    assert_eq!(ended, Ok(true), "{out}");
+    assert!(out.contains("\nso\n") && !out.contains('\r'), "{out}");
+    let (ended, number, _) = played("start\n\u{FEFF}start\n", Settings::default());
+    assert!(ended.is_err_and(|message| message.starts_with("\"\\u{feff}start\" begins")));
+    assert_eq!(number, 2);
+}
+
+#[test]
+fn a_line_without_an_end_is_not_read_to_its_end() {
+    let mut run = Run::new(Settings::default(), vec![]).expect("a platter");
+    let endless = std::io::BufReader::new(std::io::repeat(b'#'));
+    let message = "a line has 65536 bytes at most; is this a plan?";
+    let stopped = run.plan(endless);
+    assert!(matches!(stopped, Err(Stop::Line(said)) if said == message));
+    let longest = format!("#{}\nstart\n", " ".repeat(65_534));
+    assert_eq!(played(&longest, Settings::default()).0, Ok(true));
+}
+
+#[test]
+fn a_plan_in_which_no_line_does_anything_is_empty() {
+    let folder = test_folder("empty");
+    let path = folder.join("p");
+    for plan in ["", "\n\n", "# start\n", "\u{FEFF}"] {
+        let (ended, _, out) = played(plan, on(&path));
+        assert_eq!((ended, out.as_str()), (Err(String::from("empty")), ""));
+        assert!(!path.exists());
+    }
+    for plan in ["say so", "help", "start", "fault clear"] {
+        assert_eq!(played(plan, on(&path)).0, Ok(true), "{plan}");
+    }
+    fs::remove_dir_all(folder).expect("removed");
+}
+
+#[test]
+fn help_is_a_line_like_others() {
+    let plan = "help\nstart\ncuts from here\nread 3\nhelp read\ncuts to here\n";
+    let (ended, _, out) = played(plan, Settings::default());
+    assert_eq!(ended, Ok(true), "{out}");
+    assert!(out.starts_with("Lines of a plan, each with an example:\n"));
+    assert_eq!(out.matches("\n  read BLOCKS [R [T]]").count(), 2);
+    assert_eq!(out.matches("\nBLOCKS is a number").count(), 2);
+    let (ended, number, _) = played("start\nhelp raed\n", Settings::default());
+    assert!(ended.is_err_and(|message| message.ends_with("did you mean \"read\"?")));
+    assert_eq!(number, 2);
+}
+
+/// Types lines. Says how the run ended, and its output.
+fn typed(lines: &str) -> (Result<bool, String>, String) {
+    let settings = Settings {
+        typed: true,
+        ..Settings::default()
+    };
+    let (ended, _, out) = played(lines, settings);
+    (ended, out)
+}
+
+#[test]
+fn a_wrong_line_that_is_typed_does_not_end_the_run() {
+    let lines = "raed 17\nread 17\nstart\nwrite 17 \"one\"\nwrite 17 xx\n\
+                 read 17 to none/such\ncompare 17 with \"one\"\n";
+    let (ended, out) = typed(lines);
+    assert_eq!(ended, Ok(true), "{out}");
+    assert!(out.contains("\n  the bytes are \"one\"\n"), "{out}");
+    assert!(
+        out.contains("\n  1 of 1 expectations met\n  4 lines were wrong\n"),
+        "{out}"
+    );
+    let (ended, _, out) = played(lines, Settings::default());
+    assert!(ended.is_err() && out.is_empty());
+    assert_eq!(typed("raed\nxx\n").0, Err(String::from("empty")));
+    assert_eq!(typed("start\nexpect failed\n").0, Ok(false));
+}
+
+#[test]
+fn a_wrong_line_among_typed_power_cuts() {
+    // A line that did nothing is left out when the others are done again.
+    let none = "start\nwrite 3 \"a\"\ncuts from here\nread 3\nwrite 4 file none\ncuts to here\n";
+    let (ended, out) = typed(none);
+    assert_eq!(ended, Ok(true), "{out}");
+    assert!(
+        out.contains("cuts to here: 1 access from line 3 to line 6, 1 power cut"),
+        "{out}"
+    );
+    // One that read and then failed cannot be, so nothing is done again.
+    let part = "start\ncuts from here\nread 3\nread 4 to none/such\nread 5\ncuts to here\n";
+    let (ended, out) = typed(part);
+    assert_eq!(ended, Ok(true), "{out}");
+    assert!(
+        !out.contains("cuts to here") && out.contains("  2 lines were wrong\n"),
+        "{out}"
+    );
+    // A person may leave between the two.
+    let (ended, out) = typed("start\ncuts from here\nread 3\n");
+    assert_eq!(ended, Ok(true), "{out}");
+    assert!(out.contains("  1 line was wrong\n"), "{out}");
 }
 
 #[test]
@@ -561,6 +663,24 @@ fn moments_are_kept_for_a_picture() {
     assert_eq!(moments[5].command, "health");
     assert!(moments[5].accesses.is_empty());
     assert!(matches!(moments[5].outcome, Outcome::Good));
+}
+
+#[test]
+fn other_bytes_are_kept_for_a_picture() {
+    let settings = Settings {
+        moments: true,
+        ..Settings::default()
+    };
+    let plan = "start\nwrite 0..2 \"one\"\nwrite 1 \"two\"\ncompare 0..2 with \"one\"\n\
+                fault sector 0..1 reads all crc\ncompare 0..2 0 0 with \"two\"\n";
+    let mut run = Run::new(settings, vec![]).expect("a platter");
+    run.plan(plan.as_bytes()).expect("a plan");
+    let (good, moments) = run.finish().expect("output");
+    assert!(!good);
+    let others: Vec<bool> = moments.iter().map(|moment| moment.other_bytes).collect();
+    assert_eq!(others[..5], [false; 5]);
+    // A read that failed is a failure as it is.
+    assert_eq!(others[5..], [false, true, false, false, false, true]);
 }
 
 #[test]

@@ -84,8 +84,8 @@ pub(super) struct Watch {
 pub struct Ended {
     /// Nothing, if it is whole.
     pub wrong: Option<Wrong>,
-    /// The line that could not be done, and why.
-    pub stopped: Option<(usize, String)>,
+    /// What is told of a run that stopped, behind the plan's name.
+    pub stopped: Option<String>,
     /// The verdict on the history, if that is broken.
     pub broken: Option<String>,
     pub tally: Tally,
@@ -142,10 +142,7 @@ impl<W: Write> Run<W> {
 
     /// Returns what the run came to that ended so.
     pub fn ended(self, played: Result<(), Stop>) -> Ended {
-        let stopped = played.err().map(|stop| match stop {
-            Stop::Line(message) => (self.number, message),
-            Stop::Output(error) => (self.number, error.to_string()),
-        });
+        let stopped = played.err().map(|stop| stop.told(self.number));
         let board = &self.host.board;
         let history = board.history();
         Ended {

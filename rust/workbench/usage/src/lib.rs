@@ -5,6 +5,7 @@
 mod library;
 mod odds;
 mod options;
+mod quote;
 mod repository;
 mod work;
 
@@ -13,6 +14,7 @@ use std::io::{self, Write};
 use std::process::ExitCode;
 
 pub use odds::{Odds, Seeds};
+pub use quote::{plain, quote, short};
 pub use work::{Export, ImageForm, Plan, TagPlace, Work};
 
 /// The help: every command, and every line of a plan with an example.
@@ -64,7 +66,7 @@ pub fn output_fault(error: io::Error) -> String {
 
 /// Says what is wrong, and hands back the status of a wrong argument, plan or file.
 pub fn refuse(message: String) -> ExitCode {
-    eprintln!("workbench: {message}");
+    eprintln!("workbench: {}", quote::plain_lines(&message));
     ExitCode::from(2)
 }
 

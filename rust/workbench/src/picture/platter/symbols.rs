@@ -100,12 +100,12 @@ fn moved_key(canvas: &mut Canvas, x: i32, y: i32) {
     ring(canvas, x, y);
 }
 
-fn bad_key(canvas: &mut Canvas, x: i32, y: i32) {
+pub fn bad_key(canvas: &mut Canvas, x: i32, y: i32) {
     home_key(canvas, x, y);
     diamond(canvas, x, y);
 }
 
-fn dot_key(canvas: &mut Canvas, x: i32, y: i32) {
+pub fn dot_key(canvas: &mut Canvas, x: i32, y: i32) {
     home_key(canvas, x, y);
     canvas.path(&format!("M{x} {y}v0.1"), &dot_style(INK, 6));
 }

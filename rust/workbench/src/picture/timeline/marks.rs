@@ -48,8 +48,13 @@ const WHITE_WORDS: &str = r##"font-weight="bold" text-anchor="middle" fill="#fff
 /// The bar of a trial's rereads is this wide.
 const REREADS: i32 = 78;
 
-/// A power cut: its words, the colour behind them, and its flash.
+/// The words of a power cut.
 const POWER_FAILS: &str = "power fails";
+
+/// A comparison found other bytes.
+const OTHER_BYTES: &str = "other bytes";
+
+/// What stands behind the words of a power cut, and its flash.
 const DARK: &str = "#1f2328";
 const FLASH: &str = r##"fill="#ffd33d""##;
 
@@ -226,10 +231,26 @@ fn pill(canvas: &mut Canvas, x: i32, y: i32, words: &str) {
     canvas.text((x + width / 2, y + 4), WHITE_WORDS, words);
 }
 
-/// The legend of marks and outcomes.
-pub fn keys() -> Vec<Key> {
+/// Gives the room that other bytes take behind an outcome.
+pub fn other_bytes_room() -> i32 {
+    room(OTHER_BYTES, 12) + 40
+}
+
+/// Says in its room, which begins at `x`, that other bytes were found.
+pub fn other_bytes(canvas: &mut Canvas, x: i32, y: i32) {
+    let width = room(OTHER_BYTES, 12) + 30;
+    let style = format!(r#"rx="9" fill="{BAD}""#);
+    canvas.rect((x + 6, y - 9), (width, 18), &style);
+    failed(canvas, x + 15, y);
+    let at = (x + 25 + room(OTHER_BYTES, 12) / 2, y + 4);
+    canvas.text(at, WHITE_WORDS, OTHER_BYTES);
+}
+
+/// Gives the legend of marks and outcomes, with other bytes if they are wanted.
+pub fn keys(other_bytes: bool) -> Vec<Key> {
     let key = |symbol: fn(&mut Canvas, i32, i32), words: &str| (symbol, words.to_string());
-    vec![
+    let others = other_bytes.then(|| key(other_bytes_key, OTHER_BYTES));
+    let always = vec![
         key(|c, x, y| Mark::Read.key(c, x, y), "read, good"),
         key(|c, x, y| Mark::Write.key(c, x, y), "write, done"),
         key(|c, x, y| Mark::Store.key(c, x, y), "store of the table"),
@@ -245,5 +266,13 @@ pub fn keys() -> Vec<Key> {
         key(failed, "command failed"),
         key(refused, "refused"),
         key(cut_key, POWER_FAILS),
-    ]
+    ];
+    always.into_iter().chain(others).collect()
+}
+
+/// Draws other bytes in the legend.
+fn other_bytes_key(canvas: &mut Canvas, x: i32, y: i32) {
+    let style = format!(r#"rx="9" fill="{BAD}""#);
+    canvas.rect((x - 12, y - 9), (24, 18), &style);
+    failed(canvas, x, y);
 }

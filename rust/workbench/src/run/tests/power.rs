@@ -1,6 +1,7 @@
 //! Power cuts in a plan.
 
 use super::*;
+use crate::plan;
 
 /// Runs a plan on a platter in memory that is as it expects. Hands back its output.
 fn as_expected(plan: &str) -> String {
