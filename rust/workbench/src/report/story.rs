@@ -132,12 +132,19 @@ fn badge(step: &Step) -> (&'static str, &'static str) {
         (Kind::Expect(true), _) => ("expect", ""),
         (Kind::Expect(false), _) => ("expect bad", "not met"),
         (_, Outcome::None) => ("plain", ""),
+        (_, Outcome::Good) if has_unmet(step) => ("bad", "✗ other bytes"),
         (_, Outcome::Good) => ("good", "✓ good"),
         (_, Outcome::Spared { .. }) => ("moved", "→ moved"),
         (_, Outcome::Failed) => ("bad", "✗ failed"),
         (_, Outcome::Refused) => ("refused", "refused"),
         (_, Outcome::Cut) => ("cut", "⚡ power fails"),
     }
+}
+
+/// Says whether a line said that something is not as it should be: of good commands only
+/// a comparison does, of other bytes.
+fn has_unmet(step: &Step) -> bool {
+    step.said.things().into_iter().any(|line| is_unmet(line))
 }
 
 /// Writes an expectation, and what of it does not hold.

@@ -80,6 +80,19 @@ fn the_week() {
 }
 
 #[test]
+fn other_bytes_are_no_good_line() {
+    let plan = "start\nwrite 17 \"a\"\ncompare 17 with \"b\"\ncompare 17 with \"a\"\n";
+    let html = made(plan).html;
+    let line = |number: usize| {
+        let begins = format!("id=\"line-{number}\"");
+        let rest = &html[html.find(&begins).expect("the line")..];
+        rest[..rest.find("class=\"ended\"").expect("its end") + 200].to_string()
+    };
+    assert!(line(3).contains("✗ other bytes") && !line(3).contains("✓ good"));
+    assert!(line(4).contains("✓ good"));
+}
+
+#[test]
 fn a_broken_expectation_and_a_failed_command() {
     let plan = "start\nsay Now: it fails\nread 9728\nexpect good\nexpect failed\n";
     let page = made(plan);
