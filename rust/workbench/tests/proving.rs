@@ -123,6 +123,33 @@ fn a_crate_is_shown_while_it_is_proved() {
     assert!(child.wait().expect("its end").success());
 }
 
+/// Compiles by the clang of the kit that it is told of, as the kit's prover does.
+const COMPILES: &str = r#"
+if [ "$*" = doc ]; then echo "$room/home/doc/guide"; exit; fi
+[ "$*" = version ] || "$RATTLE_HOME/on/$(uname -m)/toolchain/bin/clang" -O1 crates.txt.bc
+"#;
+
+#[test]
+fn the_module_is_kept_of_the_run_that_is_followed() {
+    let checkout = checkout("proving-module", GOES_WELL);
+    checkout.stand_in("path/rt", &[COMPILES, BEGIN, GOES_WELL].concat());
+    fs::write(checkout.file("crates.txt.bc"), "a module").expect("written");
+    let machine = Command::new("uname").arg("-m").output().expect("a name");
+    let machine = String::from_utf8(machine.stdout).expect("text");
+    let folder = format!("home/on/{}/toolchain/bin", machine.trim());
+    fs::create_dir_all(checkout.room.join(&folder)).expect("a folder");
+    checkout.stand_in(&format!("{folder}/clang"), "echo \"compiled $*\"\n");
+    let (status, _, message) = checkout.run_script("tools/library", &[]);
+    assert_eq!(status, Some(0), "{message}");
+    assert_eq!(parted(&message).0, SHOWN);
+    let read = |name: &str| fs::read_to_string(checkout.file(name)).expect("a file");
+    assert_eq!(read("target/module/module.bc"), "a module");
+    assert_eq!(read("target/module/words"), "-O1\ncrates.txt.bc\n");
+    assert!(read("target/library.log").contains("compiled -O1 crates.txt.bc\n"));
+    assert!(!checkout.file("target/module/kit").exists());
+    assert!(read("target/staticlib/libbumivondra.sum").contains("target/module/module.bc"));
+}
+
 /// Runs a script of the checkout on a terminal. Returns its status and all that is seen.
 fn on_a_terminal(checkout: &Checkout, script: &str, kind: &str) -> (Option<i32>, String) {
     let mut command = Command::new("script");
