@@ -9,15 +9,16 @@ use std::path::Path;
 
 use controller::SECTOR_BYTES;
 use reference::geometry::BLOCKS;
+use usage::outputs::Output;
 use usage::{Export, ImageForm, TagPlace};
 
 use crate::board::Board;
 use crate::host::{Host, Retry};
-use crate::platter::Platter;
+use crate::platter::{Platter, PlatterFile};
 use crate::progress::Progress;
 use crate::{files, rescue, show, table_files};
 
-pub use forms::{load_platter, open_platter, pointed, unknown, LENGTH};
+pub use forms::{no_platter, pointed, unknown, LENGTH};
 
 /// An export rereads much and moves nothing.
 const PATIENT: Retry = Retry {
@@ -90,6 +91,7 @@ fn came(image: &forms::Image, place: TagPlace) -> String {
 
 /// Writes blocks of 532 bytes onto a blank platter in a file.
 fn write_all(blocks: &[u8], platter: &Path) -> Result<(), String> {
+    let mut file = PlatterFile::new(platter)?;
     let mut host = Host::new(Board::new(Platter::blank()));
     host.start();
     let progress = Progress::new();
@@ -99,7 +101,7 @@ fn write_all(blocks: &[u8], platter: &Path) -> Result<(), String> {
         progress.tick("import", number as usize, BLOCKS as usize);
     }
     progress.end(BLOCKS as usize);
-    host.board.platter_mut().save(platter)
+    file.save(host.board.platter_mut())
 }
 
 /// Says what was exported: the blocks that could not be read, and those whose tags were
@@ -113,7 +115,7 @@ pub struct Exported {
 /// Reads all blocks of a platter into an image, and leaves the platter. If some could not
 /// be read, the image is written only if it is wanted all the same, with zeros for them.
 pub fn export(platter: &Path, image: &Path, how: Export) -> Result<Exported, String> {
-    let mut source = load_platter(platter)?;
+    let mut source = Platter::load(platter)?;
     if how.without_table {
         source = rescue::as_if_none_moved(platter, source)?;
     }
@@ -123,7 +125,7 @@ pub fn export(platter: &Path, image: &Path, how: Export) -> Result<Exported, Str
     let name = platter.file_stem().unwrap_or_default().to_string_lossy();
     let written = forms::written(blocks, how.form, how.tags, &name);
     if lost.is_empty() || how.keep_going {
-        files::write(image, &written.bytes)?;
+        files::write(&Output::to_new(image, "the image"), &written.bytes)?;
     }
     let dropped = written.dropped;
     Ok(Exported { lost, dropped })

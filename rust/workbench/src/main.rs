@@ -9,10 +9,11 @@ use std::fs::File;
 use std::io::ErrorKind::BrokenPipe;
 use std::io::{self, BufRead, BufReader, BufWriter, IsTerminal, Write};
 use std::num::NonZero;
-use std::path::Path;
+use std::path::{Path, PathBuf};
 use std::process::ExitCode;
 use std::thread;
 
+use usage::outputs::Output;
 use usage::{Asked, Export, Plan, Seeds, Work};
 use workbench::faults::Share;
 use workbench::image_files::Imported;
@@ -49,7 +50,7 @@ fn carry_out(work: Work) -> Result<bool, String> {
                 trace,
                 ..Settings::default()
             };
-            play(plan.as_ref(), settings, io::stdout().lock()).map(|(good, _)| good)
+            play(plan.as_ref(), settings, io::stdout().lock()).map(|played| played.good)
         }
         Work::Import {
             image,
@@ -92,17 +93,24 @@ fn say_lines(lines: &[String]) -> Result<bool, String> {
         .collect::<String>())
 }
 
+/// Says what a plan's run came to.
+#[derive(Default)]
+struct Played {
+    /// All was as it should be.
+    good: bool,
+    moments: Vec<Moment>,
+    /// The files that the plan read.
+    inputs: Vec<PathBuf>,
+}
+
 /// Runs a plan, or standard input, and shows what happens.
-fn play(
-    plan: Option<&Plan>,
-    mut settings: Settings,
-    out: impl Write,
-) -> Result<(bool, Vec<Moment>), String> {
+fn play(plan: Option<&Plan>, mut settings: Settings, out: impl Write) -> Result<Played, String> {
     settings.typed = plan.is_none() && io::stdin().is_terminal();
     let typed = settings.typed;
     let input = match plan {
         Some(Plan { path, .. }) => {
-            settings.folder = path.parent().map(Path::to_path_buf).unwrap_or_default();
+            settings.plan = Some(path.clone());
+            settings.folder = folder_of(path);
             open(path)?
         }
         None => standard_input(typed),
@@ -110,18 +118,30 @@ fn play(
     let name = plan.map_or("standard input", |plan| plan.name.as_str());
     let mut run = Run::new(settings, BufWriter::new(out))?;
     let played = run.plan(input);
-    let number = run.number();
+    let (number, inputs) = (run.number(), run.inputs());
     match played.and_then(|()| run.finish()) {
-        Ok(ended) => Ok(ended),
+        Ok((good, moments)) => Ok(Played {
+            good,
+            moments,
+            inputs,
+        }),
         Err(Stop::Empty) if typed => {
             eprintln!("workbench: no line was done");
-            Ok((true, vec![]))
+            Ok(Played {
+                good: true,
+                ..Played::default()
+            })
         }
         // Whoever read the output has seen enough.
-        Err(Stop::Output(error)) if error.kind() == BrokenPipe => Ok((false, vec![])),
+        Err(Stop::Output(error)) if error.kind() == BrokenPipe => Ok(Played::default()),
         Err(Stop::Output(error)) => Err(usage::output_fault(error)),
         Err(stop) => Err(format!("{name}{}", stop.told(number))),
     }
+}
+
+/// Finds the folder in which the files of a plan are sought.
+fn folder_of(plan: &Path) -> PathBuf {
+    plan.parent().map(Path::to_path_buf).unwrap_or_default()
 }
 
 fn open(path: &Path) -> Result<Box<dyn BufRead>, String> {
@@ -189,7 +209,7 @@ fn picture_of(path: &Path, to: &Path) -> Result<bool, String> {
     let source = Source::read(path)?;
     let title = path.file_name().unwrap_or_default().to_string_lossy();
     let svg = picture::platter(&title, source.table().as_ref(), &source.unreadable());
-    files::write(to, svg.as_bytes())?;
+    files::write(&Output::picture(path, to), svg.as_bytes())?;
     Ok(true)
 }
 
@@ -199,11 +219,12 @@ fn timeline(plan: &Plan, to: &Path) -> Result<bool, String> {
         moments: true,
         ..Settings::default()
     };
-    let (good, moments) = play(Some(plan), settings, io::sink())?;
+    let played = play(Some(plan), settings, io::sink())?;
     let name = plan.path.file_name().unwrap_or_default().to_string_lossy();
-    let svg = picture::timeline(&format!("The run of {name}"), &moments);
-    files::write(to, svg.as_bytes())?;
-    Ok(good)
+    let svg = picture::timeline(&format!("The run of {name}"), &played.moments);
+    let output = Output::timeline(&plan.path, &played.inputs, to);
+    files::write(&output, svg.as_bytes())?;
+    Ok(played.good)
 }
 
 /// The odds of a plan under random faults, or one of their runs.
@@ -212,11 +233,8 @@ fn odds_of(plan: &Plan, asked: usage::Odds) -> Result<bool, String> {
     let ask = Ask {
         name: plan.name.clone(),
         plan: files::read(&plan.path)?,
-        folder: plan
-            .path
-            .parent()
-            .map(Path::to_path_buf)
-            .unwrap_or_default(),
+        file: Some(plan.path.clone()),
+        folder: folder_of(&plan.path),
         rate: share(asked.rate),
         dying: share(asked.dying),
     };
@@ -226,7 +244,7 @@ fn odds_of(plan: &Plan, asked: usage::Odds) -> Result<bool, String> {
                 trace,
                 ..ask.settings(Some(seed))
             };
-            play(Some(plan), settings, io::stdout().lock()).map(|(good, _)| good)
+            play(Some(plan), settings, io::stdout().lock()).map(|played| played.good)
         }
         Seeds::To {
             last,
@@ -237,11 +255,14 @@ fn odds_of(plan: &Plan, asked: usage::Odds) -> Result<bool, String> {
             let jobs = jobs.unwrap_or_else(processors);
             let odds = ask.odds(last, jobs, Progress::new())?;
             say(&odds::text(&odds))?;
+            let inputs = &odds.without.inputs;
             if let Some(file) = json {
-                files::write(&file, odds::json(&odds).as_bytes())?;
+                let output = Output::odds(&plan.path, inputs, &file);
+                files::write(&output, odds::json(&odds).as_bytes())?;
             }
             if let Some(file) = picture {
-                files::write(&file, picture::odds(&odds).as_bytes())?;
+                let output = Output::odds_picture(&plan.path, inputs, &file);
+                files::write(&output, picture::odds(&odds).as_bytes())?;
             }
             Ok(odds.good())
         }
@@ -256,10 +277,15 @@ fn processors() -> usize {
 /// The page of a plan's run, on a platter in memory.
 fn page(plan: &Plan, to: &Path) -> Result<bool, String> {
     let name = plan.path.file_name().unwrap_or_default().to_string_lossy();
-    let folder = plan.path.parent().map(Path::to_path_buf);
-    let page = report::page(&name, folder.unwrap_or_default(), open(&plan.path)?);
+    let settings = Settings {
+        plan: Some(plan.path.clone()),
+        folder: folder_of(&plan.path),
+        ..Settings::default()
+    };
+    let page = report::page(&name, settings, open(&plan.path)?);
     let page = page.map_err(|stop| format!("{}{stop}", plan.name))?;
-    files::write(to, page.html.as_bytes())?;
+    let output = Output::page(&plan.path, &page.inputs, to);
+    files::write(&output, page.html.as_bytes())?;
     say(&format!("{}: {}\n", to.display(), page.last_line))?;
     Ok(page.good)
 }

@@ -28,6 +28,8 @@ pub struct Ask {
     pub name: String,
     /// The lines of the plan.
     pub plan: Vec<u8>,
+    /// The plan's file, if it is in one.
+    pub file: Option<PathBuf>,
     /// Where the files are sought that it names.
     pub folder: PathBuf,
     /// At so many accesses a fault comes.
@@ -62,6 +64,7 @@ impl Ask {
     pub fn settings(&self, seed: Option<u32>) -> Settings {
         let random = |seed: u32| Random::new(seed.into(), self.rate, self.dying);
         Settings {
+            plan: self.file.clone(),
             folder: self.folder.clone(),
             beside: seed.map(random),
             one_of_many: true,

@@ -1,6 +1,7 @@
 //! The platter: 9,792 sectors of 532 bytes, and which of them are unreadable.
 
 mod file;
+mod lock;
 
 use std::collections::BTreeMap;
 use std::rc::Rc;
@@ -9,7 +10,7 @@ use reference::geometry::{Sector, SECTORS, SECTOR_BYTES, TABLE};
 use reference::image::{self, Form, Table};
 use reference::surface::{Access, Bytes, Left, Sectors};
 
-pub use file::unreadable_file;
+pub use file::{is_one, unreadable_file, PlatterFile, Source};
 
 /// Length of a platter file.
 pub const LENGTH: usize = SECTORS as usize * SECTOR_BYTES;

@@ -22,6 +22,8 @@ mod verdict;
 use std::io::BufRead;
 use std::path::PathBuf;
 
+use crate::run::Settings;
+
 pub use log::Log;
 use told::Told;
 
@@ -32,15 +34,18 @@ pub struct Page {
     pub good: bool,
     /// The last line of the run's output.
     pub last_line: String,
+    /// The files that the plan read.
+    pub inputs: Vec<PathBuf>,
 }
 
-/// Runs a plan on a platter in memory, and makes the page. A line that cannot be done is
-/// told with its number, as it stands behind the plan's name.
-pub fn page(name: &str, folder: PathBuf, plan: impl BufRead) -> Result<Page, String> {
-    let told = Told::run(name, folder, plan)?;
+/// Runs a plan, and makes the page. A line that cannot be done is told with its number, as
+/// it stands behind the plan's name.
+pub fn page(name: &str, settings: Settings, plan: impl BufRead) -> Result<Page, String> {
+    let told = Told::run(name, settings, plan)?;
     Ok(Page {
         html: page::html(&told),
         good: told.good,
         last_line: told.last_line,
+        inputs: told.inputs,
     })
 }

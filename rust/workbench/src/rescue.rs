@@ -2,18 +2,17 @@
 //! The blocks of such a platter can be read in their home sectors, as if none had moved.
 
 use std::collections::BTreeSet;
-use std::fs::{self, File};
-use std::io::ErrorKind::AlreadyExists;
 use std::path::{Path, PathBuf};
 
 use reference::geometry::{SECTOR_BYTES, TABLE};
 use reference::image::{Spare, Table};
 use reference::surface::{Access, Left};
+use usage::outputs::{followed, Output};
 
-use crate::image_files::load_platter;
-use crate::platter::{self, Platter};
+use crate::files::{self, Beside};
+use crate::platter::{self, Platter, PlatterFile};
+use crate::show;
 use crate::table_files::{self, held, judged, no_image, summary, Source};
-use crate::{files, show};
 
 /// Says why a platter has no good table, and what can be had all the same.
 pub fn no_table(path: &Path, fault: &str) -> String {
@@ -47,7 +46,7 @@ pub fn take(path: &Path, to: &Path) -> Result<Taken, String> {
         return Err(format!("{name} is no platter: it has 532 bytes already"));
     };
     let bytes = held(&platter).map_err(|fault| no_table(path, &fault))?;
-    files::write(to, &bytes)?;
+    files::write(&Output::to_new(to, "the table"), &bytes)?;
     Ok(match judged(&bytes) {
         Ok((form, table)) => Taken {
             line: format!("{file}: the table of {name}, {}", summary(form, &table)),
@@ -61,13 +60,14 @@ pub fn take(path: &Path, to: &Path) -> Result<Taken, String> {
 }
 
 /// Puts a table's image on a platter, or an empty table. Its sector becomes readable, and
-/// what it had is kept in another file. Says what was done.
+/// what it had is kept in another file. Nobody else uses the platter meanwhile. Says what
+/// was done.
 pub fn put(image: Option<&Path>, path: &Path, replace: bool) -> Result<Vec<String>, String> {
     let new = match image {
         Some(file) => New::read(file)?,
         None => New::empty(),
     };
-    let mut platter = load_platter(path)?;
+    let (mut on, mut platter) = PlatterFile::open_old(path)?;
     let name = path.display();
     let old = good_table(&platter);
     if let (Some((words, _)), false) = (&old, replace) {
@@ -78,7 +78,7 @@ pub fn put(image: Option<&Path>, path: &Path, replace: bool) -> Result<Vec<Strin
     let kept = keep(path, &platter)?;
     let left = Left::Held(new.bytes.to_vec());
     platter.leave(Access::Write(TABLE), &new.bytes, &left);
-    platter.save(path)?;
+    on.save(&mut platter)?;
     let warning = match old {
         Some((_, old)) => other_places(&old, &new.table),
         None => new.warning,
@@ -98,15 +98,12 @@ impl New {
     /// Reads a table's image.
     fn read(file: &Path) -> Result<New, String> {
         let name = file.display();
-        let bytes = match Source::read(file) {
-            Ok(Source::Image(bytes)) => bytes,
-            Ok(Source::Platter(_)) => {
-                return Err(format!(
-                    "{name} is a platter; workbench table {name} --to FILE takes its table off"
-                ))
-            }
-            Err(_) => files::read(file)?,
-        };
+        let bytes = platter::Source::open(file)?.bytes()?;
+        if platter::is_one(&bytes) {
+            return Err(format!(
+                "{name} is a platter; workbench table {name} --to FILE takes its table off"
+            ));
+        }
         let (form, table) = judged(&bytes).map_err(|fault| no_image(file, &fault))?;
         Ok(New {
             words: format!("the table of {name}, {}", summary(form, &table)),
@@ -144,13 +141,7 @@ fn good_table(platter: &Platter) -> Option<(String, Table)> {
 /// Keeps the bytes of the table's sector in a file beside the platter that was not there.
 /// Says where they are.
 fn keep(path: &Path, platter: &Platter) -> Result<String, String> {
-    let file = free_name(path)?;
-    let kept = files::write(&file, &platter.bytes(TABLE));
-    if let Err(fault) = kept {
-        // The empty file that took the name holds nothing.
-        let _ = fs::remove_file(&file);
-        return Err(fault);
-    }
+    let file = kept_in(path, &platter.bytes(TABLE))?;
     let file = file.display();
     Ok(match table_files::held(platter) {
         Ok(_) => format!("  the 532 bytes that stood there are in {file}"),
@@ -158,16 +149,18 @@ fn keep(path: &Path, platter: &Platter) -> Result<String, String> {
     })
 }
 
-/// Makes an empty file beside a platter under a name that was free.
-fn free_name(path: &Path) -> Result<PathBuf, String> {
+/// Writes bytes beside a platter itself, in a file of its owner and mode, under the first
+/// name that is free. Returns the file.
+fn kept_in(path: &Path, bytes: &[u8]) -> Result<PathBuf, String> {
+    let path = followed(path).map_err(|error| files::unread(path, error))?;
     let mut ending = String::from(".old-table");
     let mut number = 1;
     loop {
-        let file = files::with_ending(path, &ending);
-        match File::create_new(&file) {
-            Ok(_) => return Ok(file),
-            Err(error) if error.kind() == AlreadyExists => {}
-            Err(error) => return Err(format!("{} cannot be written: {error}", file.display())),
+        let mut name = path.clone().into_os_string();
+        name.push(&ending);
+        let file = PathBuf::from(name);
+        if !files::is_taken(&file) && Beside::write(&file, Some(&path), bytes)?.put_if_free()? {
+            return Ok(file);
         }
         number += 1;
         ending = format!(".old-table.{number}");
@@ -219,6 +212,8 @@ mod tests {
     use crate::files::test_folder;
     use reference::geometry::Block;
     use reference::image::{self, Cause, Entry, Form};
+    use std::fs::{self, Permissions};
+    use std::os::unix::fs::PermissionsExt;
 
     /// Makes the image of a table with these blocks in the first spares.
     fn table(form: Form, run: u32, blocks: &[u32]) -> Vec<u8> {
@@ -276,7 +271,9 @@ mod tests {
             let kept = fs::read(folder.join("p.old-table")).expect("the old bytes");
             assert_eq!(kept, [7; 532]);
             assert_eq!(names(&folder), ["p", "p.old-table", "t"]);
-            fs::remove_file(folder.join("p.old-table")).expect("removed");
+            for name in ["p.old-table", "t"] {
+                fs::remove_file(folder.join(name)).expect("removed");
+            }
         }
         fs::remove_dir_all(folder).expect("removed");
     }
@@ -400,21 +397,55 @@ mod tests {
         let before = fs::read(&path).expect("a platter");
         // The name that comes first is taken, by a folder.
         fs::create_dir(folder.join("p.old-table")).expect("a folder");
-        fs::create_dir(folder.join("p.new")).expect("a folder in the way");
-        let message = put(None, &path, false).expect_err("a folder in the way");
+        let mode = |mode| fs::set_permissions(&path, Permissions::from_mode(mode));
+        mode(0o440).expect("a mode");
+        let message = put(None, &path, false).expect_err("it is protected");
         assert!(message.contains("/p cannot be written: "), "{message}");
         assert!(fs::read(&path).expect("a platter") == before);
         assert_eq!(
             fs::read(folder.join("p.old-table.2")).expect("old bytes"),
             [7; 532]
         );
-        fs::remove_dir(folder.join("p.new")).expect("removed");
+        mode(0o640).expect("a mode");
         let lines = put(None, &path, false).expect("put");
         assert!(lines[1].ends_with("/p.old-table.3"), "{lines:?}");
+        for name in ["p", "p.old-table.3"] {
+            let file = fs::metadata(folder.join(name)).expect("a file");
+            assert_eq!(file.permissions().mode() & 0o777, 0o640, "{name}");
+        }
         let mut after = fs::read(&path).expect("a platter");
         let sector = TABLE.number() as usize * SECTOR_BYTES;
         after[sector..sector + SECTOR_BYTES].fill(7);
         assert!(after == before);
+        fs::remove_dir_all(folder).expect("removed");
+    }
+
+    #[test]
+    fn a_platter_in_use_is_left() {
+        let folder = test_folder("put-in-use");
+        let (path, file) = (folder.join("p"), folder.join("t"));
+        good(&path, &platter::empty_table());
+        let before = fs::read(&path).expect("a platter");
+        let words = "/p is in use by another workbench: nothing is done";
+        let reader = platter::Source::open(&path).expect("a reader");
+        // Others may read it meanwhile.
+        take(&path, &file).expect("taken");
+        let message = put(None, &path, true).expect_err("in use");
+        assert!(message.ends_with(words), "{message}");
+        drop(reader);
+        let writer = PlatterFile::open_old(&path).expect("a writer");
+        for message in [
+            put(None, &path, true).err(),
+            take(&path, &folder.join("u")).err(),
+        ] {
+            let message = message.expect("in use");
+            assert!(message.ends_with(words), "{message}");
+        }
+        drop(writer);
+        assert!(fs::read(&path).expect("a platter") == before);
+        assert_eq!(names(&folder), ["p", "t"]);
+        let message = put(None, &folder.join("none"), true).expect_err("no platter");
+        assert!(message.contains("/none cannot be read: "), "{message}");
         fs::remove_dir_all(folder).expect("removed");
     }
 

@@ -3,6 +3,7 @@
 mod blocks;
 mod cuts;
 mod expect;
+mod files;
 mod health;
 mod lines;
 mod page;
@@ -20,12 +21,13 @@ use crate::faults::Random;
 use crate::host::{End, Host, Report};
 use crate::picture::{Moment, Outcome};
 use crate::plan::{Line, Order};
-use crate::platter::Platter;
+use crate::platter::{Platter, PlatterFile};
 use crate::progress::Progress;
 use crate::report::Log;
 use crate::summary::Longest;
-use crate::{image_files, show, summary, table, trace};
+use crate::{show, summary, table, trace};
 use cuts::{Again, Compared};
+use files::NamedFiles;
 pub use wrong::{Ended, Why, Wrong};
 
 /// How a plan is run.
@@ -33,6 +35,8 @@ pub use wrong::{Ended, Why, Wrong};
 pub struct Settings {
     /// The platter's file; without one it lives in memory.
     pub platter: Option<PathBuf>,
+    /// The plan's file; without one it comes on standard input.
+    pub plan: Option<PathBuf>,
     /// Where the files are sought that a plan names.
     pub folder: PathBuf,
     /// Accesses are shown too.
@@ -87,8 +91,11 @@ impl From<io::Error> for Stop {
 /// A plan that is being run.
 pub struct Run<W: Write> {
     host: Host,
+    /// The platter's file, which no other workbench uses.
+    file: Option<PlatterFile>,
     out: W,
     settings: Settings,
+    files: NamedFiles,
     progress: Progress,
     /// The number of the line.
     number: usize,
@@ -114,9 +121,12 @@ pub struct Run<W: Write> {
 impl<W: Write> Run<W> {
     /// Opens the platter.
     pub fn new(settings: Settings, out: W) -> Result<Run<W>, String> {
-        let platter = match &settings.platter {
-            Some(path) => image_files::open_platter(path)?,
-            None => Platter::blank(),
+        let (file, platter) = match &settings.platter {
+            Some(path) => {
+                let (file, platter) = PlatterFile::open(path)?;
+                (Some(file), platter)
+            }
+            None => (None, Platter::blank()),
         };
         let mut host = Host::new(Board::new(platter));
         if let Some(random) = settings.beside.clone() {
@@ -126,15 +136,18 @@ impl<W: Write> Run<W> {
             true => Progress::silent(),
             false => Progress::new(),
         };
-        Ok(Run::over(host, settings, progress, out))
+        let run = Run::over(host, settings, progress, out);
+        Ok(Run { file, ..run })
     }
 
     /// Runs over this host.
     fn over(host: Host, settings: Settings, progress: Progress, out: W) -> Run<W> {
         Run {
             host,
+            file: None,
             out,
             settings,
+            files: NamedFiles::default(),
             progress,
             number: 0,
             busy: false,
@@ -153,13 +166,11 @@ impl<W: Write> Run<W> {
     }
 
     fn save(&mut self) -> Result<(), Stop> {
-        if let Some(path) = &self.settings.platter {
-            let platter = self.host.board.platter_mut();
-            if platter.changed() {
-                platter.save(path)?;
-            }
+        let platter = self.host.board.platter_mut();
+        match &mut self.file {
+            Some(file) if platter.changed() => Ok(file.save(platter)?),
+            _ => Ok(()),
         }
-        Ok(())
     }
 
     /// The summary. Says whether all was as it should be, and hands back what

@@ -7,8 +7,9 @@ use std::path::Path;
 use controller::{Answer, Code};
 use reference::geometry::{SECTOR_BYTES, TABLE};
 use reference::image::{self, Clause, Fault, Form, Table};
+use usage::outputs::Output;
 
-use crate::image_files::{load_platter, pointed, unknown};
+use crate::image_files::{pointed, unknown};
 use crate::platter::{self, Platter};
 use crate::{files, rescue, show, table};
 
@@ -22,13 +23,14 @@ pub enum Source {
 impl Source {
     /// Reads a file.
     pub fn read(path: &Path) -> Result<Source, String> {
-        let bytes = files::read(path)?;
+        let mut source = platter::Source::open(path)?;
+        let bytes = source.bytes()?;
         match bytes.len() {
             SECTOR_BYTES => Ok(Source::Image(bytes)),
             length if length < platter::LENGTH => {
                 Err(pointed(path, &bytes).unwrap_or_else(|| neither(path, &bytes)))
             }
-            _ => load_platter(path).map(Source::Platter),
+            _ => source.platter(&bytes).map(Source::Platter),
         }
     }
 
@@ -90,7 +92,7 @@ pub fn summary(form: Form, table: &Table) -> String {
 pub fn convert(from: &Path, to: &Path) -> Result<String, String> {
     let bytes = files::read(from)?;
     let (form, other) = turned(&bytes).map_err(|fault| no_image(from, &fault))?;
-    files::write(to, &other)?;
+    files::write(&Output::to_new(to, "the table"), &other)?;
     let past = match form {
         Form::A => "without its run number and causes",
         Form::B => "with run number 0 and no cause known",
@@ -298,6 +300,7 @@ mod tests {
         let mut platter = Platter::blank();
         let image = changed(0, &[]);
         platter.leave(Access::Write(TABLE), &image, &Left::Held(image.clone()));
+        fs::remove_file(&path).expect("removed");
         platter.save(&path).expect("saved");
         assert_eq!(shown(&path), of_b);
         fs::write(&path, image::write(Form::A, &table())).expect("written");
@@ -329,6 +332,7 @@ mod tests {
         message("/t has 5209345 bytes and is no platter");
         let mut platter = Platter::blank();
         platter.leave(Access::Write(TABLE), &[0; 532], &Left::Held(vec![0; 532]));
+        fs::remove_file(&path).expect("removed");
         platter.save(&path).expect("saved");
         message("/t has no good table, code 6: ");
         platter.leave(Access::Write(TABLE), &[0; 532], &Left::Spoiled);

@@ -264,7 +264,7 @@ fn what_is_no_table_is_refused_and_nothing_is_written() {
         let refused = workbench(&here, &["convert", "t", "out"], "");
         assert_eq!(refused, (2, String::new(), words.clone()));
         assert_eq!(fs::read(here.join("t")).expect("as it was"), bytes);
-        assert!(!here.join("out").exists() && !here.join("out.new").exists());
+        assert!(!here.join("out").exists());
         let (status, out, message) = workbench(&here, &["table", "t"], "");
         assert_eq!((status, out.as_str()), (2, ""));
         let other_length = "workbench: t has 531 bytes and is neither a platter";

@@ -6,7 +6,7 @@ mod common;
 use std::collections::BTreeMap;
 use std::fs::{self, Permissions};
 use std::io::{BufRead, BufReader, Read};
-use std::os::unix::fs::{symlink, PermissionsExt};
+use std::os::unix::fs::PermissionsExt;
 use std::os::unix::process::{CommandExt, ExitStatusExt};
 use std::path::{Path, PathBuf};
 use std::process::{Child, Command, Output, Stdio};
@@ -55,6 +55,16 @@ fn files(here: &Path) -> BTreeMap<String, Vec<u8>> {
     named.collect()
 }
 
+/// Names the files of a folder, in their order.
+fn names(here: &Path) -> Vec<String> {
+    let entries = fs::read_dir(here).expect("a folder").flatten();
+    let mut names: Vec<String> = entries
+        .map(|entry| entry.file_name().to_string_lossy().into_owned())
+        .collect();
+    names.sort();
+    names
+}
+
 /// Runs a plan on the platter of a folder, by this command.
 fn play(command: &mut Command, here: &Path, plan: &str) -> Output {
     ended(command.args(["run", "--platter", "p"]), here, plan)
@@ -73,7 +83,7 @@ fn with_old(name: &str) -> PathBuf {
 fn refused(output: &Output, reason: &str) {
     assert_eq!(output.status.code(), Some(2));
     let message = String::from_utf8_lossy(&output.stderr);
-    let start = "workbench: standard input:3: p";
+    let start = "workbench: standard input:3: ";
     assert!(message.starts_with(start), "{message}");
     assert!(message.contains(reason), "{message}");
 }
@@ -88,32 +98,94 @@ fn goes_well(here: &Path) {
 }
 
 #[test]
-fn a_folder_in_the_way() {
-    for name in ["p.new", "p.unreadable.new"] {
-        let here = with_old(name);
-        let before = files(&here);
-        fs::create_dir(here.join(name)).expect("a folder");
-        let output = play(&mut Command::new(program()), &here, NEW);
-        refused(&output, &format!("{name}: Is a directory"));
-        fs::remove_dir(here.join(name)).expect("removed");
-        assert!(files(&here) == before, "{name}");
-        goes_well(&here);
-        fs::remove_dir_all(here).expect("removed");
+fn names_that_are_taken() {
+    let here = with_old("taken");
+    let names = ["p.new", "p.unreadable.new"];
+    for name in names {
+        fs::write(here.join(name), "mine").expect("written");
     }
+    let output = play(&mut Command::new(program()), &here, NEW);
+    assert!(output.status.success());
+    assert_eq!(loaded(&here), state("new", &[18]));
+    for name in names {
+        assert_eq!(files(&here)[name], b"mine");
+        fs::remove_file(here.join(name)).expect("removed");
+    }
+    goes_well(&here);
+    fs::remove_dir_all(here).expect("removed");
+}
+
+#[test]
+fn a_name_of_the_programs_own_that_is_taken() {
+    let here = folder("own-name");
+    // The program has the shell's number.
+    let line = "echo mine >p.workbench-$$-0; ln -s /dev/full p.workbench-$$-1; \
+                exec \"$0\" run --platter p";
+    let mut command = Command::new("sh");
+    command.args(["-c", line]).arg(program());
+    let output = ended(&mut command, &here, "start\nwrite 17 \"one\"\n");
+    assert!(output.status.success());
+    let names: Vec<String> = names(&here);
+    assert_eq!(names.len(), 3, "{names:?}");
+    assert_eq!(fs::read(here.join(&names[1])).expect("a file"), b"mine\n");
+    assert!(here.join(&names[2]).is_symlink());
+    fs::remove_dir_all(here).expect("removed");
+}
+
+/// Makes writes into files fail whose names begin so, as on a full disk.
+const FULL: &str = r#"
+#define _GNU_SOURCE
+#include <dlfcn.h>
+#include <errno.h>
+#include <stdio.h>
+#include <stdlib.h>
+#include <string.h>
+#include <unistd.h>
+
+ssize_t write(int file, const void *bytes, size_t count) {
+    ssize_t (*real)(int, const void *, size_t) = dlsym(RTLD_NEXT, "write");
+    char link[64], name[4096];
+    snprintf(link, sizeof link, "/proc/self/fd/%d", file);
+    ssize_t length = readlink(link, name, sizeof name - 1);
+    name[length < 0 ? 0 : length] = 0;
+    char *last = strrchr(name, '/');
+    char *full = getenv("FULL");
+    if (last && !strncmp(last + 1, full, strlen(full))) {
+        errno = ENOSPC;
+        return -1;
+    }
+    return real(file, bytes, count);
+}
+"#;
+
+/// Compiles it in this folder.
+fn full_disk(room: &Path) -> PathBuf {
+    let (source, made) = (room.join("full.c"), room.join("full.so"));
+    fs::write(&source, FULL).expect("written");
+    let mut compiler = Command::new("cc");
+    compiler.args(["-shared", "-fPIC", "-o"]).arg(&made);
+    let compiled = compiler.arg(&source).arg("-ldl").status();
+    assert!(compiled.expect("a compiler").success());
+    made
 }
 
 #[test]
 fn a_full_disk() {
-    for name in ["p.new", "p.unreadable.new"] {
+    let room = folder("full");
+    let full = full_disk(&room);
+    for name in ["p", "p.unreadable"] {
         let here = with_old(&format!("full-{name}"));
         let before = files(&here);
-        symlink("/dev/full", here.join(name)).expect("a link");
-        let output = play(&mut Command::new(program()), &here, NEW);
-        refused(&output, &format!("{name}: No space left on device"));
+        let mut command = Command::new(program());
+        command.env("LD_PRELOAD", &full);
+        command.env("FULL", format!("{name}.workbench-"));
+        let output = play(&mut command, &here, NEW);
+        refused(&output, "cannot be written: No space left on device");
         assert!(files(&here) == before, "{name}");
         goes_well(&here);
         fs::remove_dir_all(here).expect("removed");
     }
+    fs::remove_dir_all(room).expect("removed");
 }
 
 #[test]
@@ -162,20 +234,23 @@ fn a_limit_of_the_file_size() {
     let here = with_old("limit");
     let before = files(&here);
     let output = play(&mut limited("trap '' XFSZ;"), &here, NEW);
-    refused(&output, "p.new: File too large");
+    refused(&output, "p cannot be written: File too large");
     assert!(files(&here) == before);
 
     // Without the trap the limit kills the program in the middle of the platter.
     let output = play(&mut limited(""), &here, NEW);
     assert_eq!(output.status.signal(), Some(25));
     let mut left = files(&here);
-    let part = left.remove("p.new").expect("a part of the platter");
-    assert!(part.len() < LENGTH);
-    assert_eq!(
-        left.remove("p.unreadable.new").as_deref(),
-        Some(&b"18\n"[..])
-    );
-    assert!(left == before);
+    left.retain(|name, _| !before.contains_key(name));
+    let [(list_name, list), (name, part)] = left.iter().collect::<Vec<_>>()[..] else {
+        panic!("{:?}", left.keys());
+    };
+    assert!(name.starts_with("p.workbench-") && part.len() < LENGTH);
+    assert!(list_name.starts_with("p.unreadable.workbench-"));
+    assert_eq!(list, b"18\n");
+    assert!(before
+        .iter()
+        .all(|(name, bytes)| files(&here)[name] == *bytes));
     goes_well(&here);
     fs::remove_dir_all(here).expect("removed");
 }
@@ -206,13 +281,14 @@ fn saved(run: u32, save: u32) -> State {
 /// Waits for a moment of a save: any, or one that the files show.
 fn wait_for_a_moment(here: &Path, rng: &mut Rng) {
     let length = |name| fs::metadata(here.join(name)).map_or(0, |file| file.len());
+    let is_begun = |name| names(here).iter().any(|found| found.starts_with(name));
     let chosen = rng.below(4);
     let limit = Instant::now() + Duration::from_millis(100);
     while Instant::now() < limit {
         match chosen {
             0 => return thread::sleep(Duration::from_micros(rng.below(50_000).into())),
-            1 if length("p.new") > 0 => return,
-            2 if length("p.unreadable.new") > 0 => return,
+            1 if is_begun("p.workbench-") => return,
+            2 if is_begun("p.unreadable.workbench-") => return,
             3 if length("p") > LENGTH as u64 => return,
             _ => {}
         }

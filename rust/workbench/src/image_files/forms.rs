@@ -8,8 +8,7 @@ use reference::image;
 use usage::{ImageForm, TagPlace};
 
 use super::diskcopy::{self, DiskCopy, DATA_BYTES, TAG_BYTES};
-use crate::files;
-use crate::platter::{self, Platter};
+use crate::platter;
 
 /// Counts the blocks of a drive.
 const ALL: usize = BLOCKS as usize;
@@ -143,7 +142,7 @@ pub fn importable<'a>(path: &Path, bytes: &'a [u8]) -> Result<Image<'a>, String>
             Err(format!("{name} is {what}, and the drive has {ALL} blocks"))
         }
         Some(Err(fault)) => Err(format!("{name} is no good DiskCopy 4.2 image: {fault}")),
-        None if Platter::load(path).is_ok() => Err(format!(
+        None if platter::is_one(bytes) => Err(format!(
             "{name} is a platter already; workbench run --platter takes it"
         )),
         None if image::read(bytes).is_ok() => Err(format!(
@@ -201,24 +200,18 @@ fn nearly(length: usize) -> String {
     }
 }
 
-/// Loads a platter. An image in its place is told what makes a platter of it.
-pub fn load_platter(path: &Path) -> Result<Platter, String> {
-    Platter::load(path).map_err(|fault| no_platter(path, fault))
-}
-
-/// Opens a platter, a blank one if there is no such file, as `load_platter` does.
-pub fn open_platter(path: &Path) -> Result<Platter, String> {
-    Platter::open(path).map_err(|fault| no_platter(path, fault))
-}
-
-/// Says more of a file that is no platter, if its size says so.
-fn no_platter(path: &Path, fault: String) -> String {
-    match files::read(path) {
-        Ok(bytes) if bytes.len() != platter::LENGTH => {
-            pointed(path, &bytes).unwrap_or_else(|| unknown(&fault, &bytes))
-        }
-        _ => fault,
-    }
+/// Says of a file with these bytes that it is no platter. An image is told what makes a
+/// platter of it.
+pub fn no_platter(path: &Path, bytes: &[u8]) -> String {
+    pointed(path, bytes).unwrap_or_else(|| {
+        let fault = format!(
+            "{} has {} bytes and is no platter, which has {} (9792 sectors of 532)",
+            path.display(),
+            bytes.len(),
+            platter::LENGTH
+        );
+        unknown(&fault, bytes)
+    })
 }
 
 /// Says what to do with an image in the place of a platter.
@@ -256,8 +249,10 @@ pub fn unknown(fault: &str, bytes: &[u8]) -> String {
 mod tests {
     use super::*;
     use crate::files::test_folder;
+    use crate::platter::{Platter, PlatterFile};
     use reference::rng::Rng;
     use std::fs;
+    use usage::outputs::LIST_AT_END;
 
     fn random(length: usize) -> Vec<u8> {
         let mut rng = Rng::new(5);
@@ -401,6 +396,10 @@ mod tests {
         let message = importable(&path, &bytes).expect_err("a platter");
         let words = "/p is a platter already; workbench run --platter takes it";
         assert!(message.ends_with(words), "{message}");
+        // One whose save is not over is a platter too.
+        let saving = [&bytes, LIST_AT_END.as_bytes()].concat();
+        let message = importable(&path, &saving).expect_err("a platter");
+        assert!(message.ends_with(words), "{message}");
         let message = refused(&platter::empty_table());
         assert!(
             message.ends_with("workbench put-table takes it"),
@@ -414,8 +413,10 @@ mod tests {
         let folder = test_folder("in-its-place");
         let path = folder.join("x");
         fs::write(&path, bytes).expect("written");
-        for message in [load_platter(&path), open_platter(&path)] {
-            let message = message.expect_err("no platter");
+        let loaded = Platter::load(&path).err();
+        let opened = PlatterFile::open(&path).err();
+        for message in [loaded, opened] {
+            let message = message.expect("no platter");
             assert!(message.ends_with(words), "{message}");
         }
         fs::remove_dir_all(folder).expect("removed");
@@ -453,20 +454,21 @@ mod tests {
         let folder = test_folder("no-platter");
         let path = folder.join("p");
         fs::write(&path, b"PROFILE").expect("written");
-        let message = load_platter(&path).expect_err("no platter");
+        let message = Platter::load(&path).expect_err("no platter");
         let words =
             "/p has 7 bytes and is no platter, which has 5209344 (9792 sectors of 532); it \
                      begins with 50 52 4F 46 49 4C 45 (PROFILE)\n  known are:\n";
         assert!(message.contains(words), "{message}");
+        fs::remove_file(&path).expect("removed");
         Platter::blank().save(&path).expect("saved");
         fs::write(folder.join("p.unreadable"), "x\n").expect("written");
-        let message = load_platter(&path).expect_err("no list");
+        let message = Platter::load(&path).expect_err("no list");
         assert!(
             message.ends_with("p.unreadable:1: \"x\" is no sector"),
             "{message}"
         );
-        assert!(load_platter(&folder.join("none")).is_err());
-        assert!(open_platter(&folder.join("none")).is_ok());
+        assert!(Platter::load(&folder.join("none")).is_err());
+        assert!(PlatterFile::open(&folder.join("none")).is_ok());
         fs::remove_dir_all(folder).expect("removed");
     }
 }

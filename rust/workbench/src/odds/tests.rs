@@ -13,6 +13,7 @@ fn ask(plan: &str, rate: Share, dying: Share) -> Ask {
     Ask {
         name: String::from("a plan"),
         plan: plan.as_bytes().to_vec(),
+        file: None,
         folder: PathBuf::new(),
         rate,
         dying,

@@ -265,6 +265,7 @@ mod tests {
         let ask = Ask {
             name: String::from("a <plan>"),
             plan: b"start\n".to_vec(),
+            file: None,
             folder: PathBuf::new(),
             rate: Share { some: 1, of: 50 },
             dying: NONE,

@@ -10,7 +10,7 @@ const LONGEST: &str = include_str!("../../../../plans/longest.plan");
 
 /// Makes the page of a plan, and looks it over.
 fn made(plan: &str) -> Page {
-    let page = page("my.plan", PathBuf::new(), plan.as_bytes()).expect("a page");
+    let page = page("my.plan", Settings::default(), plan.as_bytes()).expect("a page");
     well_formed(&page.html);
     needs_nothing_else(&page.html);
     leads_somewhere(&page.html);
@@ -126,7 +126,7 @@ fn text_of_a_plan_is_escaped() {
         "# {evil}\nsay {evil}: {evil}\nsay {evil}\nstart\nwrite 17 \"{}\"\ncompare 17 with \"{0}\"\n",
         evil.replace('"', "")
     );
-    let page = page(evil, PathBuf::new(), plan.as_bytes()).expect("a page");
+    let page = page(evil, Settings::default(), plan.as_bytes()).expect("a page");
     well_formed(&page.html);
     assert_eq!(page.html.matches("<script").count(), 2);
     assert_eq!(page.html.matches("</script>").count(), 2);
@@ -139,7 +139,7 @@ fn text_of_a_plan_is_escaped() {
 
 #[test]
 fn a_line_that_cannot_be_done_is_named() {
-    let stopped = |plan: &str| page("p", PathBuf::new(), plan.as_bytes()).err();
+    let stopped = |plan: &str| page("p", Settings::default(), plan.as_bytes()).err();
     let message = stopped("start\n\nread 17 x\n").expect("a message");
     assert!(message.starts_with(":3: "), "{message}");
     let off = stopped("read 17\n").expect("a message");

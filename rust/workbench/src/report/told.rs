@@ -86,6 +86,8 @@ pub struct Told {
     pub stored: bool,
     pub unreadable: Vec<u32>,
     pub log: Log,
+    /// The files that the plan read.
+    pub inputs: Vec<PathBuf>,
     /// The numbers of the lines that the story has, and of those that the plan has here.
     lines: BTreeSet<usize>,
     sources: BTreeSet<usize>,
@@ -116,12 +118,11 @@ impl Said {
 }
 
 impl Told {
-    /// Runs a plan on a platter in memory.
-    pub fn run(name: &str, folder: PathBuf, mut plan: impl BufRead) -> Result<Told, String> {
+    /// Runs a plan.
+    pub fn run(name: &str, settings: Settings, mut plan: impl BufRead) -> Result<Told, String> {
         let settings = Settings {
-            folder,
             log: true,
-            ..Settings::default()
+            ..settings
         };
         let said = Said::default();
         let run = Run::new(settings, said.clone());
@@ -170,6 +171,7 @@ impl Told {
             },
             unreadable: sectors.iter().map(|sector| sector.number()).collect(),
             log,
+            inputs: run.inputs(),
         };
         told.good = run.finish().map_err(|stop| stop.told(number))?.0;
         told.sum_up(said.take());

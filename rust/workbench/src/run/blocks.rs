@@ -2,9 +2,10 @@
 
 use std::io::Write;
 
+use reference::geometry::SECTOR_BYTES;
+
 use super::{Run, Stop};
 use crate::data::{Blocks, Data};
-use crate::files;
 use crate::host::{Host, Report, Retry, USUAL};
 use crate::show::{self, ranges};
 use crate::trials;
@@ -13,7 +14,7 @@ impl<W: Write> Run<W> {
     /// Writes blocks.
     pub fn write(&mut self, blocks: Blocks, verify: bool, data: &Data) -> Result<(), Stop> {
         let name = if verify { "write-verify" } else { "write" };
-        let data = data.load(blocks, &self.settings.folder)?;
+        let data = self.load(data, blocks)?;
         let mut data = data.iter();
         self.each(name, blocks, |host, number| {
             let bytes = data.next().expect("data for every block");
@@ -23,6 +24,9 @@ impl<W: Write> Run<W> {
 
     /// Reads blocks, into a file if one is named.
     pub fn read(&mut self, blocks: Blocks, retry: Retry, to: Option<&str>) -> Result<(), Stop> {
+        if let Some(path) = to {
+            self.output(path, blocks.count() * SECTOR_BYTES)?;
+        }
         let mut bytes = vec![];
         self.each("read", blocks, |host, number| {
             let report = host.read(number, retry);
@@ -43,9 +47,7 @@ impl<W: Write> Run<W> {
     fn keep(&mut self, blocks: Blocks, path: &str, bytes: &[u8]) -> Result<(), Stop> {
         let lost = self.not_good(blocks);
         if lost.is_empty() {
-            if !self.settings.one_of_many {
-                files::write(&self.settings.folder.join(path), bytes)?;
-            }
+            self.write_to(path, bytes)?;
             self.expectations += 1;
             writeln!(self.out, "  {} bytes written to {path}", bytes.len())?;
         } else {
@@ -59,7 +61,7 @@ impl<W: Write> Run<W> {
 
     /// Reads blocks and compares them with data.
     pub fn compare(&mut self, blocks: Blocks, retry: Retry, data: &Data) -> Result<(), Stop> {
-        let wanted = data.load(blocks, &self.settings.folder)?;
+        let wanted = self.load(data, blocks)?;
         let mut wanted = wanted.iter();
         let mut others = vec![];
         let mut compared = self.compared;

@@ -47,7 +47,7 @@ fn a_bad_line_leaves_the_platter_as_it_was_before() {
     assert!(ended.is_err_and(|message| message.contains("none/such cannot be written")));
     assert_eq!(number, 4);
     assert!(fs::read(&path).expect("a platter") == before);
-    assert!(!platter::unreadable_file(&path).exists());
+    assert!(!platter::unreadable_file(&path).expect("a name").exists());
 
     // What lines before the bad one wrote stays.
     let (ended, number, out) = played("start\nwrite 4 \"two\"\nwrite 5 6\nwrite 7 00\n", on(&path));
@@ -594,7 +594,7 @@ fn a_table_that_cannot_be_converted_stays() {
     assert_eq!((ended, number), (Err(String::from(message)), 1));
     assert!(fs::read(&path).expect("a platter") == before);
 
-    fs::remove_file(platter::unreadable_file(&path)).expect("removed");
+    fs::remove_file(platter::unreadable_file(&path).expect("a name")).expect("removed");
     let mut bytes = before;
     bytes[4960 * 532 + 531] ^= 1;
     fs::write(&path, &bytes).expect("written");

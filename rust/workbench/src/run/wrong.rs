@@ -1,6 +1,7 @@
 //! What went wrong first in a run, and what a run came to.
 
 use std::io::Write;
+use std::path::PathBuf;
 
 use reference::geometry::Sector;
 
@@ -95,6 +96,8 @@ pub struct Ended {
     pub faults: u64,
     pub deaths: usize,
     pub spares: usize,
+    /// The files that the plan read.
+    pub inputs: Vec<PathBuf>,
 }
 
 impl<W: Write> Run<W> {
@@ -154,6 +157,7 @@ impl<W: Write> Run<W> {
             faults: board.faults.beside().map_or(0, Random::faults),
             deaths: board.faults.dead().len(),
             spares: self.spares(),
+            inputs: self.inputs(),
         }
     }
 

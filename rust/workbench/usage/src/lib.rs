@@ -1,10 +1,11 @@
 //! The workbench's command line: its help, its version, and what its arguments ask
 //! for. The files that they name are looked at too, so that a wrong one is told at
-//! once.
+//! once; `outputs` says which must not be replaced.
 
 mod library;
 mod odds;
 mod options;
+pub mod outputs;
 mod quote;
 mod repository;
 mod work;

@@ -109,6 +109,13 @@ fn seeds(given: &Given) -> Result<Seeds, String> {
             "--seeds N is missing, or --seed S for one run",
         )),
         (Some(_), None) if given.trace => Err(String::from("--trace goes with --seed S alone")),
+        (Some(_), None)
+            if given
+                .value("--json")
+                .is_some_and(|file| given.value("--picture") == Some(file)) =>
+        {
+            Err(String::from("--json and --picture go to two files"))
+        }
         (Some(last), None) => Ok(Seeds::To {
             last: number("--seeds", last, 1, u32::MAX - MOST_JOBS)?,
             jobs: given.value("--jobs").map(jobs).transpose()?,
@@ -239,6 +246,10 @@ mod tests {
         (
             "b --seeds 9 --rate 1/50 --trace",
             "--trace goes with --seed S alone",
+        ),
+        (
+            "b --seeds 9 --rate 1/50 --json o --picture o",
+            "--json and --picture go to two files",
         ),
         (
             "b --seed 9 --rate 1/50 --json o",

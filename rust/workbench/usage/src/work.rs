@@ -3,13 +3,14 @@
 use std::fs::{self, File};
 use std::path::{Path, PathBuf};
 
-use crate::odds::{self, Odds};
+use crate::odds::{self, Odds, Seeds};
 use crate::options::{Known, Sorted};
+use crate::outputs::Output;
 use crate::repository::ROOT;
 use crate::HELP;
 
-/// Says what is to be done. Files to be read are there, and those that must be new are
-/// not.
+/// Says what is to be done. Files to be read are there, and an output replaces nothing that
+/// it must not.
 #[derive(Clone, Debug, PartialEq, Eq)]
 pub enum Work {
     /// Run a plan, or the lines of standard input.
@@ -123,20 +124,13 @@ pub fn parse(words: &[&str], plans: Option<&Path>) -> Result<Work, String> {
         ["put-table", rest @ ..] => put_table(rest),
         ["convert", from, to] => Ok(Work::Convert {
             from: readable(from)?,
-            to: new(to)?,
+            to: new(to, "the table")?,
         }),
-        ["picture", source, to] => Ok(Work::Picture {
-            source: readable(source)?,
-            to: PathBuf::from(to),
-        }),
-        ["timeline", name, to] => Ok(Work::Timeline {
-            plan: plan(name, plans)?,
-            to: PathBuf::from(to),
-        }),
+        ["picture", source, to] => picture(source, to),
+        ["timeline", name, to] => timeline(plan(name, plans)?, to),
         ["odds", rest @ ..] if !rest.is_empty() => {
-            let (name, odds) = odds::parse(rest)?;
-            let plan = plan(name, plans)?;
-            Ok(Work::Odds { plan, odds })
+            let (name, asked) = odds::parse(rest)?;
+            odds(plan(name, plans)?, asked)
         }
         ["report", name, to] => report(plan(name, plans)?, to),
         [] => Err(String::from("what is to be done? see --help")),
@@ -192,7 +186,7 @@ fn import(words: &[&str]) -> Result<Work, String> {
     };
     Ok(Work::Import {
         image: readable(image)?,
-        platter: new(platter)?,
+        platter: new(platter, "the platter")?,
         tags: words.value("--tags").map(tag_place).transpose()?,
         keep_going: words.has("--keep-going"),
     })
@@ -219,7 +213,7 @@ fn export(words: &[&str]) -> Result<Work, String> {
     }
     Ok(Work::Export {
         platter: readable(platter)?,
-        image: new(image)?,
+        image: new(image, "the image")?,
         how: Export {
             form,
             tags: tags.unwrap_or_default(),
@@ -260,7 +254,10 @@ fn table(words: &[&str]) -> Result<Work, String> {
     };
     Ok(Work::Table {
         source: readable(source)?,
-        to: words.value("--to").map(new).transpose()?,
+        to: words
+            .value("--to")
+            .map(|to| new(to, "the table"))
+            .transpose()?,
     })
 }
 
@@ -283,16 +280,32 @@ fn put_table(words: &[&str]) -> Result<Work, String> {
     })
 }
 
-/// Asks for a page, which must not take the place of its plan.
-fn report(plan: Plan, to: &str) -> Result<Work, String> {
-    let same = |to| fs::canonicalize(&plan.path).is_ok_and(|path| path == to);
-    match fs::canonicalize(to).is_ok_and(same) {
-        true => Err(format!("{to} is the plan itself: name another file")),
-        false => Ok(Work::Report {
-            plan,
-            to: PathBuf::from(to),
-        }),
+fn picture(source: &str, to: &str) -> Result<Work, String> {
+    let source = readable(source)?;
+    let to = checked(Output::picture(&source, Path::new(to)))?;
+    Ok(Work::Picture { source, to })
+}
+
+fn timeline(plan: Plan, to: &str) -> Result<Work, String> {
+    let to = checked(Output::timeline(&plan.path, &[], Path::new(to)))?;
+    Ok(Work::Timeline { plan, to })
+}
+
+fn odds(plan: Plan, odds: Odds) -> Result<Work, String> {
+    if let Seeds::To { json, picture, .. } = &odds.seeds {
+        if let Some(to) = json {
+            Output::odds(&plan.path, &[], to).check()?;
+        }
+        if let Some(to) = picture {
+            Output::odds_picture(&plan.path, &[], to).check()?;
+        }
     }
+    Ok(Work::Odds { plan, odds })
+}
+
+fn report(plan: Plan, to: &str) -> Result<Work, String> {
+    let to = checked(Output::page(&plan.path, &[], Path::new(to)))?;
+    Ok(Work::Report { plan, to })
 }
 
 /// Finds how a command is called, in the help.
@@ -339,14 +352,15 @@ fn readable(name: &str) -> Result<PathBuf, String> {
     Ok(PathBuf::from(name))
 }
 
-/// Looks whether a file is not there yet, since nothing is written over.
-fn new(name: &str) -> Result<PathBuf, String> {
-    match Path::new(name).exists() {
-        true => Err(format!(
-            "{name} is there already: remove it, or name another file"
-        )),
-        false => Ok(PathBuf::from(name)),
-    }
+/// Looks whether a file is not there yet, since this output replaces nothing.
+fn new(name: &str, what: &'static str) -> Result<PathBuf, String> {
+    checked(Output::to_new(Path::new(name), what))
+}
+
+/// Looks whether an output may go where it is to go, and returns that.
+fn checked(output: Output) -> Result<PathBuf, String> {
+    output.check()?;
+    Ok(output.to)
 }
 
 #[cfg(test)]
@@ -396,8 +410,6 @@ mod tests {
             asks(&["report", "latch", "o"]),
             Ok(Work::Report { plan: latch, to })
         );
-        let itself = fault(&["report", HERE, "Cargo.toml"]);
-        assert!(itself.starts_with("Cargo.toml is the plan itself"));
         let file = format!("{PLANS}/week.plan");
         let week = |trace| Work::Run {
             plan: Some(of(&file, file.clone())),
@@ -473,6 +485,59 @@ mod tests {
         };
         assert_eq!(asks(&["picture", HERE, NOWHERE]), Ok(work));
         assert!(fault(&["picture", NOWHERE, HERE]).contains("/none cannot be read: "));
+    }
+
+    #[test]
+    fn pictures_replace_pictures_alone() {
+        for (words, why) in [
+            (["picture", HERE, "Cargo.toml"], "what is drawn"),
+            (
+                ["timeline", HERE, "./src/../Cargo.toml"],
+                "the plan that is drawn",
+            ),
+            (["timeline", "latch", HERE], "there already, and no picture"),
+        ] {
+            let message = format!("{} is {why}: the picture is not written there", words[2]);
+            assert_eq!(fault(&words), message);
+        }
+    }
+
+    #[test]
+    fn odds_and_pages_replace_their_like_alone() {
+        let odds = ["odds", HERE, "--seeds", "9", "--rate", "1/50"];
+        let to = |option, file| [&odds[..], &[option, file]].concat();
+        for (words, why, what) in [
+            (
+                to("--json", HERE),
+                "the plan that is run",
+                "the JSON of the odds",
+            ),
+            (to("--picture", HERE), "the plan that is run", "the picture"),
+            (
+                to("--json", "src/lib.rs"),
+                "there already, and no JSON of odds",
+                "the JSON of the odds",
+            ),
+            (
+                to("--picture", "src/lib.rs"),
+                "there already, and no picture",
+                "the picture",
+            ),
+            (
+                vec!["report", HERE, "Cargo.toml"],
+                "the plan that is run",
+                "the page",
+            ),
+            (
+                vec!["report", HERE, "src/lib.rs"],
+                "there already, and no page of a run",
+                "the page",
+            ),
+        ] {
+            let file = words.last().expect("a file");
+            let message = format!("{file} is {why}: {what} is not written there");
+            assert_eq!(fault(&words), message);
+        }
     }
 
     #[test]

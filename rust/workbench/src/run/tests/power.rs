@@ -186,7 +186,7 @@ fn a_platter_keeps_what_a_cut_left() {
     let cut = "start\npower fails at access 1 unreadable\nwrite 3 \"one\"\n";
     let (ended, _, out) = played(cut, on(&path));
     assert_eq!(ended, Ok(true), "{out}");
-    let list = fs::read_to_string(platter::unreadable_file(&path));
+    let list = fs::read_to_string(platter::unreadable_file(&path).expect("a name"));
     assert_eq!(list.expect("a list"), "3\n");
     let (ended, _, out) = played("start\nread 3\nexpect failed\n", on(&path));
     assert_eq!(ended, Ok(true), "{out}");

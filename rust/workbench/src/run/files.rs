@@ -1,0 +1,84 @@
+//! The files that a plan names: those that it reads, and those that it writes.
+
+use std::io::Write;
+use std::path::{Path, PathBuf};
+
+use usage::outputs::{Identity, Output, Over};
+
+use super::{Run, Stop};
+use crate::data::{Blocks, Data};
+use crate::{files, platter};
+
+/// Lists the files that the lines of a plan named so far.
+#[derive(Clone, Debug, Default)]
+pub struct NamedFiles {
+    read: Vec<PathBuf>,
+    written: Vec<PathBuf>,
+}
+
+impl NamedFiles {
+    /// Lists the files that were read, without those that the run made itself.
+    fn inputs(&self) -> Vec<PathBuf> {
+        let made = |path: &&PathBuf| {
+            let read = Identity::of(path);
+            !self.written.iter().any(|path| Identity::of(path) == read)
+        };
+        self.read.iter().filter(made).cloned().collect()
+    }
+}
+
+impl<W: Write> Run<W> {
+    /// Lists the files that the lines so far read, without those that the run made itself.
+    pub fn inputs(&self) -> Vec<PathBuf> {
+        self.files.inputs()
+    }
+
+    /// Loads the data of a line, block by block.
+    pub(super) fn load(&mut self, data: &Data, blocks: Blocks) -> Result<Vec<Vec<u8>>, Stop> {
+        let loaded = data.load(blocks, &self.settings.folder)?;
+        if let Data::File { path, .. } = data {
+            let path = self.settings.folder.join(path);
+            if !self.files.read.contains(&path) {
+                self.files.read.push(path);
+            }
+        }
+        Ok(loaded)
+    }
+
+    /// Makes the output of so many bytes to a file that a line names, if it may go there.
+    pub(super) fn output(&self, name: &str, length: usize) -> Result<Output, Stop> {
+        let to = self.settings.folder.join(name);
+        let over = Over::Bytes(length);
+        let output = Output::new(&to, over, "what is read", self.not_to_be_replaced());
+        output.check()?;
+        Ok(output)
+    }
+
+    /// Lists what no output of the run may replace, and says what each is.
+    fn not_to_be_replaced(&self) -> Vec<(PathBuf, &'static str)> {
+        let standard = Path::new("/dev/stdin").to_path_buf();
+        let plan = self.settings.plan.clone().unwrap_or(standard);
+        let mut all = vec![
+            (plan, "the plan that is run"),
+            (PathBuf::from("/dev/stdout"), "where the output goes"),
+        ];
+        if let Some(path) = &self.settings.platter {
+            all.push((path.clone(), "the platter in use"));
+            let list = platter::unreadable_file(path);
+            all.extend(list.map(|list| (list, "the list of the platter in use")));
+        }
+        let inputs = self.inputs().into_iter();
+        all.extend(inputs.map(|path| (path, "a file that the plan reads")));
+        all
+    }
+
+    /// Writes what was read to a file. One run of many writes none.
+    pub(super) fn write_to(&mut self, name: &str, bytes: &[u8]) -> Result<(), Stop> {
+        let output = self.output(name, bytes.len())?;
+        if !self.settings.one_of_many {
+            files::write(&output, bytes)?;
+        }
+        self.files.written.push(output.to);
+        Ok(())
+    }
+}
