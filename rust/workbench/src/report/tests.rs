@@ -109,7 +109,8 @@ fn a_broken_expectation_and_a_failed_command() {
 
 #[test]
 fn a_broken_history_is_told_with_its_reason() {
-    let mut told = Told::run("p", PathBuf::new(), "start\nread 5\n".as_bytes()).expect("a run");
+    let mut told =
+        Told::run("p", Settings::default(), "start\nread 5\n".as_bytes()).expect("a run");
     let words = "broken, after start 1: a good read of block 5 gave other bytes";
     (told.allowed, told.verdict) = (false, words.to_string());
     let html = page::html(&told);
@@ -154,7 +155,7 @@ fn a_line_that_cannot_be_done_is_named() {
 #[test]
 fn a_plan_of_nothing() {
     for empty in ["", "\n# a remark\n"] {
-        let message = page("p", PathBuf::new(), empty.as_bytes()).err();
+        let message = page("p", Settings::default(), empty.as_bytes()).err();
         let told = ": the plan is empty: no line does anything";
         assert_eq!(message.as_deref(), Some(told));
     }
