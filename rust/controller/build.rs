@@ -24,7 +24,7 @@ fn main() {
     let copied = fs::read(&library).and_then(|bytes| fs::write(made.join(NAME), bytes));
     if let Err(error) = copied {
         panic!(
-            "{}: {error}; prove and build it first: rt staticlib bumivondra",
+            "{}: {error}; prove and build it first: tools/library",
             library.display()
         );
     }

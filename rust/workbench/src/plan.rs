@@ -1,7 +1,6 @@
 //! A line of a plan. `docs/WORKBENCH.md` describes each with an example.
 
 mod help;
-mod near;
 mod orders;
 mod power;
 #[cfg(test)]
@@ -161,7 +160,7 @@ fn retry(words: &mut Words, until: &str) -> Result<Retry, String> {
     for (name, count) in [("R", &mut retry.retries), ("T", &mut retry.threshold)] {
         if let Some(word) = words.peek().filter(|word| *word != until) {
             let number = words.number(name, 255);
-            let number = number.map_err(|fault| fault + &near::meant(word, &[until]))?;
+            let number = number.map_err(|fault| fault + &usage::near::meant(word, &[until]))?;
             *count = number as u8;
         }
     }
@@ -216,7 +215,7 @@ fn traffic(mut words: Words) -> Result<Line, String> {
             "seed" => traffic.seed = words.number("a seed", u32::MAX)?,
             "blocks" => traffic.blocks = words.range()?,
             other => {
-                let meant = near::meant(other, &["seed", "blocks"]);
+                let meant = usage::near::meant(other, &["seed", "blocks"]);
                 return Err(format!("{} is no part of traffic{meant}", quote(other)));
             }
         }
@@ -263,7 +262,7 @@ fn expectation(word: &str, words: &mut Words) -> Result<Expectation, String> {
 /// Says that a word cannot be expected, and which can.
 fn not_expected(word: &str) -> String {
     let words: Vec<&str> = EXPECTED.split([' ', ',']).collect();
-    let the_words = match near::meant(word, &words) {
+    let the_words = match usage::near::meant(word, &words) {
         meant if meant.is_empty() => String::from("; the words"),
         meant => format!("{meant} The words"),
     };

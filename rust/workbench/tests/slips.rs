@@ -60,6 +60,45 @@ fn refused(here: &Path, arguments: &[&str], input: &str, words: &str) {
 }
 
 #[test]
+fn a_run_that_is_only_shown_writes_no_file_of_its_plan() {
+    let here = shop("only-shown");
+    fs::write(here.join("back.dat"), "what was saved").expect("written");
+    fs::write(here.join("r.plan"), "start\nread 0 to back.dat\n").expect("written");
+    for (command, to) in [("timeline", "r.svg"), ("report", "r.html")] {
+        let (status, _, message) = workbench(&here, &[command, "r.plan", to], "");
+        assert_eq!((status, message.as_str()), (0, ""), "{command}");
+        let kept = fs::read_to_string(here.join("back.dat")).expect("a file");
+        assert_eq!(kept, "what was saved", "{command}");
+    }
+    let page = fs::read_to_string(here.join("r.html")).expect("a page");
+    assert!(page.contains("532 bytes for back.dat, which this run does not write"));
+    fs::remove_dir_all(here).expect("removed");
+}
+
+#[test]
+fn what_is_read_replaces_no_table_no_picture_and_no_page() {
+    let here = shop("read-over");
+    fs::write(here.join("p.old-table"), "kept").expect("written");
+    fs::write(here.join("a.svg"), "<svg>").expect("written");
+    let page = "<!DOCTYPE html>\n<title>The run of x</title>\n";
+    fs::write(here.join("a.html"), page).expect("written");
+    fs::write(here.join("a.json"), "{\n  \"plan\": \"x\"}").expect("written");
+    for (to, what) in [
+        ("table", "a table's image"),
+        ("p.old-table", "a table's image"),
+        ("a.svg", "a picture"),
+        ("a.html", "a page of a run"),
+        ("a.json", "a JSON of odds"),
+    ] {
+        let words =
+            format!("standard input:2: ./{to} is {what}: what is read is not written there");
+        let input = format!("start\nread 0 to ./{to}\n");
+        refused(&here, &["run"], &input, &words);
+    }
+    fs::remove_dir_all(here).expect("removed");
+}
+
+#[test]
 fn a_picture_replaces_no_input_no_platter_and_no_list() {
     let here = shop("pictures-over");
     let lists = "the list of what is drawn";

@@ -8,7 +8,7 @@ use reference::image;
 use usage::{ImageForm, TagPlace};
 
 use super::diskcopy::{self, DiskCopy, DATA_BYTES, TAG_BYTES};
-use crate::platter;
+use crate::{platter, show};
 
 /// Counts the blocks of a drive.
 const ALL: usize = BLOCKS as usize;
@@ -187,7 +187,8 @@ fn nearly(length: usize) -> String {
     let sizes = [SECTOR_BYTES, DATA_BYTES].into_iter();
     let whole = sizes.filter(|size| length > 0 && length.is_multiple_of(*size));
     let found: Vec<String> = whole
-        .map(|size| format!("{} blocks of {size} bytes", length / size))
+        .map(|size| (show::count((length / size) as u64, "block", "blocks"), size))
+        .map(|(blocks, size)| format!("{blocks} of {size} bytes"))
         .collect();
     match found[..] {
         [] => String::new(),

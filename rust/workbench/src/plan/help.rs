@@ -2,7 +2,6 @@
 
 use usage::HELP;
 
-use super::near;
 use crate::show::wrapped;
 
 /// The part about plans stands between these.
@@ -47,7 +46,7 @@ pub fn of(word: &str) -> Result<String, String> {
 /// Says that a word begins no line.
 pub fn unknown(word: &str) -> String {
     let quote = usage::quote(word);
-    let rest = match near::near(word, &words()) {
+    let rest = match usage::near::near(word, &words()) {
         Some(near) => format!("did you mean \"{near}\"?"),
         None => String::from("the line \"help\" shows all"),
     };

@@ -6,9 +6,9 @@ use reference::geometry::Sector;
 
 use usage::quote;
 
-use super::near::meant;
 use super::words::Words;
 use crate::faults::{Effect, Fault, Faults, Kind, Random, Share, NONE};
+use usage::near::meant;
 
 /// A fault line.
 #[derive(Clone, Debug, PartialEq, Eq)]

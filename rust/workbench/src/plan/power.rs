@@ -3,10 +3,10 @@
 
 use usage::quote;
 
-use super::near::meant;
 use super::words::Words;
 use super::Line;
 use crate::power::{Fate, Order, When};
+use usage::near::meant;
 
 /// Reads what stands after `power`.
 pub fn parse(mut words: Words) -> Result<Order, String> {

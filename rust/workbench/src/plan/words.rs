@@ -4,7 +4,6 @@ use reference::geometry::{Sector, BLOCKS, SECTORS};
 use reference::text;
 use usage::{quote, short};
 
-use super::near;
 use crate::data::{Blocks, Data};
 
 /// Numbers of commands have 24 bits.
@@ -179,7 +178,7 @@ fn quoted(rest: &str) -> Result<&str, String> {
 
 /// Says that a word is no data, and why.
 fn no_data(word: &str, fault: &str) -> String {
-    let meant = near::meant(word, &["file", "nothing"]);
+    let meant = usage::near::meant(word, &["file", "nothing"]);
     format!("{} is no data: {fault}{meant}", quote(word))
 }
 

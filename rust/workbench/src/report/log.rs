@@ -4,6 +4,7 @@
 use super::kept::{Kept, Part, Room};
 use super::sectors::Sectors;
 use crate::board::{Accessed, Cut, Purpose};
+use crate::clock::Time;
 use crate::host::{End, Report};
 use crate::picture::Outcome;
 use crate::{show, surface, trace, trials};
@@ -64,6 +65,8 @@ pub struct Card {
     pub lines: Vec<String>,
     pub rows: Kept<Row>,
     pub cut: Option<Cut>,
+    /// What they would have taken on the drive.
+    pub took: Time,
     /// A spare changed.
     changed: bool,
 }
@@ -148,6 +151,7 @@ impl Card {
                 End::Cut(cut) => Some(cut),
                 _ => None,
             },
+            took: report.took,
             changed,
         }
     }
@@ -201,6 +205,7 @@ impl Card {
     /// Takes a command onto the card.
     fn take(&mut self, next: Card) {
         self.commands += 1;
+        self.took += next.took;
         self.last = next.last;
         self.lines.clear();
         let next: Vec<Row> = next.rows.things().into_iter().cloned().collect();

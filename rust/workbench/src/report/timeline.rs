@@ -7,6 +7,7 @@ use super::log::{Card, Row};
 use super::story::{chapters, Chapter};
 use super::told::{Step, Told};
 use crate::board::{Cut, Purpose};
+use crate::clock::Time;
 use crate::picture::Outcome;
 use crate::show::{self, count, ranges};
 use crate::{surface, trace};
@@ -109,13 +110,17 @@ fn write_card(html: &mut Html, card: &Card) {
                 marks(html, card);
             });
             html.words("span", r#"class="end""#, sign);
+            if card.took > Time::ZERO {
+                html.raw(" ");
+                html.words("span", r#"class="took""#, &card.took.to_string());
+            }
         });
         html.raw("\n");
         let words = match card.commands {
             1 => card.words.clone(),
             commands => format!("{commands} commands, each {}", card.words),
         };
-        html.line("p", "", &words);
+        html.line("p", "", &format!("{words}{}", about(card.took)));
         for line in &card.lines {
             let line = linked(line, LETTERS);
             html.element("p", r#"class="sub""#, |html| html.raw(&line));
@@ -126,6 +131,14 @@ fn write_card(html: &mut Html, card: &Card) {
             html.line("p", r#"class="status""#, &trace::status_line(status));
         }
     });
+}
+
+/// Says what commands would have taken on the drive, if they had an access.
+fn about(took: Time) -> String {
+    match took {
+        Time::ZERO => String::new(),
+        took => format!(", about {took}"),
+    }
 }
 
 /// Gives the class of a card, and the words for how it ended.

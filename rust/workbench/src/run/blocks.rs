@@ -49,7 +49,14 @@ impl<W: Write> Run<W> {
         if lost.is_empty() {
             self.write_to(path, bytes)?;
             self.expectations += 1;
-            writeln!(self.out, "  {} bytes written to {path}", bytes.len())?;
+            let length = bytes.len();
+            match self.writes_files() {
+                true => writeln!(self.out, "  {length} bytes written to {path}")?,
+                false => writeln!(
+                    self.out,
+                    "  {length} bytes for {path}, which this run does not write"
+                )?,
+            }
         } else {
             self.expectations += 1;
             self.not_met();

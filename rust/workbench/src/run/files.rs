@@ -72,10 +72,16 @@ impl<W: Write> Run<W> {
         all
     }
 
-    /// Writes what was read to a file. One run of many writes none.
+    /// Says whether a line may write a file. One run of many writes none, nor does a run
+    /// for a picture or a page, whose platter is a blank one in memory.
+    pub(super) fn writes_files(&self) -> bool {
+        !(self.settings.one_of_many || self.settings.moments || self.settings.log)
+    }
+
+    /// Writes what was read to a file, if the run writes files.
     pub(super) fn write_to(&mut self, name: &str, bytes: &[u8]) -> Result<(), Stop> {
         let output = self.output(name, bytes.len())?;
-        if !self.settings.one_of_many {
+        if self.writes_files() {
             files::write(&output, bytes)?;
         }
         self.files.written.push(output.to);

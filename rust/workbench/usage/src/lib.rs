@@ -3,6 +3,7 @@
 //! once; `outputs` says which must not be replaced.
 
 mod library;
+pub mod near;
 mod odds;
 mod options;
 pub mod outputs;

@@ -204,8 +204,10 @@ impl Output {
             Over::Same(kind) if found.len() > 0 && !kind.has(&self.to) => {
                 Some(format!("there already, and no {}", kind.words()))
             }
-            Over::Bytes(length) if length as u64 == found.len() => None,
-            Over::Bytes(_) => image(&self.to, found.len()),
+            Over::Bytes(length) => made_otherwise(&self.to).or_else(|| {
+                let same = length as u64 == found.len();
+                (!same).then(|| image(&self.to, found.len())).flatten()
+            }),
             _ => None,
         }
     }
@@ -283,6 +285,25 @@ fn has_at(path: &Path, place: u64, text: &str) -> io::Result<bool> {
     let mut bytes = vec![0; text.len()];
     file.read_exact(&mut bytes)?;
     Ok(bytes == text.as_bytes())
+}
+
+/// Says what a file is that another command made, or that belongs to a platter, if it is
+/// one: a table's image, what `put-table` kept, a picture, a page, odds.
+fn made_otherwise(path: &Path) -> Option<String> {
+    let name = path.file_name().unwrap_or_default().to_string_lossy();
+    let table = |text: &[u8]| {
+        let mut start = vec![0; text.len()];
+        let read = File::open(path).and_then(|mut file| file.read_exact(&mut start));
+        read.is_ok() && start == text
+    };
+    if table(b"PROFILE") || table(b"\xF0\x78\x3C\x1E") || name.contains(".old-table") {
+        return Some(String::from("a table's image"));
+    }
+    let kinds = [Kind::Picture, Kind::Page, Kind::Odds].into_iter();
+    kinds
+        .filter(|kind| kind.has(path))
+        .map(|kind| format!("a {}", kind.words()))
+        .next()
 }
 
 /// Says what image of blocks a file of this length is, if it is one.

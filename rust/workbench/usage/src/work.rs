@@ -7,7 +7,7 @@ use crate::odds::{self, Odds, Seeds};
 use crate::options::{Known, Sorted};
 use crate::outputs::Output;
 use crate::repository::ROOT;
-use crate::HELP;
+use crate::{near, quote, HELP};
 
 /// Says what is to be done. Files to be read are there, and an output replaces nothing that
 /// it must not.
@@ -117,7 +117,10 @@ pub struct Plan {
 pub fn parse(words: &[&str], plans: Option<&Path>) -> Result<Work, String> {
     match words {
         ["run", rest @ ..] => run(rest, plans),
-        ["week", rest @ ..] => run(&[rest, &[&week(plans)?]].concat(), plans),
+        ["week", rest @ ..] => match rest.iter().find(|word| !word.starts_with("--")) {
+            Some(word) => Err(format!("week is a plan itself, so not {} too", quote(word))),
+            None => run(&[rest, &[&week(plans)?]].concat(), plans),
+        },
         ["import", rest @ ..] => import(rest),
         ["export", rest @ ..] => export(rest),
         ["table", rest @ ..] => table(rest),
@@ -136,7 +139,7 @@ pub fn parse(words: &[&str], plans: Option<&Path>) -> Result<Work, String> {
         [] => Err(String::from("what is to be done? see --help")),
         [first, ..] => Err(match help_of(first) {
             Some(line) => usage_is(line),
-            None => format!("\"{}\" is no command; see --help", words.join(" ")),
+            None => no_command(first),
         }),
     }
 }
@@ -309,10 +312,20 @@ fn report(plan: Plan, to: &str) -> Result<Work, String> {
 }
 
 /// Finds how a command is called, in the help.
-fn help_of(command: &str) -> Option<&str> {
+fn help_of(command: &str) -> Option<&'static str> {
     let mut lines = HELP.lines().filter_map(|line| line.strip_prefix("  "));
     let line = lines.find(|line| line.split(' ').take(2).eq(["workbench", command]))?;
     line.split("  ").next()
+}
+
+/// Says that a word is no command, and which may be meant.
+fn no_command(word: &str) -> String {
+    let lines = HELP
+        .lines()
+        .filter_map(|line| line.strip_prefix("  workbench "));
+    let commands: Vec<&str> = lines.filter_map(|line| line.split(' ').next()).collect();
+    let meant = near::meant(word, &commands);
+    format!("{} is no command{meant}; see --help", quote(word)).replace("?;", "?")
 }
 
 /// Finds the plan in the file of this name, or else the repository's plan of this name.
@@ -448,7 +461,10 @@ mod tests {
         assert_eq!(fault(&["run", "--platter"]), "--platter needs a file");
         assert!(fault(&["run", "--fast"]).starts_with("\"--fast\" is no option of run"));
         assert!(fault(&["run", "week", "latch"]).ends_with("so not \"latch\" too"));
-        assert!(fault(&["week", "latch"]).starts_with("one plan is run at a time"));
+        assert_eq!(
+            fault(&["week", "latch"]),
+            "week is a plan itself, so not \"latch\" too"
+        );
     }
 
     #[test]
@@ -663,7 +679,9 @@ mod tests {
         ] {
             assert_eq!(fault(words), format!("the usage is {shown}; see --help"));
         }
-        assert_eq!(fault(&["ran", "a"]), "\"ran a\" is no command; see --help");
+        let meant = "\"ran\" is no command; did you mean \"run\"? see --help";
+        assert_eq!(fault(&["ran", "a"]), meant);
+        assert_eq!(fault(&["xyzzy"]), "\"xyzzy\" is no command; see --help");
         assert_eq!(fault(&[]), "what is to be done? see --help");
     }
 }
