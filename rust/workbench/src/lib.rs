@@ -39,6 +39,7 @@ pub mod summary;
 pub mod surface;
 pub mod table;
 pub mod table_files;
+pub mod times;
 pub mod trace;
 pub mod traffic;
 pub mod trials;

@@ -24,7 +24,7 @@ use crate::plan::{Line, Order};
 use crate::platter::{Platter, PlatterFile};
 use crate::progress::Progress;
 use crate::report::Log;
-use crate::summary::Longest;
+use crate::times::Times;
 use crate::{show, summary, table, trace};
 use cuts::{Again, Compared};
 use files::NamedFiles;
@@ -108,7 +108,7 @@ pub struct Run<W: Write> {
     expectations: u32,
     unmet: u32,
     moments: Vec<Moment>,
-    longest: Longest,
+    times: Times,
     watch: wrong::Watch,
     log: Log,
     /// The line in which the power failed, if the drive was not started since.
@@ -156,7 +156,7 @@ impl<W: Write> Run<W> {
             expectations: 0,
             unmet: 0,
             moments: vec![],
-            longest: Longest::default(),
+            times: Times::default(),
             watch: wrong::Watch::default(),
             log: Log::default(),
             failed_in: None,
@@ -178,7 +178,7 @@ impl<W: Write> Run<W> {
     pub fn finish(mut self) -> Result<(bool, Vec<Moment>), Stop> {
         writeln!(self.out)?;
         writeln!(self.out, "Summary")?;
-        for line in summary::lines(&self.host, &self.longest) {
+        for line in summary::lines(&self.host, &self.times) {
             writeln!(self.out, "  {line}")?;
         }
         if self.expectations > 0 {
@@ -254,7 +254,11 @@ impl<W: Write> Run<W> {
 
     fn say(&mut self, text: String) -> Result<(), Stop> {
         writeln!(self.out, "{text}")?;
-        if self.settings.moments && !text.is_empty() {
+        if text.is_empty() {
+            return Ok(());
+        }
+        self.times.job(&text);
+        if self.settings.moments {
             self.moments.push(Moment {
                 heading: Some(text),
                 command: String::new(),
@@ -323,13 +327,13 @@ impl<W: Write> Run<W> {
     }
 
     /// Keeps a report: that the power failed, its accesses if they are to be done again,
-    /// its time if none took longer, and all of it for the picture.
+    /// its time, and all of it for the picture.
     fn remember(&mut self, name: &str, report: &Report) {
         if report.cut() {
             self.failed_in = Some(self.number);
         }
         self.count_for_cuts(report);
-        self.longest.hold(name, report.took);
+        self.times.hold(name, report.took);
         self.watch(name, report);
         if self.settings.log {
             self.log.command(self.number, name, report);

@@ -264,6 +264,20 @@ pub fn outcome(report: &Report) -> Outcome {
     }
 }
 
+/// The words, cut to at most this many characters.
+pub fn shorten(words: &str, most: usize) -> String {
+    if words.chars().count() <= most {
+        return words.to_string();
+    }
+    let begin: String = words.chars().take(most - 1).collect();
+    format!("{begin}…")
+}
+
+/// Splits a heading at its colon: "Monday" and "it is written".
+pub fn heading(text: &str) -> (&str, &str) {
+    text.split_once(": ").unwrap_or((text, ""))
+}
+
 /// Gives words in lines of at most this many letters; a longer word has a line of its own.
 pub fn wrapped(words: &str, most: usize) -> Vec<String> {
     let mut lines: Vec<String> = vec![];
@@ -481,5 +495,21 @@ mod tests {
         assert_eq!(ranges(&[3]), "3");
         assert_eq!(ranges(&[3, 4, 5, 7, 9, 10]), "3..5, 7, 9..10");
         assert_eq!(ranges(&[5, 4, 3]), "5, 4, 3");
+    }
+
+    #[test]
+    fn shortened_words() {
+        assert_eq!(shorten("sparing", 7), "sparing");
+        assert_eq!(shorten("sparing", 6), "spari…");
+        assert_eq!(shorten("éééé", 3), "éé…");
+    }
+
+    #[test]
+    fn headings() {
+        assert_eq!(
+            heading("Monday: it is: written"),
+            ("Monday", "it is: written")
+        );
+        assert_eq!(heading("It is read."), ("It is read.", ""));
     }
 }

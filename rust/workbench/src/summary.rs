@@ -3,10 +3,10 @@
 use reference::geometry::BLOCKS;
 use reference::image::{Spare, Table};
 
-use crate::clock::Time;
 use crate::host::Host;
 use crate::show::{count, met, ranges, spare_name};
 use crate::table;
+use crate::times::Times;
 
 /// Whether all changes of the table are on the platter.
 fn stored(host: &Host) -> bool {
@@ -19,32 +19,8 @@ pub fn known_table(host: &Host, table: &Table) -> String {
     format!("{}, {counts}", table::run(table))
 }
 
-/// The line of the host that took longest, the first of those that took as long.
-#[derive(Clone, Debug, Default)]
-pub struct Longest {
-    name: String,
-    took: Time,
-}
-
-impl Longest {
-    /// Holds a line of the host against the longest one so far.
-    pub fn hold(&mut self, name: &str, took: Time) {
-        if took > self.took {
-            self.name = name.to_string();
-            self.took = took;
-        }
-    }
-}
-
-/// Says what the run would have taken on the drive.
-fn time(host: &Host, longest: &Longest) -> Option<String> {
-    let all = host.board.clock().now();
-    let Longest { name, took } = longest;
-    (all > Time::ZERO).then(|| format!("about {all} on the drive, the longest {took}: {name}"))
-}
-
 /// All lines of a summary but the last.
-pub fn lines(host: &Host, longest: &Longest) -> Vec<String> {
+pub fn lines(host: &Host, times: &Times) -> Vec<String> {
     let tally = host.tally;
     let good = tally.commands - tally.failed;
     let mut counts = vec![count(
@@ -57,7 +33,7 @@ pub fn lines(host: &Host, longest: &Longest) -> Vec<String> {
     let counts = counts.join(", ");
     let mut lines = vec![format!("{counts}: {good} good, {} failed", tally.failed)];
     lines.extend(not_come(host));
-    lines.extend(time(host, longest));
+    lines.extend(times.told());
     match host.board.table() {
         Some(table) => {
             lines.push(format!("table: {}", known_table(host, &table)));

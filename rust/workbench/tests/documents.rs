@@ -46,8 +46,15 @@ fn the_guide_shows_the_first_plan() {
     assert_eq!(plan.len(), 6);
     agree(&plan, include_str!("../../../plans/first.plan"));
     let output = shown(GUIDE, "so a spare takes the block:\n");
-    assert_eq!(output.len(), 18);
+    assert_eq!(output.len(), 19);
     agree(&output, include_str!("../../../plans/first.expected"));
+}
+
+#[test]
+fn the_guide_shows_the_time_of_the_week() {
+    let lines = shown(GUIDE, "### Time\n");
+    assert_eq!(lines.len(), 6);
+    agree(&lines, include_str!("../../../plans/week.expected"));
 }
 
 #[test]

@@ -2,6 +2,8 @@
 
 use std::fmt::Write;
 
+use crate::show::shorten;
+
 /// Every picture is this wide.
 pub const WIDTH: i32 = 1020;
 
@@ -137,15 +139,6 @@ pub fn escape(words: &str) -> String {
     escaped
 }
 
-/// The words, cut to at most this many characters.
-pub fn shorten(words: &str, most: usize) -> String {
-    if words.chars().count() <= most {
-        return words.to_string();
-    }
-    let begin: String = words.chars().take(most - 1).collect();
-    format!("{begin}…")
-}
-
 /// Room for words in letters of this size, on the wide side.
 pub fn room(words: &str, size: i32) -> i32 {
     words.chars().count() as i32 * size * 6 / 10 + 2
@@ -239,13 +232,6 @@ mod tests {
             "a &lt; b &amp; &#39;c&#39; &gt; &quot;d&quot;"
         );
         assert_eq!(escape("one\ntwo\u{0}\u{7}é→"), "one two  é→");
-    }
-
-    #[test]
-    fn shortened_words() {
-        assert_eq!(shorten("sparing", 7), "sparing");
-        assert_eq!(shorten("sparing", 6), "spari…");
-        assert_eq!(shorten("éééé", 3), "éé…");
     }
 
     #[test]

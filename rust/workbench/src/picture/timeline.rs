@@ -8,9 +8,9 @@ mod marks;
 
 pub use marks::{Mark, Outcome};
 
-use super::svg::{counted, room, shorten, Canvas, EDGE, FAINT, WIDTH};
+use super::svg::{counted, room, Canvas, EDGE, FAINT, WIDTH};
 use crate::clock::Time;
-use crate::show;
+use crate::show::{self, shorten};
 
 /// One host command, or a heading, of a plan's run.
 #[derive(Clone, Debug, PartialEq, Eq)]
@@ -64,8 +64,16 @@ const CARD_STYLE: &str = r##"rx="6" fill="#f6f8fa" stroke="#d1d9e0""##;
 
 /// A heading's line.
 struct Line {
-    bold: bool,
+    look: Look,
     words: String,
+}
+
+/// What stands in a heading's line: the heading's name, what its commands took, or more.
+#[derive(Clone, Copy)]
+enum Look {
+    Name,
+    Took,
+    Rest,
 }
 
 /// A card: commands of one kind.
@@ -156,7 +164,9 @@ fn about(took: Time) -> String {
 
 /// The row of the moments from a heading to the next.
 fn row(moments: &[Moment]) -> Row {
-    let mut heading = moments[0].heading.as_deref().map_or(Vec::new(), lines);
+    let took = time_of(moments.iter());
+    let heading = moments[0].heading.as_deref();
+    let mut heading = heading.map_or(Vec::new(), |heading| lines(heading, took));
     let commands: Vec<&Moment> = moments.iter().filter(|moment| !is_bare(moment)).collect();
     let alike: Vec<&[&Moment]> = commands.chunk_by(|one, next| share(one, next)).collect();
     let drawn = choice::drawn(&alike, MOST_CARDS);
@@ -180,7 +190,10 @@ fn items(alike: &[&[&Moment]], drawn: &[bool]) -> Vec<Item> {
 
 /// Says in a heading how many commands have no card.
 fn not_drawn(commands: &[&Moment]) -> Vec<Line> {
-    let line = |words| Line { bold: false, words };
+    let line = |words| Line {
+        look: Look::Rest,
+        words,
+    };
     let notable = commands.iter().filter(|moment| choice::is_notable(moment));
     let rest = match notable.count() {
         0 => String::from("no failure or move"),
@@ -200,13 +213,18 @@ fn is_bare(moment: &Moment) -> bool {
     moment.command.is_empty() && moment.accesses.is_empty() && moment.outcome == Outcome::None
 }
 
-/// A heading's lines: what stands before its colon in bold, then the rest.
-fn lines(heading: &str) -> Vec<Line> {
-    let (name, rest) = heading.split_once(": ").unwrap_or((heading, ""));
-    let line = |bold| move |words| Line { bold, words };
-    let name = wrapped(name, BOLD_LETTERS).into_iter().map(line(true));
-    let rest = wrapped(rest, LETTERS).into_iter().map(line(false));
-    name.chain(rest).collect()
+/// A heading's lines: what stands before its colon in bold, what its commands took, then the
+/// rest.
+fn lines(heading: &str, took: Time) -> Vec<Line> {
+    let (name, rest) = show::heading(heading);
+    let line = |look| move |words| Line { look, words };
+    let name = wrapped(name, BOLD_LETTERS)
+        .into_iter()
+        .map(line(Look::Name));
+    let rest = wrapped(rest, LETTERS).into_iter().map(line(Look::Rest));
+    let about = (took > Time::ZERO).then(|| format!("about {took}"));
+    let about = about.into_iter().map(line(Look::Took));
+    name.chain(about).chain(rest).collect()
 }
 
 /// The words in lines of at most this many letters; longer words are cut.
@@ -492,10 +510,10 @@ fn draw_row(canvas: &mut Canvas, top: i32, row: &Row) -> i32 {
 
 fn draw_heading(canvas: &mut Canvas, top: i32, heading: &[Line]) {
     for (at, line) in heading.iter().enumerate() {
-        let style = if line.bold {
-            r#"font-size="14" font-weight="bold""#.to_string()
-        } else {
-            format!(r#"fill="{FAINT}""#)
+        let style = match line.look {
+            Look::Name => r#"font-size="14" font-weight="bold""#.to_string(),
+            Look::Took => String::new(),
+            Look::Rest => format!(r#"fill="{FAINT}""#),
         };
         let y = top + 13 + LABEL_LINE * at as i32;
         canvas.text((EDGE, y), &style, &line.words);
@@ -788,6 +806,31 @@ mod tests {
         let without = width(&[moment("read 1", &[Read], Outcome::None)]);
         let with = width(&[timed(moment("read 1", &[Read], Outcome::None))]);
         assert_eq!(with - without, room("0.500 s", 12) + MARGIN);
+    }
+
+    #[test]
+    fn a_heading_has_the_time_of_its_commands() {
+        let timed = |name| Moment {
+            took: REVOLUTION * 30,
+            ..moment(name, &[Read], Outcome::Good)
+        };
+        let svg = drawn(&[
+            timed("start"),
+            heading("Monday: it is read"),
+            timed("read 1"),
+            timed("read 1000"),
+            timed("read 7"),
+            heading("Tuesday"),
+            moment("raise", &[], Outcome::None),
+        ]);
+        assert_eq!(svg.matches(">about ").count(), 1, "{svg}");
+        let words = [
+            ">Monday</text>",
+            ">about 1.5 s</text>",
+            ">it is read</text>",
+        ];
+        let places = words.map(|words| svg.find(words).expect(words));
+        assert!(places.is_sorted());
     }
 
     #[test]

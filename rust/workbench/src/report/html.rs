@@ -3,7 +3,7 @@
 use std::fmt::Write;
 
 pub use crate::picture::svg::escape;
-use crate::picture::svg::shorten;
+use crate::show::shorten;
 
 use reference::geometry::SECTORS;
 

@@ -8,8 +8,8 @@ use super::timeline::timeline;
 use super::told::Told;
 use super::verdict::verdict;
 use super::{data, story};
-use crate::picture::svg::shorten;
 use crate::show::count;
+use crate::show::shorten;
 
 const STYLE: &str = include_str!("page.css");
 const SCRIPT: &str = include_str!("page.js");

@@ -3,9 +3,9 @@
 use super::html::{escape, linked, Html};
 use super::kept::Part;
 use super::told::{is_unmet, Kind, Step, Told};
-use crate::picture::svg::shorten;
+use crate::clock::Time;
 use crate::picture::Outcome;
-use crate::show::count;
+use crate::show::{self, count, shorten};
 
 /// So much of a line is shown.
 const LETTERS: usize = 400;
@@ -14,6 +14,8 @@ const HEADING: usize = 1000;
 /// A chapter: its heading, if it has one, and its lines.
 pub struct Chapter<'a> {
     heading: Option<&'a Step>,
+    /// What its lines would have taken on the drive.
+    pub took: Time,
     /// It is the only one.
     alone: bool,
     pub parts: Vec<Part<'a, Step>>,
@@ -21,21 +23,16 @@ pub struct Chapter<'a> {
 
 /// Sorts the lines of a run into chapters.
 pub fn chapters(told: &Told) -> Vec<Chapter<'_>> {
-    let mut chapters = vec![Chapter {
-        heading: None,
-        alone: false,
-        parts: vec![],
-    }];
+    let mut chapters = vec![Chapter::begun(None)];
     for part in told.steps.parts() {
         match part {
-            Part::Thing(step, ..) if step.kind == Kind::Say => chapters.push(Chapter {
-                heading: Some(step),
-                alone: false,
-                parts: vec![],
-            }),
+            Part::Thing(step, ..) if step.kind == Kind::Say => {
+                chapters.push(Chapter::begun(Some(step)))
+            }
             part => chapters.last_mut().expect("the first").parts.push(part),
         }
     }
+    set_times(&mut chapters, told.took);
     chapters.retain(|chapter| chapter.heading.is_some() || !chapter.parts.is_empty());
     if let [only] = &mut chapters[..] {
         only.alone = true;
@@ -43,7 +40,27 @@ pub fn chapters(told: &Told) -> Vec<Chapter<'_>> {
     chapters
 }
 
+/// Gives each chapter the time until the next one begins, or until the run ends.
+fn set_times(chapters: &mut [Chapter], end: Time) {
+    let mut next = end;
+    for chapter in chapters.iter_mut().rev() {
+        let began = chapter.heading.map_or(Time::ZERO, |step| step.at);
+        chapter.took = next - began;
+        next = began;
+    }
+}
+
 impl Chapter<'_> {
+    /// Begins a chapter.
+    fn begun(heading: Option<&Step>) -> Chapter<'_> {
+        Chapter {
+            heading,
+            took: Time::ZERO,
+            alone: false,
+            parts: vec![],
+        }
+    }
+
     /// Splits the heading at its colon: the title, and what follows.
     pub fn heading(&self) -> (String, String) {
         let text = match self.heading {
@@ -51,7 +68,7 @@ impl Chapter<'_> {
             None if self.alone => "The run",
             None => "The beginning",
         };
-        let (title, rest) = text.split_once(": ").unwrap_or((text, ""));
+        let (title, rest) = show::heading(text);
         (shorten(title, HEADING), shorten(rest, HEADING))
     }
 }

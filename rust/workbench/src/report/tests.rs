@@ -60,6 +60,10 @@ fn the_week() {
     for words in [
         "<strong> 11 of 11 expectations met</strong>",
         "<h3>Wednesday</h3>",
+        "<h3>Wednesday, about 3.9 s</h3>",
+        "<h3>Thursday</h3>\n<div class=\"row\"",
+        "<h3>Saturday, about 0.517 s</h3>",
+        "<li class=\"sub\">Wednesday, 3.9 s: compare 17</li>",
         "<p>write 1..39: 39 blocks, each 1 write, good</p>",
         "<li>trial of sector <a href=\"#sector-17\">17</a>: 100 rereads, 31 failed, not passed</li>",
         "<p>expect good in-place errors 1 accesses 3: so it is</p>",

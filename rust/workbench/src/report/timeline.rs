@@ -73,7 +73,7 @@ fn write_chapter(html: &mut Html, chapter: &Chapter) {
         return;
     }
     let (title, _) = chapter.heading();
-    html.line("h3", "", &title);
+    html.line("h3", "", &format!("{title}{}", about(chapter.took)));
     for step in steps {
         write_step(html, step);
     }

@@ -10,6 +10,7 @@ use reference::image::Table;
 
 use super::kept::{Kept, Room};
 use super::log::{Card, Log};
+use crate::clock::Time;
 use crate::picture::Outcome;
 use crate::plan::{self, Line};
 use crate::run::{Run, Settings};
@@ -64,6 +65,8 @@ pub struct Step {
     pub kind: Kind,
     pub said: Kept<String>,
     pub cards: Kept<Card>,
+    /// The time of the run when the line was done.
+    pub at: Time,
 }
 
 /// All that a page tells.
@@ -79,6 +82,8 @@ pub struct Told {
     pub verdict: String,
     /// How many are met, and how many there are.
     pub expectations: (u32, u32),
+    /// What the run would have taken on the drive.
+    pub took: Time,
     pub on: bool,
     /// The table that the controller knows, or of a drive that is off the stored one.
     pub table: Option<Table>,
@@ -130,7 +135,7 @@ impl Told {
         let mut lines = Lines::default();
         loop {
             match run.next(&mut plan) {
-                Ok(Some(text)) => lines.add(run.number(), &text, said.take(), run.log().take()),
+                Ok(Some(text)) => lines.add(&mut run, &text, said.take()),
                 Ok(None) => break,
                 Err(stop) => return Err(stop.told(run.number())),
             }
@@ -163,6 +168,7 @@ impl Told {
             allowed: history.allowed(),
             verdict: history.verdict(),
             expectations,
+            took: board.clock().now(),
             on: board.is_on(),
             stored: !board.has_unstored(),
             table: match board.is_on() {
@@ -182,7 +188,9 @@ impl Told {
     fn sum_up(&mut self, said: Vec<String>) {
         let mut lines = said.into_iter().filter(|line| !line.is_empty());
         self.last_line = lines.next_back().unwrap_or_default();
-        let lines = lines.skip(1).map(|line| line.trim().to_string());
+        let lines = lines
+            .skip(1)
+            .map(|line| line.strip_prefix("  ").unwrap_or(&line).to_string());
         self.summary = lines.collect();
     }
 
@@ -216,7 +224,8 @@ impl Default for Lines {
 
 impl Lines {
     /// Adds a line that was done, what it said, and its commands.
-    fn add(&mut self, number: usize, text: &str, said: Vec<String>, cards: Kept<Card>) {
+    fn add(&mut self, run: &mut Run<Said>, text: &str, said: Vec<String>) {
+        let cards = run.log().take();
         self.source.push(text.trim_end().to_string(), 1, false);
         let Some((kind, text)) = kind(text, &said) else {
             return;
@@ -232,11 +241,12 @@ impl Lines {
         }
         self.said += kept.kept();
         let step = Step {
-            number,
+            number: run.number(),
             text,
             kind,
             said: kept,
             cards,
+            at: run.host().board.clock().now(),
         };
         let noted = step.noted();
         self.steps.push(step, 1, noted);

@@ -28,8 +28,13 @@ pub fn verdict(html: &mut Html, told: &Told) {
             html.block("ul", r#"class="summary""#, |html| {
                 let shown = |line: &&String| !line.ends_with(" expectations met");
                 for line in told.summary.iter().filter(shown) {
-                    let line = linked(line, LETTERS);
-                    html.element("li", "", |html| html.raw(&line));
+                    let class = if line.starts_with(' ') {
+                        r#"class="sub""#
+                    } else {
+                        ""
+                    };
+                    let line = linked(line.trim_start(), LETTERS);
+                    html.element("li", class, |html| html.raw(&line));
                     html.raw("\n");
                 }
             });

@@ -58,6 +58,7 @@ impl<W: Write> Run<W> {
         let text = std::str::from_utf8(bytes).map_err(|_| String::from("no UTF-8 text"))?;
         let line = plan::parse(text)?;
         let nothing = line == Line::Nothing;
+        self.times.line(text);
         self.line(line, text.trim())?;
         self.busy |= !nothing;
         Ok(())
