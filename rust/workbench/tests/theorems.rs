@@ -107,13 +107,13 @@ fn document(name: &str) -> String {
 
 #[test]
 fn what_the_tables_name_is_declared() {
-    let name = "docs/THEOREMS.md";
+    let name = "docs/DESIGN.md";
     assert_eq!(missing_of(&document(name)), [""; 0], "{name}");
 }
 
 #[test]
 fn a_wrong_name_type_or_file_is_noticed() {
-    let theorems = document("docs/THEOREMS.md");
+    let theorems = document("docs/DESIGN.md");
     for (right, wrong) in [
         ("read-written", "read-writen"),
         ("unpacked", "unpackt"),
