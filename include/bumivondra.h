@@ -194,7 +194,7 @@ enum {
 /* Why a call is refused. They are tested in this order; of them bv_start knows BV_BAD_BUFFER alone, and bv_convert
  * BV_BAD_BUFFER and the last three, which no other call knows. */
 enum {
-    BV_BAD_RECORD = 1, /* the record is none that a call returned */
+    BV_BAD_RECORD = 1, /* no call returned this record */
     BV_BAD_BUFFER = 2, /* len is not BV_BUFFER_BYTES (bv_image and both of bv_convert: BV_SECTOR_BYTES) */
     BV_BAD_PLACE = 3,  /* out of place: an answer is awaited, or none is; the line is so already; no bytes
                           are taken now; bv_image with no table */

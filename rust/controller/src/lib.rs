@@ -79,7 +79,7 @@ impl Offer {
 /// Why a call is refused.
 #[derive(Clone, Copy, Debug, PartialEq, Eq, PartialOrd, Ord)]
 pub enum Code {
-    /// The record is none that a call returned.
+    /// No call returned this record.
     Record = 1,
     /// The lent buffer has another length.
     Buffer = 2,

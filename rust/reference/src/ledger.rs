@@ -179,7 +179,7 @@ impl Ledger {
         self.good_reads
     }
 
-    /// Hashes what the ledger knows while no offer stands and no bytes are taken: two
+    /// Hashes what the ledger knows while no offer is made and no bytes are taken: two
     /// ledgers of the same list's beginning that agree in it go on alike.
     pub fn hash_standing(&self, hasher: &mut impl Hasher) {
         (&self.first, &self.pages, &self.places).hash(hasher);

@@ -153,7 +153,7 @@ impl Host {
         self.command(&calls, WRITE_HANDSHAKES)
     }
 
-    /// Makes the calls of a command. CMD is not raised again if offer 01 stands.
+    /// Makes the calls of a command. CMD is not raised again if offer 01 was made.
     fn command(&mut self, calls: &[Call], handshakes: Time) -> Report {
         let stands = self.board.last() == Answer::Offer(Offer::Command);
         let report = self.perform(if stands { &calls[1..] } else { calls }, handshakes);

@@ -174,7 +174,7 @@ impl Exported {
         let mut notes = vec![];
         if how.without_table {
             notes.push(String::from(
-                "  each block is as it stands in its home sector: one that moved comes with old \
+                "  each block is as it is in its home sector: one that moved comes with old \
                  bytes or none, and nobody knows which moved",
             ));
         }

@@ -21,7 +21,7 @@ pub fn no_table(path: &Path, fault: &str) -> String {
         "{name} has no good table, {fault}; nobody knows which of its blocks moved
   what can be had:
   workbench export --without-table {name} IMAGE
-    each block as it stands in its home sector; one that moved comes with old bytes or none
+    each block as it is in its home sector; one that moved comes with old bytes or none
     (with --keep-going, and zeros for those that cannot be read)
   workbench put-table FILE {name}
     a table that was taken off earlier; a block that moved since is then read from its old

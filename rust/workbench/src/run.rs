@@ -65,7 +65,7 @@ pub enum Stop {
 }
 
 impl Stop {
-    /// Says why, with the number of the line, as it stands behind the plan's name: ":12: no
+    /// Says why, with the number of the line, as it follows the plan's name: ":12: no
     /// UTF-8 text".
     pub fn told(&self, number: usize) -> String {
         match self {

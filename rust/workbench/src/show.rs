@@ -150,7 +150,7 @@ pub fn left(cut: Cut) -> Option<&'static str> {
     match (cut.purpose, cut.fate) {
         (Purpose::Read | Purpose::Reread, _) => None,
         (Purpose::Store, Fate::Old) => Some("the old table stays"),
-        (Purpose::Store, Fate::New) => Some("the new table stands"),
+        (Purpose::Store, Fate::New) => Some("the new table is there"),
         (Purpose::Store, Fate::Unreadable) => Some("the table is unreadable"),
         (_, Fate::Old) => Some("the sector keeps its old bytes"),
         (_, Fate::New) => Some("the sector has the new bytes"),
@@ -170,7 +170,7 @@ fn offered(offer: Offer) -> &'static str {
 /// Says why a call is refused.
 pub fn refused(code: Code) -> &'static str {
     match code {
-        Code::Record => "the record is none that a call returned",
+        Code::Record => "no call returned this record",
         Code::Buffer => "the buffer has another length",
         Code::Place => "the call is out of place",
         Code::Answer => "the surface has no such answer",
@@ -423,7 +423,7 @@ mod tests {
         (
             Purpose::Store,
             Fate::New,
-            "during the store (access 3), the new table stands",
+            "during the store (access 3), the new table is there",
         ),
         (
             Purpose::Store,

@@ -113,7 +113,7 @@ fn the_blocks_come_from_their_home_sectors() {
     assert!(!here.join("a").exists());
     let words = ["export", "--without-table", "--keep-going", "p", "a"];
     let (status, out, message) = workbench(&here, &words, "");
-    let said = "a: 9727 of the 9728 blocks of p\n  each block is as it stands in its home sector: \
+    let said = "a: 9727 of the 9728 blocks of p\n  each block is as it is in its home sector: \
                 one that moved comes with old bytes or none, and nobody knows which moved\n";
     assert_eq!((status, out.as_str()), (1, said));
     assert!(

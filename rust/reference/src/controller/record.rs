@@ -35,12 +35,12 @@ impl Offer {
     }
 }
 
-/// What the controller is doing. CMD is high while an offer stands, and low
+/// What the controller is doing. CMD is high while an offer is made, and low
 /// elsewhere.
 #[derive(Clone, Copy, Debug, PartialEq, Eq, Hash)]
 pub enum Phase {
     Idle,
-    /// An offer stands.
+    /// An offer was made.
     Offered(Offer),
     /// Command bytes are taken.
     Command,

@@ -91,7 +91,7 @@ fn what_a_store_leaves() {
         ),
         (
             " new",
-            "the new table stands",
+            "the new table is there",
             "form B, run number 1, 1 of 32 spares used",
         ),
     ] {
