@@ -54,7 +54,8 @@ pub fn read(bytes: &[u8]) -> Option<Result<DiskCopy<'_>, String>> {
     let [data, tags] = [64, 68].map(|place| number(header, place) as usize);
     let marked = header[82..] == MAGIC;
     let fits = data > 0 && data.checked_add(tags) == Some(rest.len());
-    if !marked && !(fits && data.is_multiple_of(DATA_BYTES)) {
+    let sized = fits && data.is_multiple_of(DATA_BYTES);
+    if !marked && !sized {
         return None;
     }
     let judged = judged(header, data, tags, rest.len());
@@ -79,7 +80,7 @@ fn judged(header: &[u8; HEADER], data: usize, tags: usize, rest: usize) -> Resul
         let has = HEADER + rest;
         let said = format!("its header says {data} bytes of data and {tags} of tags");
         format!("{said}, which makes {all} in all, and the file has {has}")
-    } else if blocks == 0 || data % DATA_BYTES != 0 {
+    } else if blocks == 0 || !data.is_multiple_of(DATA_BYTES) {
         format!("its {data} bytes of data are no blocks of {DATA_BYTES}")
     } else if tags == blocks * FLOPPY_TAG_BYTES {
         let drive = format!("a drive's block has {TAG_BYTES}");
