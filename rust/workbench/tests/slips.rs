@@ -42,7 +42,8 @@ fn shop(name: &str) -> PathBuf {
     symlink("p.unreadable", here.join("soft-list")).expect("a link");
     fs::write(here.join("my.plan"), "start\nread 5\n").expect("written");
     fs::write(here.join("b.plan"), "start\n").expect("written");
-    fs::write(here.join("<svg.dat"), "<svg: the data of a plan").expect("written");
+    let like_a_picture = "<svg: the data of a plan, <!-- drawn by the workbench -->";
+    fs::write(here.join("<svg.dat"), like_a_picture).expect("written");
     here
 }
 
@@ -146,6 +147,36 @@ fn a_timeline_replaces_no_plan_no_data_and_no_platter() {
     ] {
         let words = format!("{to} is {what}: the picture is not written there");
         refused(&here, &["timeline", plan, to], "", &words);
+    }
+    fs::remove_dir_all(here).expect("removed");
+}
+
+#[test]
+fn pictures_are_drawn_anew_over_those_of_the_workbench_alone() {
+    let here = shop("pictures-anew");
+    let words = "b.svg is a picture without the workbench's mark (remove it, or name another \
+                 file): the picture is not written there";
+    for command in [
+        vec!["picture", "p"],
+        vec!["timeline", "my.plan"],
+        odds("my.plan", "--picture"),
+    ] {
+        for _ in 0..2 {
+            workbench(&here, &[&command[..], &["a.svg"]].concat(), "");
+        }
+        let drawn = fs::read_to_string(here.join("a.svg")).expect("a picture");
+        // As it was drawn before pictures had the mark.
+        let old = drawn.replacen("<!-- drawn by the workbench -->\n", "", 1);
+        assert_ne!(old, drawn);
+        for other in [
+            old,
+            drawn.replacen("<svg", "<?xml version=\"1.0\"?>\n<svg", 1),
+        ] {
+            fs::write(here.join("b.svg"), other).expect("written");
+            refused(&here, &[&command[..], &["b.svg"]].concat(), "", words);
+        }
+        let (status, _, message) = workbench(&here, &[&command[..], &["a.svg"]].concat(), "");
+        assert_eq!((status, message.as_str()), (0, ""), "{command:?}");
     }
     fs::remove_dir_all(here).expect("removed");
 }

@@ -2,6 +2,8 @@
 
 use std::fmt::Write;
 
+use usage::outputs::DRAWN;
+
 use crate::show::shorten;
 
 /// Every picture is this wide.
@@ -107,6 +109,7 @@ impl Canvas {
         let (inner_width, inner_height) = (WIDTH - 2, height - 2);
         format!(
             r##"<svg xmlns="http://www.w3.org/2000/svg" width="{WIDTH}" height="{height}" viewBox="0 0 {WIDTH} {height}" font-family="Helvetica, Arial, 'DejaVu Sans', sans-serif" font-size="12" fill="{INK}">
+{DRAWN}
 <title>{title}</title>
 <rect x="1" y="1" width="{inner_width}" height="{inner_height}" rx="10" fill="#ffffff" stroke="#d1d9e0"/>
 {body}</svg>
@@ -158,10 +161,11 @@ pub fn counted(count: usize, noun: &str) -> String {
 pub mod check {
     //! A small checker of pictures for the tests.
 
-    /// The tags of a picture, without their brackets.
+    /// The tags of a picture, without their brackets. A comment is none.
     fn tags(svg: &str) -> impl Iterator<Item = &str> {
         let parts = svg.split('<').skip(1);
-        parts.map(|part| part.split_once('>').expect("a closed tag").0)
+        let tags = parts.map(|part| part.split_once('>').expect("a closed tag").0);
+        tags.filter(|tag| !tag.starts_with("!--"))
     }
 
     /// The value of a tag's attribute.
@@ -250,6 +254,7 @@ mod tests {
         let svg = canvas.finish("t", 20);
         check::picture(&svg);
         assert!(svg.contains("<g><title>a &amp; b</title>\n<circle"));
+        assert_eq!(svg.lines().nth(1), Some("<!-- drawn by the workbench -->"));
         assert!(!svg.contains("<path"));
     }
 

@@ -15,6 +15,9 @@ pub const IMAGE_LENGTH: u64 = 9728 * 532;
 /// Length of an image file of 9,728 blocks of 512 bytes.
 const DATA_IMAGE_LENGTH: u64 = 9728 * 512;
 
+/// Stands near the beginning of each picture that the workbench draws, by which it is known.
+pub const DRAWN: &str = "<!-- drawn by the workbench -->";
+
 /// Stands before the list at the end of a platter whose save is not over.
 pub const LIST_AT_END: &str = "unreadable sectors:\n";
 
@@ -55,7 +58,7 @@ pub enum Over {
 /// Names a kind of file, by which an older one is known.
 #[derive(Clone, Copy, Debug, PartialEq, Eq)]
 pub enum Kind {
-    /// A picture in SVG.
+    /// A picture in SVG that the workbench drew.
     Picture,
     /// The page of a run.
     Page,
@@ -75,21 +78,46 @@ impl Kind {
 
     /// Says whether a file is of this kind.
     fn has(self, path: &Path) -> bool {
-        let mut start = vec![];
-        let read = File::open(path).and_then(|file| file.take(1024).read_to_end(&mut start));
-        let has = |text: &str| {
-            start
-                .windows(text.len())
-                .any(|part| part == text.as_bytes())
-        };
+        let start = beginning(path);
+        let has = |text| has(&start, text);
         let begins = |text: &str| start.starts_with(text.as_bytes());
-        read.is_ok()
-            && match self {
-                Kind::Picture => has("<svg"),
-                Kind::Page => begins("<!DOCTYPE html>\n") && has("<title>The run of "),
-                Kind::Odds => begins("{\n  \"plan\": "),
-            }
+        match self {
+            Kind::Picture => begins("<svg") && has(DRAWN),
+            Kind::Page => begins("<!DOCTYPE html>\n") && has("<title>The run of "),
+            Kind::Odds => begins("{\n  \"plan\": "),
+        }
     }
+
+    /// Says why a file that is not of this kind may not be replaced by one.
+    fn why_not_over(self, path: &Path) -> String {
+        match self {
+            Kind::Picture if is_svg(path) => {
+                format!("a picture without the workbench's mark {OTHERWISE}")
+            }
+            _ => format!("there already, and no {}", self.words()),
+        }
+    }
+}
+
+/// Says what can be done about a file that is in the way.
+const OTHERWISE: &str = "(remove it, or name another file)";
+
+/// Reads the beginning of a file; nothing of one that cannot be read.
+fn beginning(path: &Path) -> Vec<u8> {
+    let mut start = vec![];
+    let read = File::open(path).and_then(|file| file.take(1024).read_to_end(&mut start));
+    read.map_or(vec![], |_| start)
+}
+
+/// Says whether bytes have this text in them.
+fn has(bytes: &[u8], text: &str) -> bool {
+    let mut parts = bytes.windows(text.len());
+    parts.any(|part| part == text.as_bytes())
+}
+
+/// Says whether a file is a picture in SVG, whoever drew it.
+fn is_svg(path: &Path) -> bool {
+    has(&beginning(path), "<svg")
 }
 
 /// Says where an output goes, and what it must leave alone.
@@ -179,9 +207,7 @@ impl Output {
             return Some(String::from("a folder"));
         }
         if self.over == Over::Nothing {
-            return Some(String::from(
-                "there already (remove it, or name another file)",
-            ));
+            return Some(format!("there already {OTHERWISE}"));
         }
         if kind.is_block_device() {
             return Some(String::from("a device with data of its own"));
@@ -202,7 +228,7 @@ impl Output {
         }
         match self.over {
             Over::Same(kind) if found.len() > 0 && !kind.has(&self.to) => {
-                Some(format!("there already, and no {}", kind.words()))
+                Some(kind.why_not_over(&self.to))
             }
             Over::Bytes(length) => made_otherwise(&self.to).or_else(|| {
                 let same = length as u64 == found.len();
@@ -299,11 +325,12 @@ fn made_otherwise(path: &Path) -> Option<String> {
     if table(b"PROFILE") || table(b"\xF0\x78\x3C\x1E") || name.contains(".old-table") {
         return Some(String::from("a table's image"));
     }
-    let kinds = [Kind::Picture, Kind::Page, Kind::Odds].into_iter();
-    kinds
-        .filter(|kind| kind.has(path))
-        .map(|kind| format!("a {}", kind.words()))
-        .next()
+    if is_svg(path) {
+        return Some(String::from("a picture"));
+    }
+    let mut kinds = [Kind::Page, Kind::Odds].into_iter();
+    let kind = kinds.find(|kind| kind.has(path))?;
+    Some(format!("a {}", kind.words()))
 }
 
 /// Says what image of blocks a file of this length is, if it is one.
@@ -356,7 +383,7 @@ mod tests {
     fn what_is_drawn_is_not_replaced_under_any_name() {
         let here = folder("outputs");
         let [plan, hard, soft, other] = ["a.plan", "hard", "soft", "b.plan"].map(|n| here.join(n));
-        fs::write(&plan, "<svg start").expect("written");
+        fs::write(&plan, format!("<svg>{DRAWN}")).expect("written");
         fs::write(&other, "start\n").expect("written");
         fs::hard_link(&plan, &hard).expect("a link");
         symlink("a.plan", &soft).expect("a link");
@@ -377,6 +404,37 @@ mod tests {
         assert_eq!(Output::timeline(&plan, &[], &other).check(), Ok(()));
         fs::remove_dir_all(here).expect("removed");
     }
+
+    #[test]
+    fn a_picture_replaces_what_the_workbench_drew_alone() {
+        let here = folder("drawn");
+        let [source, to] = ["p", "a.svg"].map(|name| here.join(name));
+        let ways = [
+            Output::picture(&source, &to),
+            Output::timeline(&source, &[], &to),
+            Output::odds_picture(&source, &[], &to),
+        ];
+        for (held, why) in [
+            (format!("<svg width=\"9\">\n{DRAWN}\n"), None),
+            (String::from("<svg>\n<title>old</title>"), Some(UNMARKED)),
+            (format!("<?xml?>\n<svg>{DRAWN}"), Some(UNMARKED)),
+            (format!("<svg>{}{DRAWN}", " ".repeat(1024)), Some(UNMARKED)),
+            (format!("{DRAWN}\n"), Some("there already, and no picture")),
+        ] {
+            fs::write(&to, &held).expect("written");
+            let refused = why.map(|why| {
+                let to = to.display();
+                format!("{to} is {why}: the picture is not written there")
+            });
+            for output in &ways {
+                assert_eq!(output.check().err(), refused, "{held}");
+            }
+        }
+        fs::remove_dir_all(here).expect("removed");
+    }
+
+    const UNMARKED: &str =
+        "a picture without the workbench's mark (remove it, or name another file)";
 
     #[test]
     fn a_platter_is_not_replaced_and_its_list_neither() {
