@@ -6,6 +6,7 @@
 mod common;
 
 use std::fs::{self, File};
+use std::process::Stdio;
 use std::time::{Duration, Instant, SystemTime};
 
 use common::checkout::{Checkout, PROVER};
@@ -36,8 +37,9 @@ const ANSWERS: [(&str, i32, &str); 11] = [
 #[test]
 fn help_version_and_wrong_arguments_are_answered_before_a_proof() {
     let checkout = Checkout::new("answers", NO_PROVER);
-    // The first answer is built from nothing.
+    // The first answer is built from nothing, and it is said.
     let mut limit = Duration::from_secs(10);
+    let mut said_first = "workbench: building the program that reads the arguments\n";
     for (arguments, wanted, said) in ANSWERS {
         let words: Vec<&str> = arguments.split_whitespace().collect();
         let began = Instant::now();
@@ -50,8 +52,9 @@ fn help_version_and_wrong_arguments_are_answered_before_a_proof() {
             _ => (message, out),
         };
         assert!(text.contains(said), "{arguments}: {text}");
-        assert_eq!(silent, "", "{arguments}");
+        assert_eq!(silent, said_first, "{arguments}");
         limit = Duration::from_secs(2);
+        said_first = "";
     }
     assert_eq!(checkout.proofs(), 0);
     assert!(!checkout.file("target").exists());
@@ -153,6 +156,55 @@ fn nothing_is_run_that_is_not_proved_and_built() {
 
     checkout.stand_in("path/cargo", "exit 101\n");
     stops(&checkout, "the program is not built");
+}
+
+/// Stands in for cargo that finds something changed: it compiles until the script has told
+/// of it, and a while at most.
+const COMPILES: &str = r#"
+case $* in *"--package usage"*) exit ;; esac
+echo "   Compiling reference v0.1.0" >&2
+for _ in 1 2 3 4 5 6 7 8 9 10 11 12 13 14 15 16 17 18 19 20; do
+    if grep -q building "$room/told"; then
+        echo "   Compiling workbench v0.1.0" >&2
+        exit
+    fi
+    sleep 0.25
+done
+exit 9
+"#;
+
+/// Runs the script with its messages in a file. Says its exit status, and the messages.
+fn told(checkout: &Checkout) -> (Option<i32>, String) {
+    let path = checkout.room.join("told");
+    let file = File::create(&path).expect("a file");
+    let mut command = checkout.command("workbench");
+    command
+        .args(["run", "x"])
+        .stdout(Stdio::null())
+        .stderr(file);
+    let status = command.status();
+    let message = fs::read_to_string(path).expect("messages");
+    (status.expect("the script").code(), message)
+}
+
+#[test]
+fn a_build_is_told_while_it_is_made_and_what_is_built_is_not() {
+    let checkout = Checkout::built("builds");
+    library_is_made(&checkout);
+    assert_eq!(told(&checkout), (Some(0), String::new()));
+    checkout.stand_in("path/cargo", COMPILES);
+    let building = "workbench: building the program\n";
+    assert_eq!(told(&checkout), (Some(0), String::from(building)));
+    // A note that compiles nothing is hidden, and shown with all others if the build fails.
+    let notes = "echo ' Finished' >&2\n";
+    checkout.stand_in("path/cargo", notes);
+    assert_eq!(told(&checkout), (Some(0), String::new()));
+    let failure = "echo ' Compiling usage' >&2\necho 'error: no' >&2\nexit 101\n";
+    checkout.stand_in("path/cargo", failure);
+    let message = "workbench: building the program that reads the arguments\n \
+                   Compiling usage\nerror: no\n\
+                   workbench: the program is not built, so nothing is run\n";
+    assert_eq!(told(&checkout), (Some(3), String::from(message)));
 }
 
 /// Checks that the script says why it runs nothing.
