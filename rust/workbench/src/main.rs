@@ -231,6 +231,7 @@ fn timeline(plan: &Plan, to: &Path) -> Result<bool, String> {
 fn odds_of(plan: &Plan, asked: usage::Odds) -> Result<bool, String> {
     let share = |(some, of)| Share { some, of };
     let ask = Ask {
+        program: usage::called(),
         name: plan.name.clone(),
         plan: files::read(&plan.path)?,
         file: Some(plan.path.clone()),

@@ -24,6 +24,8 @@ pub use text::text;
 /// A plan that was read, and the random faults that it gets.
 #[derive(Clone, Debug)]
 pub struct Ask {
+    /// The name that the workbench was called by.
+    pub program: String,
     /// The plan's name, as it was asked for.
     pub name: String,
     /// The lines of the plan.
@@ -180,12 +182,10 @@ fn quoted(name: &str) -> String {
 impl Odds<'_> {
     /// Returns the command that does one of the runs again.
     pub fn again(&self, seed: impl std::fmt::Display) -> String {
-        let Ask {
-            name, rate, dying, ..
-        } = self.ask;
-        let name = quoted(name);
+        let Ask { rate, dying, .. } = self.ask;
+        let (program, name) = (quoted(&self.ask.program), quoted(&self.ask.name));
         format!(
-            "./workbench odds {name} --seed {seed} --rate {}/{} --dying {}/{}",
+            "{program} odds {name} --seed {seed} --rate {}/{} --dying {}/{}",
             rate.some, rate.of, dying.some, dying.of
         )
     }

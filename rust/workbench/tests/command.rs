@@ -354,6 +354,33 @@ fn odds_are_the_same_on_any_number_of_threads() {
 }
 
 #[test]
+fn the_command_for_one_run_again_has_the_name_of_the_program() {
+    let here = folder("odds-name");
+    for (name, shown) in [
+        (None, "workbench"),
+        (Some(""), "workbench"),
+        (Some("bin/workbench"), "bin/workbench"),
+        (Some("a folder/bench"), "'a folder/bench'"),
+    ] {
+        let mut command = Command::new(program());
+        command.args("odds banner --seeds 1 --rate 1/50".split(' '));
+        command.env("WORKBENCH_ROOT", root());
+        match name {
+            Some(name) => command.env("WORKBENCH_NAME", name),
+            None => command.env_remove("WORKBENCH_NAME"),
+        };
+        let output = ended(&mut command, &here, "");
+        let out = String::from_utf8(output.stdout).expect("text");
+        let again = "odds banner --seed S --rate 1/50 --dying 1/2";
+        assert!(
+            out.ends_with(&format!("\none run again: {shown} {again}\n")),
+            "{out}"
+        );
+    }
+    fs::remove_dir_all(here).expect("removed");
+}
+
+#[test]
 fn one_run_of_the_odds_is_shown_again() {
     let here = folder("odds-again");
     let (_, out, _) = odds(&here, "--seeds 12");

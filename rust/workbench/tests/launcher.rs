@@ -6,10 +6,12 @@
 mod common;
 
 use std::fs::{self, File};
-use std::process::Stdio;
+use std::os::unix::fs::symlink;
+use std::process::{Command, Stdio};
 use std::time::{Duration, Instant, SystemTime};
 
 use common::checkout::{Checkout, PROVER};
+use common::ended;
 
 /// Stands in for a prover that is not to be asked.
 const NO_PROVER: &str = "echo asked >>\"$room/proofs\"\nexit 1\n";
@@ -213,6 +215,34 @@ fn stops(checkout: &Checkout, why: &str) {
     assert_eq!((status, out.as_str()), (Some(3), ""));
     let why = format!("workbench: {why}, so nothing is run\n");
     assert!(message.ends_with(&why), "{message}");
+}
+
+#[test]
+fn the_program_is_told_the_name_that_the_script_was_called_by() {
+    let checkout = Checkout::built("names");
+    library_is_made(&checkout);
+    let program = "echo \"called $WORKBENCH_NAME, $*\"\n";
+    checkout.stand_in("checkout/rust/workbench/target/release/workbench", program);
+    // A release has another script, and its program beside it.
+    fs::create_dir_all(checkout.room.join("a release/bin")).expect("a folder");
+    let script = checkout.room.join("a release/bin/workbench");
+    fs::copy(checkout.file("release/workbench"), &script).expect("copied");
+    checkout.stand_in("a release/bin/workbench-x86_64-linux-gnu", program);
+    for script in [checkout.file("workbench"), script] {
+        let link = checkout.room.join("bench");
+        let _ = fs::remove_file(&link);
+        symlink(&script, &link).expect("a link");
+        for called in [&script, &link] {
+            let mut command = Command::new(called);
+            let output = ended(
+                checkout.on_path(&mut command).arg("week"),
+                &checkout.room,
+                "",
+            );
+            let out = String::from_utf8(output.stdout).expect("text");
+            assert_eq!(out, format!("called {}, week\n", called.display()));
+        }
+    }
 }
 
 #[test]

@@ -11,6 +11,7 @@ fn share(some: u32, of: u32) -> Share {
 
 fn ask(plan: &str, rate: Share, dying: Share) -> Ask {
     Ask {
+        program: String::from("./a workbench"),
         name: String::from("a plan"),
         plan: plan.as_bytes().to_vec(),
         file: None,
@@ -231,7 +232,7 @@ fn a_broken_history_is_named_with_the_command_that_repeats_it() {
     odds.runs = made(&[(Ending::Whole, 0), (Ending::Broken, 3), (Ending::Broken, 1)]);
     assert!(!odds.good());
     let text = text(&odds);
-    let last = "2 histories are BROKEN\nthe first again: ./workbench odds 'a plan' --seed 2 \
+    let last = "2 histories are BROKEN\nthe first again: './a workbench' odds 'a plan' --seed 2 \
                 --rate 1/50 --dying 1/4\n";
     assert!(text.ends_with(last), "{text}");
     assert!(json(&odds).contains("\"broken_seeds\": [\n    2,\n    3\n  ]"));
@@ -256,7 +257,7 @@ fn lines_of_the_odds() {
         "  spares used                0     6.00       16",
         "  sectors died    runs  whole  no spare  history broken",
         "            33       1      0         1               0",
-        "one run again: ./workbench odds 'a plan' --seed S --rate 1/50 --dying 1/4",
+        "one run again: './a workbench' odds 'a plan' --seed S --rate 1/50 --dying 1/4",
     ] {
         assert!(text.lines().any(|shown| shown == line), "{line}\n{text}");
     }

@@ -263,6 +263,7 @@ mod tests {
     /// The picture of runs that ended so, in each of which so many sectors died.
     fn drawn(runs: &[(Ending, u64)]) -> String {
         let ask = Ask {
+            program: String::from("workbench"),
             name: String::from("a <plan>"),
             plan: b"start\n".to_vec(),
             file: None,

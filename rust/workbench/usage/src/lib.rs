@@ -17,6 +17,7 @@ use std::process::ExitCode;
 
 pub use odds::{Odds, Seeds};
 pub use quote::{plain, quote, short};
+pub use repository::called;
 pub use work::{Export, ImageForm, Plan, TagPlace, Work};
 
 /// The help: every command, and every line of a plan with an example.
