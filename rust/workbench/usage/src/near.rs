@@ -1,11 +1,30 @@
 //! Words that are near to others, for slips of the pen.
 
+use crate::quote;
+
 /// Says which of these words may be meant: `; did you mean "read"?`, or nothing if none
 /// is near.
 pub fn meant(word: &str, among: &[&str]) -> String {
     match near(word, among) {
         Some(near) => format!("; did you mean \"{near}\"?"),
         None => String::new(),
+    }
+}
+
+/// Says that a command has no such option, which may be meant, and where all are told.
+pub fn no_option(word: &str, command: &str, options: &[&str]) -> String {
+    see_help(
+        &format!("{} is no option of {command}", quote(word)),
+        word,
+        options,
+    )
+}
+
+/// Says what is wrong with a word, which of these may be meant, and where all are told.
+pub fn see_help(fault: &str, word: &str, among: &[&str]) -> String {
+    match meant(word, among) {
+        none if none.is_empty() => format!("{fault}; see --help"),
+        meant => format!("{fault}{meant} see --help"),
     }
 }
 
@@ -93,5 +112,14 @@ mod tests {
         assert_eq!(near(&"r".repeat(5_000_000), &words), None);
         assert_eq!(meant("raed", &words), "; did you mean \"read\"?");
         assert_eq!(meant("xyz", &words), "");
+        let option = |word| no_option(word, "run", &["--platter", "--trace"]);
+        assert_eq!(
+            option("--platform"),
+            "\"--platform\" is no option of run; did you mean \"--platter\"? see --help"
+        );
+        assert_eq!(
+            option("--fast"),
+            "\"--fast\" is no option of run; see --help"
+        );
     }
 }

@@ -2,6 +2,8 @@
 
 use std::path::PathBuf;
 
+use crate::near::no_option;
+
 /// Which runs are made, under which faults, and where they are told.
 #[derive(Clone, Debug, PartialEq, Eq)]
 pub struct Odds {
@@ -81,14 +83,19 @@ fn given<'a>(words: &[&'a str]) -> Result<Given<'a>, String> {
                 given.values.push((name, value));
             }
             ("--trace", _) => given.trace = true,
-            (option, _) if option.starts_with("--") => {
-                return Err(format!("\"{option}\" is no option of odds; see --help"));
-            }
+            (option, _) if option.starts_with("--") => return Err(no_such_option(option)),
             (name, _) if given.plan.is_none() => given.plan = Some(name),
             (more, _) => return Err(format!("one plan is run at a time, so not \"{more}\" too")),
         }
     }
     Ok(given)
+}
+
+/// Says that this is no option of odds.
+fn no_such_option(word: &str) -> String {
+    let names = OPTIONS.iter().map(|(name, _)| *name);
+    let names: Vec<&str> = names.chain(["--trace"]).collect();
+    no_option(word, "odds", &names)
 }
 
 impl<'a> Given<'a> {
@@ -277,6 +284,14 @@ mod tests {
             "one plan is run at a time, so not \"c\" too",
         ),
         ("b --fast", "\"--fast\" is no option of odds; see --help"),
+        (
+            "b --sed 9",
+            "\"--sed\" is no option of odds; did you mean \"--seed\"? see --help",
+        ),
+        (
+            "b --seed 9 --trase",
+            "\"--trase\" is no option of odds; did you mean \"--trace\"? see --help",
+        ),
     ];
 
     #[test]

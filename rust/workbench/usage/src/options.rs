@@ -1,5 +1,7 @@
 //! The options of a command, wherever they stand among its words.
 
+use crate::near::no_option;
+
 /// Holds the words of a command: names of files, and options.
 #[derive(Clone, Debug, PartialEq, Eq)]
 pub struct Sorted<'a> {
@@ -28,8 +30,8 @@ impl<'a> Sorted<'a> {
             } else if known.flags.contains(&word) {
                 options.push((word, None));
             } else if word.starts_with("--") {
-                let command = known.command;
-                return Err(format!("\"{word}\" is no option of {command}; see --help"));
+                let options = [known.flags, known.valued].concat();
+                return Err(no_option(word, known.command, &options));
             } else {
                 names.push(word);
             }
@@ -112,6 +114,13 @@ mod tests {
             fault(&["--fast", "a"]),
             "\"--fast\" is no option of export; see --help"
         );
+        for (word, option) in [("--from", "--form"), ("--keepgoing", "--keep-going")] {
+            let meant = format!("did you mean \"{option}\"?");
+            assert_eq!(
+                fault(&[word, "a"]),
+                format!("\"{word}\" is no option of export; {meant} see --help")
+            );
+        }
         assert_eq!(
             fault(&["a", "--form"]),
             "--form needs a form: raw532, raw512 or diskcopy"

@@ -164,7 +164,7 @@ fn run(words: &[&str], plans: Option<&Path>) -> Result<Work, String> {
                 platter = Some(PathBuf::from(file));
             }
             option if option.starts_with("--") => {
-                return Err(format!("\"{option}\" is no option of run; see --help"));
+                return Err(near::no_option(option, "run", &["--platter", "--trace"]));
             }
             word if name.is_none() => name = Some(word),
             more => return Err(format!("one plan is run at a time, so not \"{more}\" too")),
@@ -324,15 +324,14 @@ fn no_command(word: &str) -> String {
         .lines()
         .filter_map(|line| line.strip_prefix("  workbench "));
     let commands: Vec<&str> = lines.filter_map(|line| line.split(' ').next()).collect();
-    let meant = near::meant(word, &commands);
-    format!("{} is no command{meant}; see --help", quote(word)).replace("?;", "?")
+    near::see_help(&format!("{} is no command", quote(word)), word, &commands)
 }
 
 /// Finds the plan in the file of this name, or else the repository's plan of this name.
 fn plan(name: &str, plans: Option<&Path>) -> Result<Plan, String> {
     let path = match known(name, plans) {
         Some(known) if !Path::new(name).is_file() => known,
-        _ => readable(name)?,
+        _ => readable(name).map_err(|fault| fault + &near_plan(name, plans))?,
     };
     Ok(Plan {
         name: name.to_string(),
@@ -344,6 +343,30 @@ fn plan(name: &str, plans: Option<&Path>) -> Result<Plan, String> {
 fn known(name: &str, plans: Option<&Path>) -> Option<PathBuf> {
     let path = plans?.join(format!("{name}.plan"));
     path.is_file().then_some(path)
+}
+
+/// Says which of the repository's plans may be meant by a file that is not there.
+fn near_plan(name: &str, plans: Option<&Path>) -> String {
+    let file = Path::new(name);
+    let word = file.file_stem().unwrap_or_default().to_string_lossy();
+    if file.exists() {
+        return String::new();
+    }
+    let names = plans.map_or(vec![], names_of_plans);
+    let names: Vec<&str> = names.iter().map(String::as_str).collect();
+    near::meant(&word, &names)
+}
+
+/// Lists the names of the plans in a folder, in their order.
+fn names_of_plans(folder: &Path) -> Vec<String> {
+    let entries = fs::read_dir(folder).into_iter().flatten().flatten();
+    let files = entries.map(|entry| PathBuf::from(entry.file_name()));
+    let plans = files.filter(|file| file.extension().is_some_and(|end| end == "plan"));
+    let mut names: Vec<String> = plans
+        .filter_map(|plan| plan.file_stem()?.to_str().map(String::from))
+        .collect();
+    names.sort();
+    names
 }
 
 /// Finds the file of the mission's week.
@@ -437,6 +460,37 @@ mod tests {
     }
 
     #[test]
+    fn near_plans_of_the_repository_are_offered() {
+        let missing = "cannot be read: No such file or directory (os error 2)";
+        let odds = ["odds", "baner", "--seeds", "9", "--rate", "1/50"];
+        for (words, name, meant) in [
+            (&["run", "wek"][..], "wek", "; did you mean \"week\"?"),
+            (
+                &["run", "week.plan"],
+                "week.plan",
+                "; did you mean \"week\"?",
+            ),
+            (
+                &["timeline", "plans/ltach.plan", "o"],
+                "plans/ltach.plan",
+                "; did you mean \"latch\"?",
+            ),
+            (
+                &["report", "Power", "o"],
+                "Power",
+                "; did you mean \"power\"?",
+            ),
+            (&odds, "baner", "; did you mean \"banner\"?"),
+            (&["run", "xyzzy"], "xyzzy", ""),
+        ] {
+            assert_eq!(fault(words), format!("{name} {missing}{meant}"));
+        }
+        // Without the folder of plans, and for a file that is there, nothing is offered.
+        assert_eq!(parse(&["run", "wek"], None), Err(format!("wek {missing}")));
+        assert_eq!(fault(&["run", FOLDER]), ". cannot be read: it is a folder");
+    }
+
+    #[test]
     fn without_the_folder_of_plans_there_is_no_week() {
         let message = "WORKBENCH_ROOT names no folder with plans/week.plan";
         for plans in [None, Some(Path::new(NOWHERE))] {
@@ -459,7 +513,14 @@ mod tests {
     #[test]
     fn options_of_run() {
         assert_eq!(fault(&["run", "--platter"]), "--platter needs a file");
-        assert!(fault(&["run", "--fast"]).starts_with("\"--fast\" is no option of run"));
+        assert_eq!(
+            fault(&["run", "--fast"]),
+            "\"--fast\" is no option of run; see --help"
+        );
+        assert_eq!(
+            fault(&["run", "--platform", "x"]),
+            "\"--platform\" is no option of run; did you mean \"--platter\"? see --help"
+        );
         assert!(fault(&["run", "week", "latch"]).ends_with("so not \"latch\" too"));
         assert_eq!(
             fault(&["week", "latch"]),
