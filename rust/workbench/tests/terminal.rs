@@ -48,6 +48,30 @@ fn a_wrong_line_is_told_and_the_run_goes_on() {
 }
 
 #[test]
+fn who_wants_to_end_is_told_how() {
+    let here = folder("typed-end");
+    let words = ["quit", "exit", "q", "bye", "Quit"];
+    let (status, shown) = typed(&here, "run", &format!("start\n{}\n", words.join("\n")));
+    assert_eq!(status, 0, "{shown}");
+    for (number, word) in (2..).zip(words) {
+        let message = format!(
+            "\nworkbench: line {number}: \"{word}\" begins no line of a plan; Ctrl-D at the start \
+             of a line ends the run\n"
+        );
+        assert!(shown.contains(&message), "{message}: {shown}");
+    }
+    assert!(shown.contains("\n  5 lines were wrong\n"), "{shown}");
+    // In a plan there is no such key.
+    fs::write(here.join("my.plan"), "start\nquit\n").expect("written");
+    let (status, shown) = typed(&here, "run my.plan", "");
+    let message =
+        "workbench: my.plan:2: \"quit\" begins no line of a plan; the line \"help\" shows \
+                   all\n";
+    assert!(status == 2 && shown.ends_with(message), "{shown}");
+    fs::remove_dir_all(here).expect("removed");
+}
+
+#[test]
 fn a_plan_in_a_file_is_not_typed() {
     let here = folder("not-typed");
     fs::write(here.join("my.plan"), "start\nraed 17\nread 17\n").expect("written");

@@ -12,6 +12,9 @@ const BYTE_ORDER_MARK: &[u8] = "\u{FEFF}".as_bytes();
 /// A line has so many bytes at most. What has more is no plan, and may have no end.
 const MOST_BYTES: usize = 65_536;
 
+/// Words with which other programs end.
+const ENDS: [&str; 4] = ["quit", "exit", "q", "bye"];
+
 impl<W: Write> Run<W> {
     /// Says the number of the line that was read last.
     pub fn number(&self) -> usize {
@@ -56,6 +59,9 @@ impl<W: Write> Run<W> {
             return Err(Stop::Line(message));
         }
         let text = std::str::from_utf8(bytes).map_err(|_| String::from("no UTF-8 text"))?;
+        if let Some(word) = word_of_end(text).filter(|_| self.settings.typed) {
+            return Err(Stop::Line(how_to_end(word)));
+        }
         let line = plan::parse(text)?;
         let nothing = line == Line::Nothing;
         self.times.line(text);
@@ -93,4 +99,16 @@ impl<W: Write> Run<W> {
         }
         Ok(())
     }
+}
+
+/// Returns the word by which a person wants to end the lines, if this line begins with one.
+fn word_of_end(text: &str) -> Option<&str> {
+    let word = text.split_whitespace().next()?;
+    let ends = ENDS.iter().any(|end| end.eq_ignore_ascii_case(word));
+    ends.then_some(word)
+}
+
+/// Says how typed lines end, since this word does not end them.
+fn how_to_end(word: &str) -> String {
+    format!("\"{word}\" begins no line of a plan; Ctrl-D at the start of a line ends the run")
 }
