@@ -125,18 +125,24 @@ fn play(plan: Option<&Plan>, mut settings: Settings, out: impl Write) -> Result<
             moments,
             inputs,
         }),
-        Err(Stop::Empty) if typed => {
-            eprintln!("workbench: no line was done");
-            Ok(Played {
-                good: true,
-                ..Played::default()
-            })
+        Err(Stop::Empty) if typed => nothing_played("no line was done"),
+        Err(Stop::Unspoken) if typed => {
+            nothing_played("no line spoke to the drive: there is nothing to sum up")
         }
         // Whoever read the output has seen enough.
         Err(Stop::Output(error)) if error.kind() == BrokenPipe => Ok(Played::default()),
         Err(Stop::Output(error)) => Err(usage::output_fault(error)),
         Err(stop) => Err(format!("{name}{}", stop.told(number))),
     }
+}
+
+/// Says why typed lines come to nothing, which is nobody's fault.
+fn nothing_played(why: &str) -> Result<Played, String> {
+    eprintln!("workbench: {why}");
+    Ok(Played {
+        good: true,
+        ..Played::default()
+    })
 }
 
 /// Finds the folder in which the files of a plan are sought.

@@ -60,6 +60,8 @@ pub enum Stop {
     Line(String),
     /// No line did anything.
     Empty,
+    /// No line spoke to the drive.
+    Unspoken,
     /// The output cannot be written.
     Output(io::Error),
 }
@@ -71,6 +73,9 @@ impl Stop {
         match self {
             Stop::Line(message) => format!(":{number}: {message}"),
             Stop::Empty => String::from(": the plan is empty: no line does anything"),
+            Stop::Unspoken => {
+                String::from(": no line speaks to the drive: there is nothing to judge")
+            }
             Stop::Output(error) => format!(":{number}: {error}"),
         }
     }
@@ -88,6 +93,30 @@ impl From<io::Error> for Stop {
     }
 }
 
+/// What the lines did so far, at most.
+#[derive(Clone, Copy, Debug, Default, PartialEq, Eq, PartialOrd, Ord)]
+enum Did {
+    /// They were empty, comments or wrong.
+    #[default]
+    Nothing,
+    /// They said or ordered something.
+    Words,
+    /// They spoke to the drive, or changed its platter.
+    Drive,
+}
+
+impl Did {
+    /// Says what this line does.
+    fn by(line: &Line) -> Did {
+        match line {
+            Line::Nothing => Did::Nothing,
+            Line::Start | Line::Convert => Did::Drive,
+            line if needs_start(line) => Did::Drive,
+            _ => Did::Words,
+        }
+    }
+}
+
 /// A plan that is being run.
 pub struct Run<W: Write> {
     host: Host,
@@ -99,8 +128,7 @@ pub struct Run<W: Write> {
     progress: Progress,
     /// The number of the line.
     number: usize,
-    /// Some line did something.
-    busy: bool,
+    did: Did,
     /// So many typed lines were wrong.
     wrong: u64,
     /// What the host's last line came to, command by command.
@@ -150,7 +178,7 @@ impl<W: Write> Run<W> {
             files: NamedFiles::default(),
             progress,
             number: 0,
-            busy: false,
+            did: Did::default(),
             wrong: 0,
             last: vec![],
             expectations: 0,

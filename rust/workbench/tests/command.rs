@@ -85,9 +85,21 @@ fn a_bad_plan_is_named_with_its_line() {
 
 #[test]
 fn an_empty_plan_is_a_wrong_one() {
-    let here = folder("empty-plan");
-    fs::write(here.join("my.plan"), "# nothing yet\n\n").expect("written");
     let empty = "the plan is empty: no line does anything";
+    is_wrong("empty-plan", "# nothing yet\n\n", "", empty);
+}
+
+#[test]
+fn a_plan_that_does_not_speak_to_the_drive_is_a_wrong_one() {
+    let unspoken = "no line speaks to the drive: there is nothing to judge";
+    let plan = "say hello\n# nothing yet\n";
+    is_wrong("unspoken-plan", plan, "hello\n", unspoken);
+}
+
+/// Checks that no command takes a plan. Those that show a run say this before.
+fn is_wrong(test: &str, plan: &str, said: &str, why: &str) {
+    let here = folder(test);
+    fs::write(here.join("my.plan"), plan).expect("written");
     for (arguments, name) in [
         (&["run"][..], "standard input"),
         (&["run", "my.plan"], "my.plan"),
@@ -102,9 +114,11 @@ fn an_empty_plan_is_a_wrong_one() {
             "my.plan",
         ),
     ] {
-        let ended = workbench(&here, arguments, "");
-        let message = format!("workbench: {name}: {empty}\n");
-        assert_eq!(ended, (2, String::new(), message));
+        let shows = arguments[0] == "run" || arguments.contains(&"--seed");
+        let said = if shows { said } else { "" };
+        let ended = workbench(&here, arguments, plan);
+        let message = format!("workbench: {name}: {why}\n");
+        assert_eq!(ended, (2, String::from(said), message), "{arguments:?}");
     }
     assert!(!here.join("out.svg").exists() && !here.join("out.html").exists());
     fs::remove_dir_all(here).expect("removed");

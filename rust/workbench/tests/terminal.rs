@@ -95,6 +95,14 @@ fn the_exit_status_is_that_of_the_lines_that_were_done() {
         assert_eq!(status, 0, "{shown}");
         assert!(shown.ends_with("workbench: no line was done\n"), "{shown}");
     }
+    let (status, shown) = typed(&here, "run --platter p", "say so\nfault clear\n");
+    assert_eq!(status, 0, "{shown}");
+    let last = "workbench: no line spoke to the drive: there is nothing to sum up\n";
+    assert!(
+        shown.ends_with(last) && !shown.contains("Summary"),
+        "{shown}"
+    );
+    assert!(!here.join("p").exists());
     fs::remove_dir_all(here).expect("removed");
 }
 

@@ -158,12 +158,13 @@ fn a_line_that_cannot_be_done_is_named() {
 
 #[test]
 fn a_plan_of_nothing() {
-    for empty in ["", "\n# a remark\n"] {
-        let message = page("p", Settings::default(), empty.as_bytes()).err();
-        let told = ": the plan is empty: no line does anything";
+    let empty = ": the plan is empty: no line does anything";
+    let unspoken = ": no line speaks to the drive: there is nothing to judge";
+    for (plan, told) in [("", empty), ("\n# a remark\n", empty), ("say\n", unspoken)] {
+        let message = page("p", Settings::default(), plan.as_bytes()).err();
         assert_eq!(message.as_deref(), Some(told));
     }
-    let page = made("say\n");
+    let page = made("convert\n");
     assert!(page.good);
     assert!(page
         .html

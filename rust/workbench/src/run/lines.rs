@@ -3,8 +3,8 @@
 
 use std::io::{BufRead, Read, Write};
 
-use super::{Run, Stop};
-use crate::plan::{self, Line};
+use super::{Did, Run, Stop};
+use crate::plan;
 
 /// What some editors put before a text.
 const BYTE_ORDER_MARK: &[u8] = "\u{FEFF}".as_bytes();
@@ -45,7 +45,7 @@ impl<W: Write> Run<W> {
         let kept = self.kept_for_cuts();
         let done = self.text(bytes);
         self.pass_or_tell(done, kept)?;
-        if self.busy {
+        if self.did == Did::Drive {
             self.save()?;
         }
         self.out.flush()?;
@@ -63,20 +63,21 @@ impl<W: Write> Run<W> {
             return Err(Stop::Line(how_to_end(word)));
         }
         let line = plan::parse(text)?;
-        let nothing = line == Line::Nothing;
+        let does = Did::by(&line);
         self.times.line(text);
         self.line(line, text.trim())?;
-        self.busy |= !nothing;
+        self.did = self.did.max(does);
         Ok(())
     }
 
-    /// Ends the lines. Some line must have done something.
+    /// Ends the lines. Some line must have spoken to the drive.
     fn end(&mut self) -> Result<(), Stop> {
         let over = self.cuts_are_over();
         self.pass_or_tell(over, self.kept_for_cuts())?;
-        match self.busy {
-            true => self.save(),
-            false => Err(Stop::Empty),
+        match self.did {
+            Did::Nothing => Err(Stop::Empty),
+            Did::Words => Err(Stop::Unspoken),
+            Did::Drive => self.save(),
         }
     }
 

@@ -19,6 +19,7 @@ fn played(plan: &str, settings: Settings) -> (Result<bool, String>, usize, Strin
         Ok((good, _)) => Ok(good),
         Err(Stop::Line(message)) => Err(message),
         Err(Stop::Empty) => Err(String::from("empty")),
+        Err(Stop::Unspoken) => Err(String::from("unspoken")),
         Err(Stop::Output(error)) => panic!("{error}"),
     };
     (ended, number, String::from_utf8(out).expect("text"))
@@ -106,8 +107,30 @@ fn a_plan_in_which_no_line_does_anything_is_empty() {
         assert_eq!((ended, out.as_str()), (Err(String::from("empty")), ""));
         assert!(!path.exists());
     }
-    for plan in ["say so", "help", "start", "fault clear"] {
+    fs::remove_dir_all(folder).expect("removed");
+}
+
+#[test]
+fn a_plan_in_which_no_line_speaks_to_the_drive_has_no_verdict() {
+    let folder = test_folder("unspoken");
+    let path = folder.join("p");
+    for (plan, said) in [
+        ("say so\n# no more\n", "so\n"),
+        (
+            "help table",
+            "  table                               table\n",
+        ),
+        ("fault clear", "fault clear\n"),
+        ("power fails at access 1", "power fails at access 1\n"),
+    ] {
+        let (ended, _, out) = played(plan, on(&path));
+        assert_eq!(ended, Err(String::from("unspoken")), "{plan}");
+        assert_eq!(out, said);
+        assert!(!path.exists(), "{plan}");
+    }
+    for plan in ["say so\nstart", "start\nhelp", "convert"] {
         assert_eq!(played(plan, on(&path)).0, Ok(true), "{plan}");
+        fs::remove_file(&path).expect("a platter");
     }
     fs::remove_dir_all(folder).expect("removed");
 }
@@ -712,7 +735,7 @@ fn the_summary_has_the_time_and_the_longest_line() {
         time_line("start\n"),
         "  about 0.151 s on the drive, the longest 0.151 s: start"
     );
-    assert_eq!(time_line("say nothing is done\n"), "");
+    assert_eq!(time_line("convert\n"), "");
 }
 
 #[test]
