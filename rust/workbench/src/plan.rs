@@ -3,6 +3,7 @@
 mod help;
 mod orders;
 mod power;
+mod slip;
 #[cfg(test)]
 mod tests;
 mod words;
@@ -11,6 +12,7 @@ use crate::data::{Blocks, Data};
 use crate::host::{Retry, USUAL};
 use crate::power as ordered;
 pub use orders::Order;
+use slip::Slip;
 use usage::quote;
 use words::Words;
 
@@ -89,9 +91,12 @@ pub enum Expectation {
 const EXPECTED: &str = "good, failed, refused, spared, in-place, stored, not-stored, cut, \
                         errors E, accesses N and status HH HH HH HH";
 
-/// Reads a line.
+/// Reads a line, or says what is wrong with it.
 pub fn parse(line: &str) -> Result<Line, String> {
-    let mut words = Words::new(line);
+    line_of(Words::new(line)).map_err(|slip| slip.told(line))
+}
+
+fn line_of(mut words: Words) -> Result<Line, Slip> {
     let Some(first) = words.next() else {
         return Ok(Line::Nothing);
     };
@@ -116,58 +121,73 @@ pub fn parse(line: &str) -> Result<Line, String> {
         "power" => power::parse(words).map(Line::Power),
         "cuts" => power::cuts(words),
         "expect" => expect(words),
-        other => Err(help::unknown(other)),
+        other => Err(Slip::Value(help::unknown(other))),
     }
 }
 
-fn help(mut words: Words) -> Result<Line, String> {
+fn help(mut words: Words) -> Result<Line, Slip> {
     let text = match words.next() {
-        Some(word) => help::of(word)?,
+        Some(word) => help::of(word).map_err(Slip::Value)?,
         None => String::from(help::all()),
     };
     alone(Line::Help(text), words)
 }
 
-fn alone(line: Line, words: Words) -> Result<Line, String> {
+fn alone(line: Line, words: Words) -> Result<Line, Slip> {
     words.end().map(|()| line)
 }
 
-fn lower(mut words: Words) -> Result<Line, String> {
+fn lower(mut words: Words) -> Result<Line, Slip> {
     let byte = hex_byte(words.need("the byte on the bus")?)?;
     alone(Line::Lower(byte), words)
 }
 
-fn hex_byte(word: &str) -> Result<u8, String> {
+fn hex_byte(word: &str) -> Result<u8, Slip> {
     match reference::text::parse_token(word.as_bytes()) {
         Ok((byte, 1)) => Ok(byte),
-        _ => Err(format!("a byte is two hex digits, not {}", quote(word))),
+        _ => {
+            let fault = format!("a byte is two hex digits, not {}", quote(word));
+            Err(Slip::Form(fault))
+        }
     }
 }
 
-fn read(mut words: Words) -> Result<Line, String> {
+fn read(mut words: Words) -> Result<Line, Slip> {
     let blocks = words.blocks()?;
     let retry = retry(&mut words, "to")?;
     let to = match words.take("to") {
-        true => Some(words.need("a file's name")?.to_string()),
+        true => Some(words.need("the name of a file behind \"to\"")?.to_string()),
         false => None,
     };
     alone(Line::Read { blocks, retry, to }, words)
 }
 
 /// R and T, up to this word.
-fn retry(words: &mut Words, until: &str) -> Result<Retry, String> {
+fn retry(words: &mut Words, until: &str) -> Result<Retry, Slip> {
     let mut retry = USUAL;
     for (name, count) in [("R", &mut retry.retries), ("T", &mut retry.threshold)] {
         if let Some(word) = words.peek().filter(|word| *word != until) {
             let number = words.number(name, 255);
-            let number = number.map_err(|fault| fault + &usage::near::meant(word, &[until]))?;
-            *count = number as u8;
+            *count = number.map_err(|slip| no_retry(slip, name, until, word))? as u8;
         }
     }
     Ok(retry)
 }
 
-fn write(mut words: Words, verify: bool) -> Result<Line, String> {
+/// Says that a word is neither a count nor the word behind the counts, if it is no number.
+fn no_retry(slip: Slip, name: &str, until: &str, word: &str) -> Slip {
+    let meant = usage::near::meant(word, &[until]);
+    let neither = format!(
+        "{} is neither {name}, a number, nor \"{until}\"{meant}",
+        quote(word)
+    );
+    match slip {
+        Slip::Form(_) => Slip::Form(neither),
+        Slip::Value(fault) => Slip::Value(fault),
+    }
+}
+
+fn write(mut words: Words, verify: bool) -> Result<Line, Slip> {
     let blocks = words.blocks()?;
     let data = words.data()?;
     Ok(Line::Write {
@@ -177,17 +197,17 @@ fn write(mut words: Words, verify: bool) -> Result<Line, String> {
     })
 }
 
-fn compare(mut words: Words) -> Result<Line, String> {
+fn compare(mut words: Words) -> Result<Line, Slip> {
     let blocks = words.blocks()?;
     let retry = retry(&mut words, "with")?;
     if !words.take("with") {
-        return Err(String::from("\"with\" and the data are missing"));
+        let fault = "\"with\" and the data are missing";
+        return Err(Slip::Form(String::from(fault)));
     }
     let data = words.data()?;
     if data == Data::Bytes(vec![]) {
-        return Err(String::from(
-            "\"nothing\" can be written, not compared with",
-        ));
+        let fault = "\"nothing\" can be written, not compared with";
+        return Err(Slip::Value(String::from(fault)));
     }
     Ok(Line::Compare {
         blocks,
@@ -196,12 +216,12 @@ fn compare(mut words: Words) -> Result<Line, String> {
     })
 }
 
-fn dump(mut words: Words) -> Result<Line, String> {
+fn dump(mut words: Words) -> Result<Line, Slip> {
     let number = words.number("a block", 0xFF_FFFF)?;
     alone(Line::Dump(number), words)
 }
 
-fn traffic(mut words: Words) -> Result<Line, String> {
+fn traffic(mut words: Words) -> Result<Line, Slip> {
     let mut traffic = Traffic {
         commands: words.positive("the number of commands")?,
         seed: 1,
@@ -212,31 +232,32 @@ fn traffic(mut words: Words) -> Result<Line, String> {
     };
     while let Some(word) = words.next() {
         match word {
-            "seed" => traffic.seed = words.number("a seed", u32::MAX)?,
+            "seed" => traffic.seed = words.number("the seed", u32::MAX)?,
             "blocks" => traffic.blocks = words.range()?,
             other => {
                 let meant = usage::near::meant(other, &["seed", "blocks"]);
-                return Err(format!("{} is no part of traffic{meant}", quote(other)));
+                let fault = format!("{} is no part of traffic{meant}", quote(other));
+                return Err(Slip::Form(fault));
             }
         }
     }
     Ok(Line::Traffic(traffic))
 }
 
-fn expect(mut words: Words) -> Result<Line, String> {
+fn expect(mut words: Words) -> Result<Line, Slip> {
     let mut expectations = vec![];
     while let Some(word) = words.next() {
         expectations.push(expectation(word, &mut words)?);
     }
     match expectations.is_empty() {
-        true => Err(format!(
+        true => Err(Slip::Form(format!(
             "what is expected is missing; the words are {EXPECTED}"
-        )),
+        ))),
         false => Ok(Line::Expect(expectations)),
     }
 }
 
-fn expectation(word: &str, words: &mut Words) -> Result<Expectation, String> {
+fn expectation(word: &str, words: &mut Words) -> Result<Expectation, Slip> {
     match word {
         "good" => Ok(Expectation::Good),
         "failed" => Ok(Expectation::Failed),
@@ -246,17 +267,30 @@ fn expectation(word: &str, words: &mut Words) -> Result<Expectation, String> {
         "stored" => Ok(Expectation::Stored),
         "not-stored" => Ok(Expectation::NotStored),
         "cut" => Ok(Expectation::Cut),
-        "errors" => Ok(Expectation::Errors(words.number("E", 255)? as u8)),
-        "accesses" => Ok(Expectation::Accesses(words.number("a count", u32::MAX)?)),
-        "status" => {
-            let mut status = [0; 4];
-            for byte in &mut status {
-                *byte = hex_byte(words.need("a status byte")?)?;
-            }
-            Ok(Expectation::Status(status))
+        "errors" => {
+            let errors = words.number("E, the count of errors,", 255)?;
+            Ok(Expectation::Errors(errors as u8))
         }
-        other => Err(not_expected(other)),
+        "accesses" => {
+            let accesses = words.number("N, the count of accesses,", u32::MAX)?;
+            Ok(Expectation::Accesses(accesses))
+        }
+        "status" => status(words).map(Expectation::Status),
+        other => Err(Slip::Value(not_expected(other))),
     }
+}
+
+/// Reads the four status bytes.
+fn status(words: &mut Words) -> Result<[u8; 4], Slip> {
+    let mut status = [0; 4];
+    for (byte, which) in status
+        .iter_mut()
+        .zip(["first", "second", "third", "fourth"])
+    {
+        let what = format!("the {which} of the four status bytes");
+        *byte = hex_byte(words.need(&what)?)?;
+    }
+    Ok(status)
 }
 
 /// Says that a word cannot be expected, and which can.

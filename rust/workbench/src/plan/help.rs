@@ -43,6 +43,32 @@ pub fn of(word: &str) -> Result<String, String> {
     Ok(lines.collect::<Vec<String>>().join("\n"))
 }
 
+/// Gives an example of the line that begins most like this one.
+pub fn example(line: &str) -> Option<&'static str> {
+    let mut best = (0, None);
+    for (form, example) in lines().filter_map(columns) {
+        let alike = alike(form, line);
+        if alike > best.0 {
+            best = (alike, Some(example));
+        }
+    }
+    best.1
+}
+
+/// Parts a line of the help into its form and its example.
+fn columns(line: &'static str) -> Option<(&'static str, &'static str)> {
+    let (form, example) = line.trim().split_once("  ")?;
+    Some((form, example.trim_start()))
+}
+
+/// Counts the words with which a line begins as this form does. A word in capitals stands
+/// for any other, and does not count.
+fn alike(form: &str, line: &str) -> usize {
+    let pairs = form.split_whitespace().zip(line.split_whitespace());
+    let same = pairs.take_while(|(part, word)| is_capital(part) || part == word);
+    same.filter(|(part, _)| !is_capital(part)).count()
+}
+
 /// Says that a word begins no line.
 pub fn unknown(word: &str) -> String {
     let quote = usage::quote(word);

@@ -1,7 +1,10 @@
+mod wrong;
+
 use super::*;
 use crate::faults::{Effect, Fault, Kind, Share, NONE};
 use reference::geometry::Sector;
 use std::collections::VecDeque;
+use wrong::{FORMS, VALUES};
 
 fn fault_of(line: &str) -> (Vec<u32>, Kind, Fault) {
     match parse(line) {
@@ -192,180 +195,6 @@ fn expectations_and_traffic() {
     );
 }
 
-/// Lines with a fault in them, and a part of what is said of each.
-const WRONG: [(&str, &str); 80] = [
-    ("power", "\"fails\" is missing"),
-    ("power off", "after power comes \"fails\", not \"off\""),
-    (
-        "power fails",
-        "at access N, or during the store, is missing",
-    ),
-    (
-        "power fails now",
-        "the power fails at access N, or during the store, not \"now\"",
-    ),
-    ("power fails at", "\"access\" is missing"),
-    (
-        "power fails at 5",
-        "after \"power fails at\" comes \"access\", not \"5\"",
-    ),
-    (
-        "power fails at access",
-        "the number of the access is missing",
-    ),
-    (
-        "power fails at access 0",
-        "the number of the access is 1 at least",
-    ),
-    (
-        "power fails at access old",
-        "the number of the access is a number, and \"old\" is none",
-    ),
-    (
-        "power fails during store",
-        "after \"power fails during\" comes \"the store\", not \"store\"",
-    ),
-    ("power fails during the", "\"the store\" is missing"),
-    (
-        "power fails during the store spoiled",
-        "a write leaves its sector old, new or unreadable, not \"spoiled\"",
-    ),
-    ("power fails at access 3 old new", "\"new\" is too much"),
-    ("cuts", "\"from here\" or \"to here\" is missing"),
-    (
-        "cuts here",
-        "after cuts comes \"from here\" or \"to here\", not \"here\"",
-    ),
-    ("cuts from", "\"here\" is missing"),
-    ("cuts to here 5", "\"5\" is too much"),
-    ("convert shop.platter", "\"shop.platter\" is too much"),
-    ("red 17", "\"red\" begins no line of a plan"),
-    ("Start", "\"Start\" begins no line"),
-    ("start now", "\"now\" is too much"),
-    ("read", "a block is missing"),
-    ("read x", "a block is a number, and \"x\" is none"),
-    ("read +1", "a block is a number, and \"+1\" is none"),
-    ("read -1", "a block is a number"),
-    ("read $", "a block is a number"),
-    ("read 16777216", "a block is 16777215 at most"),
-    ("read 99999999999999999999", "a block is a number"),
-    ("read 0..9728", "a block is 9727 at most, not 9728"),
-    ("read 5..4", "5..4 is no range: 5 is above 4"),
-    ("read 1..", "a block is a number, and \"\" is none"),
-    ("read 17 256", "R is 255 at most, not 256"),
-    ("read 17 1 256", "T is 255 at most, not 256"),
-    ("read 17 1 2 3", "\"3\" is too much"),
-    ("read 17 to", "a file's name is missing"),
-    ("write 17", "the data is missing"),
-    ("write 17 5", "\"5\" is no data: a byte is two hex digits"),
-    ("write 17 00*0", "\"00*0\" is no data: a count is 1 to 4096"),
-    ("write 17 00*4096 00", "4097 bytes are more than 4096"),
-    ("write 17 \"a", "is no text between two quotation marks"),
-    ("write 17 \"\"", "the text is empty"),
-    (
-        "write 17 \"a\" b\"",
-        "is no text between two quotation marks",
-    ),
-    ("write 17 file", "a file's name is missing"),
-    ("write 17 file a at", "an offset is missing"),
-    ("write 17 nothing 00", "\"00\" is too much"),
-    ("compare 17 with nothing", "can be written, not compared"),
-    ("compare 17 \"a\"", "R is a number"),
-    ("compare 17 10 3", "\"with\" and the data are missing"),
-    ("health 3", "\"3\" is too much"),
-    ("healthy", "\"healthy\" begins no line of a plan"),
-    ("lower 5", "a byte is two hex digits, not \"5\""),
-    ("traffic 0", "the number of commands is 1 at least"),
-    ("traffic 5 blocks $FFFFFF", "a block is 9727 at most"),
-    ("fault 17", "after fault comes sector, random or clear"),
-    (
-        "fault sector 9792 reads all crc",
-        "a sector is 9791 at most",
-    ),
-    ("fault sector 17 writes all crc", "a write has no CRC error"),
-    (
-        "fault sector 17 reads all unreadable",
-        "a read leaves its sector as it is",
-    ),
-    ("fault sector 17 reads next 0 crc", "is 1 at least"),
-    (
-        "fault sector 17 verifies all crc",
-        "\"verifies\" is neither reads, rereads, writes nor clear",
-    ),
-    ("fault sector 17 rereads", "fail or in-turn is missing"),
-    (
-        "fault sector 17 rereads all unreadable",
-        "a read leaves its sector as it is",
-    ),
-    (
-        "fault sector 17 rereads fail 31",
-        "\"of\" and a number are missing",
-    ),
-    (
-        "fault sector 17 rereads fail 31 of",
-        "the number of accesses is missing",
-    ),
-    (
-        "fault sector 17 rereads fail 31 of 0",
-        "the number of accesses is 1 at least",
-    ),
-    (
-        "fault sector 17 rereads fail 31 of 30",
-        "of 30 accesses 30 at most can fail, not 31",
-    ),
-    (
-        "fault sector 17 rereads fail 31% of 100",
-        "the number of failures is a number, and \"31%\" is none",
-    ),
-    (
-        "fault sector 17 rereads fail 31 of 100 good",
-        "\"good\" is no failure",
-    ),
-    (
-        "fault sector 17 rereads fail 31 of 100 rereads",
-        "\"rereads\" is no fault",
-    ),
-    (
-        "fault sector 17 writes fail 31 of 100",
-        "a fault is missing",
-    ),
-    (
-        "fault random seed 7 rate 3/2",
-        "the rate's first number is 2 at most",
-    ),
-    ("fault random seed 7 rate 1/2 dying", "a share is missing"),
-    (
-        "fault random seed 7 rate 1/2 dying 1",
-        "a share is N/M, as 1/50, not \"1\"",
-    ),
-    (
-        "fault random seed 7 rate 1/2 dying 0/0",
-        "the share's second number is 1 at least",
-    ),
-    (
-        "fault random seed 7 rate 1/2 dead 1/2",
-        "\"dead 1/2\" is too much",
-    ),
-    (
-        "expect joy",
-        "\"joy\" cannot be expected; the words are good, failed, ",
-    ),
-    (
-        "expect",
-        "what is expected is missing; the words are good, failed, ",
-    ),
-    (
-        "fault random sed 7",
-        "after \"fault random\" comes \"seed\", not \"sed\"",
-    ),
-    (
-        "fault sector 17 reads fail 31 100",
-        "comes \"of\", not \"100\"",
-    ),
-    ("help reads", "\"reads\" begins no line of a plan"),
-    ("help read now", "\"now\" is too much"),
-];
-
 /// Lines with a slip of the pen in them, and the word that is offered.
 const SLIPS: [(&str, &str); 24] = [
     ("raed 17", "read"),
@@ -411,7 +240,7 @@ fn near_words_are_offered() {
 
 #[test]
 fn messages_quote_little_and_no_control_characters() {
-    let long = "\u{1b}[31m\0x".repeat(1_000_000);
+    let long = "\u{1b}[31m\0x".repeat(10_000);
     for line in [
         "",
         "read ",
@@ -481,17 +310,23 @@ fn help_of_a_line_tells_of_its_parts() {
 }
 
 #[test]
-fn wrong_lines() {
-    for (line, part) in WRONG {
-        let message = parse(line).expect_err(line);
-        assert!(message.contains(part), "{line}: {message}");
+fn each_example_of_the_help_is_that_of_its_own_line() {
+    for example in help_examples() {
+        let shown = help::example(example);
+        assert!(
+            example.starts_with('#') || shown == Some(example),
+            "{example}"
+        );
     }
+    assert_eq!(help::example("xyzzy 17"), None);
 }
 
 #[test]
 fn no_line_breaks_the_parser() {
     let mut rng = reference::rng::Rng::new(9);
-    let words: Vec<&str> = WRONG.iter().flat_map(|(line, _)| line.split(' ')).collect();
+    let lines = FORMS.iter().flat_map(|(_, lines)| *lines);
+    let lines = lines.chain(VALUES).map(|(line, _)| *line);
+    let words: Vec<&str> = lines.flat_map(|line| line.split(' ')).collect();
     let mut lines = 0;
     for _ in 0..40_000 {
         let count = 1 + rng.place(7);
