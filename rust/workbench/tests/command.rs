@@ -323,7 +323,8 @@ fn pictures() {
     let line = ">spare 0: block 17, CRC error</text>";
     let svg = picture(&here, "picture", "p");
     assert!(svg.contains(line) && svg.contains(", 1 unreadable sector<"));
-    assert!(svg.contains(">1 unreadable sector: 30</text>"));
+    assert!(svg.contains(">unreadable sector 30</text>"));
+    assert!(svg.contains(">1 unreadable sector</text>"));
 
     let platter = fs::read(here.join("p")).expect("a platter");
     fs::write(here.join("table"), &platter[4960 * 532..][..532]).expect("written");

@@ -269,8 +269,19 @@ mod tests {
         assert!(svg.contains("<title>sector 4929: spare 1, unused</title>"));
         assert!(svg.contains("<title>sector 4960: the table</title>"));
         assert!(svg.contains("<title>unreadable: sectors 17</title>"));
-        assert!(svg.contains(">1 unreadable sector: 17</text>"));
-        assert!(svg.contains(">reserved, no use: 31<"));
+        assert!(svg.contains(">unreadable sector 17</text>"));
+        for key in [
+            "9728 homes of blocks",
+            "1 moved block",
+            "no bad block",
+            "1 unreadable sector",
+            "31 unused spares",
+            "no dead spare",
+            "the table, in sector 4960",
+            "31 sectors of no use",
+        ] {
+            assert!(svg.contains(&format!(">{key}</text>")), "{key}");
+        }
         assert!(svg.len() < 20_000, "{}", svg.len());
     }
 
@@ -392,7 +403,8 @@ mod tests {
         // One in a box of the enlarged cylinder, two on the map, one before their
         // list, one in the legend.
         assert_eq!(svg.matches("l6 6l-6 6l-6 -6Z").count(), 5);
-        assert!(svg.contains(">3 bad blocks: 4927..4928, 9727</text>"));
+        assert!(svg.contains(">bad blocks 4927..4928, 9727</text>"));
+        assert!(svg.contains(">3 bad blocks</text>"));
     }
 
     #[test]
@@ -419,8 +431,10 @@ mod tests {
         check::picture(&svg);
         assert!(svg.contains(">no good table found</text>"));
         assert!(svg.contains(">no good table found: the moved blocks are not known, 1 unread"));
-        assert!(svg.contains(">moved block: ?<"));
-        assert!(svg.contains(">spare, state not known: 32<"));
+        for key in ["moved block", "bad block", "dead spare"] {
+            assert!(svg.contains(&format!(">{key}s: not known</text>")), "{key}");
+        }
+        assert!(svg.contains(">32 spares, states not known</text>"));
         assert!(!svg.contains("unused") && !svg.contains(" of 32 spares"));
     }
 

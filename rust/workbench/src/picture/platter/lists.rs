@@ -1,6 +1,6 @@
 //! Bad blocks and unreadable sectors by number, below the enlarged cylinder.
 
-use super::super::svg::{counted, Canvas, EDGE, WIDTH};
+use super::super::svg::{Canvas, EDGE, WIDTH};
 use super::symbols::{bad_key, dot_key};
 use super::view::View;
 use crate::show::{ranges, wrapped};
@@ -45,11 +45,11 @@ fn list(canvas: &mut Canvas, top: i32, key: fn(&mut Canvas, i32, i32), lines: &[
     top + LINE * lines.len() as i32 + GAP
 }
 
-/// Gives a list in lines: "2 bad blocks: 3, 17". Numbers for which there is no room are
-/// counted.
+/// Gives a list in lines: "bad blocks 3, 17". Numbers for which there is no room are
+/// counted. A number behind its noun is a name, and one before it a count.
 fn lines(noun: &str, numbers: &[u32]) -> Vec<String> {
     let runs: Vec<&[u32]> = numbers.chunk_by(|one, next| one + 1 == *next).collect();
-    let title = counted(numbers.len(), noun);
+    let plural = if numbers.len() > 1 { "s" } else { "" };
     // A run has a letter, a comma and a blank at least.
     let most = runs.len().min(MOST_LINES * LETTERS / 3);
     let shown = (0..=most).rev().map(|count| {
@@ -59,7 +59,7 @@ fn lines(noun: &str, numbers: &[u32]) -> Vec<String> {
             more => format!(" and {more} more"),
         };
         wrapped(
-            &format!("{title}: {}{more}", ranges(&numbers[..shown])),
+            &format!("{noun}{plural} {}{more}", ranges(&numbers[..shown])),
             LETTERS,
         )
     });
@@ -78,14 +78,11 @@ mod tests {
     #[test]
     fn few_numbers_stand_there_all() {
         assert!(lines("bad block", &[]).is_empty());
-        assert_eq!(lines("bad block", &[17]), ["1 bad block: 17"]);
+        assert_eq!(lines("bad block", &[17]), ["bad block 17"]);
         let numbers = [3, 17, 18, 19, 9727];
-        assert_eq!(
-            lines("bad block", &numbers),
-            ["5 bad blocks: 3, 17..19, 9727"]
-        );
+        assert_eq!(lines("bad block", &numbers), ["bad blocks 3, 17..19, 9727"]);
         let all: Vec<u32> = (0..9792).collect();
-        let whole = ["9792 unreadable sectors: 0..9791"];
+        let whole = ["unreadable sectors 0..9791"];
         assert_eq!(lines("unreadable sector", &all), whole);
     }
 

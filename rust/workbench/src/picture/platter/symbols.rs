@@ -5,6 +5,7 @@ use reference::geometry::{BLOCKS, SPARES, TABLE as TABLE_SECTOR};
 use super::super::svg::{Canvas, Key, BAD, INK, MOVED, TABLE};
 use super::map::CELL;
 use super::view::{State, Use, View, RESERVED_SECTORS};
+use crate::show::count_or_no;
 
 /// What the sectors are filled with, beside moved blocks and the table.
 pub const HOME: &str = "#c3d3e6";
@@ -16,29 +17,41 @@ const DEAD: &str = "#59636e";
 /// The outline of a spare of which nothing is known.
 pub const DASHES: &str = r##"stroke="#8c959f" stroke-dasharray="3 2""##;
 
-/// The legend; a count that the table would give is "?" without one.
+/// The legend, with a count before each noun. What only a table tells is not known without
+/// one.
 pub fn keys(view: &View) -> Vec<Key> {
-    let known = |count: usize| view.known.then_some(count.to_string());
-    let count = |count| known(count).unwrap_or("?".to_string());
-    let spares: Key = match known(view.count(State::Unused)) {
-        Some(unused) => (unused_key, format!("unused spare: {unused}")),
-        None => (unknown_key, format!("spare, state not known: {SPARES}")),
+    let known = |count: usize, noun: &str| match view.known {
+        true => count_of(count, noun),
+        false => format!("{noun}s: not known"),
     };
-    let (moved, bad) = (count(view.moves.len()), count(view.bads.len()));
-    let (unreadable, dead) = (view.unreadable.len(), count(view.count(State::Dead)));
+    let spares: Key = match view.known {
+        true => (
+            unused_key,
+            count_of(view.count(State::Unused), "unused spare"),
+        ),
+        false => (unknown_key, format!("{SPARES} spares, states not known")),
+    };
     let uses = RESERVED_SECTORS.map(|sector| view.use_of(sector));
     let no_use = uses.filter(|&of| of == Use::Nothing).count();
     let table = TABLE_SECTOR.number();
     vec![
-        (home_key, format!("home of a block: {BLOCKS}")),
-        (moved_key, format!("moved block: {moved}")),
-        (bad_key, format!("bad block: {bad}")),
-        (dot_key, format!("unreadable sector: {unreadable}")),
+        (home_key, format!("{BLOCKS} homes of blocks")),
+        (moved_key, known(view.moves.len(), "moved block")),
+        (bad_key, known(view.bads.len(), "bad block")),
+        (
+            dot_key,
+            count_of(view.unreadable.len(), "unreadable sector"),
+        ),
         spares,
-        (dead_key, format!("dead spare: {dead}")),
-        (table_key, format!("table: sector {table}")),
-        (no_use_key, format!("reserved, no use: {no_use}")),
+        (dead_key, known(view.count(State::Dead), "dead spare")),
+        (table_key, format!("the table, in sector {table}")),
+        (no_use_key, format!("{no_use} sectors of no use")),
     ]
+}
+
+/// Counts things: "2 bad blocks", or "no bad block".
+fn count_of(count: usize, noun: &str) -> String {
+    count_or_no(count as u64, noun, &format!("{noun}s"))
 }
 
 /// The attribute of a filled shape.
