@@ -8,7 +8,7 @@ use reference::image;
 use usage::{ImageForm, TagPlace};
 
 use super::diskcopy::{self, DiskCopy, DATA_BYTES, TAG_BYTES};
-use crate::{platter, show};
+use crate::{platter, show, table_files};
 
 /// Counts the blocks of a drive.
 const ALL: usize = BLOCKS as usize;
@@ -146,13 +146,14 @@ pub fn importable<'a>(path: &Path, bytes: &'a [u8]) -> Result<Image<'a>, String>
             "{name} is a platter already; workbench run --platter takes it"
         )),
         None if image::read(bytes).is_ok() => Err(format!(
-            "{name} is a table's image, and no image of blocks; workbench put-table takes it"
+            "{name} is a table's image, and no image of blocks; workbench put-table puts it on a \
+             platter, and table, convert and picture take it"
         )),
         None => Err(format!(
             "{name} has {} bytes and is no image that is known; {}{}\n{KNOWN}",
             bytes.len(),
             beginning(bytes),
-            nearly(bytes.len()),
+            no_table(bytes).unwrap_or_else(|| nearly(bytes.len())),
         )),
     }
 }
@@ -180,6 +181,15 @@ fn beginning(bytes: &[u8]) -> String {
             format!("it begins with {} ({text})", hex.join(" "))
         }
     }
+}
+
+/// Says why a file is no table's image, if it has the length of one.
+fn no_table(bytes: &[u8]) -> Option<String> {
+    let long = bytes.len() == SECTOR_BYTES;
+    let fault = table_files::judged(bytes).err().filter(|_| long)?;
+    Some(format!(
+        "\n  it has the length of a table's image, and is none, {fault}"
+    ))
 }
 
 /// Says how many whole blocks a file would have, if it has another number than a drive.
@@ -260,14 +270,9 @@ mod tests {
         (0..length).map(|_| rng.byte()).collect()
     }
 
-    /// Says why a file with these bytes cannot be imported, without its folder.
+    /// Says why a file `x` with these bytes cannot be imported.
     fn refused(bytes: &[u8]) -> String {
-        let folder = test_folder("unknown");
-        let path = folder.join("x");
-        fs::write(&path, bytes).expect("written");
-        let message = importable(&path, bytes).expect_err("no image");
-        fs::remove_dir_all(&folder).expect("removed");
-        message.replace(&format!("{}/", folder.display()), "")
+        importable(Path::new("x"), bytes).expect_err("no image")
     }
 
     #[test]
@@ -401,12 +406,34 @@ mod tests {
         let saving = [&bytes, LIST_AT_END.as_bytes()].concat();
         let message = importable(&path, &saving).expect_err("a platter");
         assert!(message.ends_with(words), "{message}");
-        let message = refused(&platter::empty_table());
-        assert!(
-            message.ends_with("workbench put-table takes it"),
-            "{message}"
-        );
         fs::remove_dir_all(folder).expect("removed");
+    }
+
+    #[test]
+    fn a_tables_image_is_pointed_on_and_what_is_nearly_one_is_told() {
+        let mut table = platter::empty_table();
+        assert_eq!(
+            refused(&table),
+            "x is a table's image, and no image of blocks; workbench put-table puts it on a \
+             platter, and table, convert and picture take it"
+        );
+        table[531] ^= 1;
+        for (bytes, fault) in [
+            (&table[..], "code 7: the sum of form B is wrong"),
+            (
+                &[0; 532],
+                "code 6: the image is neither a well-formed one of form A, nor does it begin as \
+                 form B",
+            ),
+        ] {
+            let message = refused(bytes);
+            let words = format!(
+                ")\n  it has the length of a table's image, and is none, {fault}\n  known are:\n"
+            );
+            assert!(message.contains(&words), "{message}");
+            assert!(!message.contains("it would be"), "{message}");
+        }
+        assert!(!refused(&table[..531]).contains("the length of a table's"));
     }
 
     /// Checks what is said of a file with these bytes in the place of a platter.
