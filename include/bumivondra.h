@@ -8,11 +8,10 @@
  * The board turns what happens on the host's bus and at the heads into calls, and does what each call
  * answers. docs/BOARD.md has the loop, examples/board_loop.c is one. Usable from C11 and from C++11.
  *
- * WHAT IS PROMISED. For every record, every buffer and every argument a call answers as document 01 with
- * requests 1 to 4, 6 and 7 of document 02 defines it, changes the record and the buffer as it defines, reads and
- * writes nothing else, and ends. A refused call writes nothing at all, so that record and buffer may be
+ * WHAT IS PROMISED. For every record, every buffer and every argument a call answers as docs/SPEC.md
+ * says, changes the record and the buffer as it says, reads and writes nothing else, and ends. A refused call writes nothing at all, so that record and buffer may be
  * write-protected during it. No call waits, allocates, or keeps a pointer. For every byte bv_parity returns
- * what request 5 defines.
+ * the bit that it says.
  *
  * WHAT THE CALLER OWES, and no call can test:
  *   - `drive` points to a struct bv_drive, of any content, aligned as C aligns it;
@@ -23,7 +22,7 @@
  *   - one call at a time on one record.
  * For the promise that each good read gives the right bytes it also hands record and buffer on
  * unaltered from call to call, from a bv_start on that was not refused: proved of every such list of calls
- * (crates/bumivondra/specs). Further starts may stand anywhere in the list, each given any record and any
+ * (crates/bumivondra/specs). Further starts may come anywhere in the list, each given any record and any
  * buffer, so that the promise outlives a power cut: see bv_start. */
 #ifndef BUMIVONDRA_H
 #define BUMIVONDRA_H
@@ -92,7 +91,7 @@ enum {
 
 /* ON THE HOST'S BUS */
 
-/* The first command byte. Three bytes of the number follow, high first, and for a read the retry count
+/* The first command byte. Three bytes of the number follow, high first, and for a read the retries
  * and the threshold. */
 enum { BV_OP_READ = 0x00, BV_OP_WRITE = 0x01, BV_OP_WRITE_VERIFY = 0x02 };
 
@@ -304,7 +303,7 @@ struct bv_reply bv_start(struct bv_drive *drive, uint8_t *buf, size_t len);
 
 /* The host raised CMD. In idle: BV_OFFER of BV_OFFER_COMMAND, never a store. After command bytes: the offer of
  * their opcode, or BV_OFFER_COMMAND with the bytes dropped if they are fewer than 6 for a read or 4 for a write, or
- * the opcode is none. After data bytes: BV_OFFER_ACT, and where fewer than 532 were fed, the rest of the data part
+ * there is no such opcode. After data bytes: BV_OFFER_ACT, and where fewer than 532 were fed, the rest of the data part
  * is zeroed, whatever number the command has. But for that the buffer stays as it is. Elsewhere BV_BAD_PLACE. */
 struct bv_reply bv_raise(struct bv_drive *drive, uint8_t *buf, size_t len);
 
