@@ -1,10 +1,8 @@
 //! The data of a line: what its blocks are written with or compared with.
 
-use std::path::Path;
-
 use reference::geometry::SECTOR_BYTES;
 
-use crate::{files, health};
+use crate::health;
 
 /// The blocks of a line, first to last.
 #[derive(Clone, Copy, Debug, PartialEq, Eq)]
@@ -55,13 +53,17 @@ pub enum Data {
 }
 
 impl Data {
-    /// The bytes of each block in turn. Files are sought from this folder.
-    pub fn load(&self, blocks: Blocks, folder: &Path) -> Result<Vec<Vec<u8>>, String> {
+    /// The bytes of each block in turn. A file is read so by its name.
+    pub fn load(
+        &self,
+        blocks: Blocks,
+        read: impl FnOnce(&str) -> Result<Vec<u8>, String>,
+    ) -> Result<Vec<Vec<u8>>, String> {
         match self {
             Data::Bytes(bytes) => Ok(vec![bytes.clone(); blocks.count()]),
             Data::Text(text) => Ok(blocks.numbers().map(|n| filled(text, n)).collect()),
             Data::File { path, offset } => {
-                let bytes = files::read(&folder.join(path))?;
+                let bytes = read(path)?;
                 split(&bytes, *offset, blocks.count()).map_err(|fault| format!("{path} {fault}"))
             }
         }

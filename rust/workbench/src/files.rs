@@ -48,7 +48,8 @@ fn send(to: &Path, bytes: &[u8]) -> Result<(), String> {
     sent.map_err(|error| unwritten(to, error))
 }
 
-fn unwritten(path: &Path, error: io::Error) -> String {
+/// Says that a file cannot be written.
+pub fn unwritten(path: &Path, error: io::Error) -> String {
     format!("{} cannot be written: {error}", path.display())
 }
 
@@ -77,7 +78,7 @@ fn open_folder(path: &Path) -> io::Result<File> {
 }
 
 /// Finds the folder of a file.
-fn folder(path: &Path) -> &Path {
+pub fn folder(path: &Path) -> &Path {
     match path.parent() {
         Some(folder) if folder.as_os_str().is_empty() => Path::new("."),
         Some(folder) => folder,

@@ -10,6 +10,7 @@ mod page;
 #[cfg(test)]
 mod tests;
 mod traffic;
+mod unwritten;
 mod wrong;
 
 use std::io::{self, Write};

@@ -32,7 +32,7 @@ fn state(text: &str, unreadable: &[u32]) -> State {
         first: 17,
         last: 18,
     };
-    let data = Data::Text(text.to_string()).load(blocks, Path::new(""));
+    let data = Data::Text(text.to_string()).load(blocks, |_| Ok(vec![]));
     (data.expect("no file is needed"), unreadable.to_vec())
 }
 

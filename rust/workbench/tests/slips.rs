@@ -76,6 +76,40 @@ fn a_run_that_is_only_shown_writes_no_file_of_its_plan() {
     fs::remove_dir_all(here).expect("removed");
 }
 
+/// Shows a plan in each way that writes no file of it, and wants this status and message of
+/// all.
+fn shown_like_run(here: &Path, status: i32, message: &str) {
+    for words in [
+        "timeline r.plan r.svg",
+        "report r.plan r.html",
+        "odds r.plan --seed 1 --rate 0/1",
+        "odds r.plan --seeds 2 --rate 0/1",
+        "run r.plan",
+    ] {
+        let arguments: Vec<&str> = words.split(' ').collect();
+        let (ended, _, said) = workbench(here, &arguments, "");
+        assert_eq!((ended, said.as_str()), (status, message), "{words}");
+    }
+}
+
+#[test]
+fn a_run_that_is_only_shown_reads_what_it_would_have_written() {
+    let here = shop("shown-reads");
+    let plan = "start\nwrite 5 \"NEW\"\nread 5 to back.dat\ncompare 5 with file ./back.dat\n";
+    let again = "write 6 file link\ncuts from here\nwrite 6 00\nwrite 6 file back.dat\n\
+                 compare 6 with file link\ncuts to here\ncompare 6 with 4e 45 57\n";
+    fs::write(here.join("r.plan"), format!("{plan}{again}")).expect("written");
+    symlink("back.dat", here.join("link")).expect("a link");
+    // The file is not there, and then an older one of other bytes is.
+    shown_like_run(&here, 0, "");
+    fs::write(here.join("back.dat"), [7; 532]).expect("written");
+    shown_like_run(&here, 0, "");
+    fs::write(here.join("r.plan"), "start\nread 5 to none/a\n").expect("written");
+    let words = "none/a cannot be written: No such file or directory (os error 2)";
+    shown_like_run(&here, 2, &format!("workbench: r.plan:2: {words}\n"));
+    fs::remove_dir_all(here).expect("removed");
+}
+
 #[test]
 fn what_is_read_replaces_no_table_no_picture_and_no_page() {
     let here = shop("read-over");

@@ -228,6 +228,7 @@ impl<W: Write> Run<W> {
         host.tally = Tally::default();
         host.board.power.order(cut.order);
         let mut run = Run::over(host, settings, Progress::silent(), io::sink());
+        run.files = self.files.clone();
         let mut found = None;
         for (number, line) in &again.lines {
             let named = |stop| in_line(*number, stop);

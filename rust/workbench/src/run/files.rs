@@ -5,6 +5,7 @@ use std::path::{Path, PathBuf};
 
 use usage::outputs::{Identity, Output, Over};
 
+use super::unwritten::Unwritten;
 use super::{Run, Stop};
 use crate::data::{Blocks, Data};
 use crate::{files, platter};
@@ -14,6 +15,7 @@ use crate::{files, platter};
 pub struct NamedFiles {
     read: Vec<PathBuf>,
     written: Vec<PathBuf>,
+    unwritten: Unwritten,
 }
 
 impl NamedFiles {
@@ -35,7 +37,9 @@ impl<W: Write> Run<W> {
 
     /// Loads the data of a line, block by block.
     pub(super) fn load(&mut self, data: &Data, blocks: Blocks) -> Result<Vec<Vec<u8>>, Stop> {
-        let loaded = data.load(blocks, &self.settings.folder)?;
+        let folder = &self.settings.folder;
+        let read = |name: &str| self.files.unwritten.read(&folder.join(name));
+        let loaded = data.load(blocks, read)?;
         if let Data::File { path, .. } = data {
             let path = self.settings.folder.join(path);
             if !self.files.read.contains(&path) {
@@ -78,11 +82,13 @@ impl<W: Write> Run<W> {
         !(self.settings.one_of_many || self.settings.moments || self.settings.log)
     }
 
-    /// Writes what was read to a file, if the run writes files.
+    /// Writes what was read to a file, or keeps it if the run writes none.
     pub(super) fn write_to(&mut self, name: &str, bytes: &[u8]) -> Result<(), Stop> {
         let output = self.output(name, bytes.len())?;
         if self.writes_files() {
             files::write(&output, bytes)?;
+        } else {
+            self.files.unwritten.keep(&output.to, bytes)?;
         }
         self.files.written.push(output.to);
         Ok(())
