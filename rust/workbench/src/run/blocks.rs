@@ -10,6 +10,30 @@ use crate::host::{Host, Report, Retry, USUAL};
 use crate::show::{self, ranges};
 use crate::trials;
 
+/// Lists the blocks that are not as a comparison wants them.
+#[derive(Clone, Debug, Default)]
+struct Unlike {
+    /// Their good reads gave other bytes.
+    other: Vec<u32>,
+    /// Their reads failed.
+    not_read: Vec<u32>,
+}
+
+impl Unlike {
+    /// Says which blocks have other bytes and which were not read; nothing if there are none.
+    fn words(&self) -> Option<String> {
+        let all = [
+            ("other bytes in", &self.other),
+            ("not read", &self.not_read),
+        ];
+        let some = all.into_iter().filter(|(_, blocks)| !blocks.is_empty());
+        let words: Vec<String> = some
+            .map(|(words, blocks)| format!("{words} {}", ranges(blocks)))
+            .collect();
+        (!words.is_empty()).then(|| words.join("; "))
+    }
+}
+
 impl<W: Write> Run<W> {
     /// Writes blocks.
     pub fn write(&mut self, blocks: Blocks, verify: bool, data: &Data) -> Result<(), Stop> {
@@ -70,8 +94,7 @@ impl<W: Write> Run<W> {
     pub fn compare(&mut self, blocks: Blocks, retry: Retry, data: &Data) -> Result<(), Stop> {
         let wanted = self.load(data, blocks)?;
         let mut wanted = wanted.iter();
-        let mut others = vec![];
-        let mut compared = self.compared;
+        let mut unlike = Unlike::default();
         self.each("read", blocks, |host, number| {
             let report = host.read(number, retry);
             let same = wanted
@@ -79,37 +102,34 @@ impl<W: Write> Run<W> {
                 .is_some_and(|w| host.board.data().starts_with(w));
             match (report.good(), same) {
                 (true, true) => {}
-                (true, false) => compared.other += 1,
-                (false, _) => compared.failed += u32::from(!report.cut()),
-            }
-            if !(same && report.good() || report.cut()) {
-                others.push(number);
+                (true, false) => unlike.other.push(number),
+                (false, _) if report.cut() => {}
+                (false, _) => unlike.not_read.push(number),
             }
             report
         })?;
-        self.compared = compared;
-        self.mark_others(blocks, &others);
-        self.show_compared(blocks, data, &others)
+        self.compared.other += unlike.other.len() as u32;
+        self.compared.failed += unlike.not_read.len() as u32;
+        self.mark_others(blocks, &unlike.other);
+        self.show_compared(blocks, data, &unlike)
     }
 
-    /// Marks the good reads of the host's last line that brought other bytes, for the
-    /// picture.
+    /// Marks the reads of the host's last line that brought other bytes, for the picture.
     fn mark_others(&mut self, blocks: Blocks, others: &[u32]) {
         let first = self.moments.len().saturating_sub(self.last.len());
-        let reads = blocks.numbers().zip(&self.last);
-        for ((number, report), moment) in reads.zip(&mut self.moments[first..]) {
-            moment.other_bytes = report.good() && others.binary_search(&number).is_ok();
+        for (number, moment) in blocks.numbers().zip(&mut self.moments[first..]) {
+            moment.other_bytes = others.binary_search(&number).is_ok();
         }
     }
 
     /// Says whether blocks hold the data, of which these are not so. Blocks that the power
     /// kept from being read are neither.
-    fn show_compared(&mut self, blocks: Blocks, data: &Data, others: &[u32]) -> Result<(), Stop> {
+    fn show_compared(&mut self, blocks: Blocks, data: &Data, unlike: &Unlike) -> Result<(), Stop> {
         let name = data.name();
-        if !others.is_empty() {
+        if let Some(words) = unlike.words() {
             self.expectations += 1;
             self.not_met();
-            return Ok(writeln!(self.out, "  NOT {name}: {}", ranges(others))?);
+            return Ok(writeln!(self.out, "  NOT {name}: {words}")?);
         }
         if self.last_cut() {
             return Ok(());

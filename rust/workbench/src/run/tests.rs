@@ -240,7 +240,7 @@ fn what_is_not_as_expected_is_said() {
     let (ended, _, out) = played(plan, Settings::default());
     assert_eq!(ended, Ok(false));
     assert!(out.contains("  NOT as line 3 expects: failed\n"), "{out}");
-    assert!(out.contains("  NOT \"one\": 4\n"), "{out}");
+    assert!(out.contains("  NOT \"one\": other bytes in 4\n"), "{out}");
     assert!(out.contains("  1 of 3 expectations met\n"), "{out}");
     let (ended, _, _) = played("expect good\n", Settings::default());
     assert!(ended.is_err());
@@ -258,11 +258,22 @@ fn a_failed_read_compares_with_nothing_and_a_failed_store_stores_nothing() {
     let (ended, _, out) = played(plan, Settings::default());
     assert_eq!(ended, Ok(false));
     let part = "read 3: 91 reads, 91 CRC errors, table not stored (timeout), failed, E 0, \
-                entered in the bad list\n  NOT as given: 3\n  NOT as line 6 expects: stored\n\
+                entered in the bad list\n  NOT as given: not read 3\n  NOT as line 6 expects: stored\n\
                 read 3: 91 reads, 91 CRC errors, table stored, failed, E 0\n\
                 raise: offer 01, a command may come\n";
     assert!(out.contains(part), "{out}");
     assert!(out.contains("  3 of 5 expectations met\n"), "{out}");
+}
+
+#[test]
+fn other_bytes_and_reads_that_failed_are_told_apart() {
+    let plan = "start\nwrite 0..9 \"a\"\nwrite 3 \"b\"\nwrite 6..7 \"b\"\n\
+                fault sector 4..5 reads all crc\ncompare 0..9 0 1 with \"a\"\n";
+    let (ended, _, out) = played(plan, Settings::default());
+    assert_eq!(ended, Ok(false));
+    let line = "\n  NOT \"a\": other bytes in 3, 6..7; not read 4..5\n";
+    assert!(out.contains(line), "{out}");
+    assert!(out.contains("  0 of 1 expectations met\n"), "{out}");
 }
 
 #[test]

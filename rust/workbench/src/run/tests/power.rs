@@ -161,7 +161,7 @@ fn a_cut_compare_says_nothing_of_blocks_that_were_not_read() {
     let (ended, _, out) = played(plan, Settings::default());
     assert_eq!(ended, Ok(false), "{out}");
     assert_eq!(out.matches(" are \"one\"").count(), 0);
-    assert!(out.contains("\n  NOT \"two\": 3\n"), "{out}");
+    assert!(out.contains("\n  NOT \"two\": other bytes in 3\n"), "{out}");
     assert!(out.contains("  2 of 3 expectations met\n"), "{out}");
 }
 
