@@ -207,7 +207,8 @@ impl<W: Write> Run<W> {
     pub fn finish(mut self) -> Result<(bool, Vec<Moment>), Stop> {
         writeln!(self.out)?;
         writeln!(self.out, "Summary")?;
-        for line in summary::lines(&self.host, &self.times) {
+        let platter = self.settings.platter.as_deref();
+        for line in summary::lines(&self.host, &self.times, platter) {
             writeln!(self.out, "  {line}")?;
         }
         if self.expectations > 0 {

@@ -1,5 +1,7 @@
 //! The summary at the end of a run.
 
+use std::path::Path;
+
 use reference::geometry::BLOCKS;
 use reference::image::{Spare, Table};
 
@@ -19,8 +21,8 @@ pub fn known_table(host: &Host, table: &Table) -> String {
     format!("{}, {counts}", table::run(table))
 }
 
-/// All lines of a summary but the last.
-pub fn lines(host: &Host, times: &Times) -> Vec<String> {
+/// All lines of a summary but the last. The platter may have a file.
+pub fn lines(host: &Host, times: &Times, platter: Option<&Path>) -> Vec<String> {
     let tally = host.tally;
     let good = tally.commands - tally.failed;
     let mut counts = vec![count(
@@ -40,12 +42,23 @@ pub fn lines(host: &Host, times: &Times) -> Vec<String> {
             lines.extend(places(&table));
             lines.extend(table::bad_blocks(&table));
         }
-        None if host.board.is_on() => lines.push(String::from("no table")),
+        None if host.board.is_on() => lines.push(no_table(platter)),
         None => lines.push(String::from("the drive is off")),
     }
     lines.push(unreadable(host));
     lines.extend(dead(host));
     lines
+}
+
+/// Says that there is no table, and which command helps if the platter has a file.
+fn no_table(platter: Option<&Path>) -> String {
+    match platter {
+        Some(path) => {
+            let path = path.display();
+            format!("no table; workbench table {path} says what can be had")
+        }
+        None => String::from("no table"),
+    }
 }
 
 /// Says which power cuts were ordered and did not come.

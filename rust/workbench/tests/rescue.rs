@@ -165,8 +165,10 @@ fn a_table_that_was_taken_off_is_put_back() {
 fn an_empty_table_makes_the_drive_usable() {
     let here = with_lost_table("emptied");
     let write = "start\nwrite 5 \"again\"\nexpect good\n";
-    let (status, _, _) = workbench(&here, &ON_P, write);
+    let (status, out, _) = workbench(&here, &ON_P, write);
     assert_eq!(status, 1, "no table, no good write");
+    let words = "\n  no table; workbench table p says what can be had\n";
+    assert!(out.contains(words), "{out}");
     let out = done(&here, &["put-table", "--empty", "p"], "");
     assert!(
         out.starts_with("p: an empty table, form B, run number 0, no spare used, no bad block\n")
