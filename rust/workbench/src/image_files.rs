@@ -16,7 +16,8 @@ use crate::board::Board;
 use crate::host::{Host, Retry};
 use crate::platter::{Platter, PlatterFile};
 use crate::progress::Progress;
-use crate::{files, rescue, show, table_files};
+use crate::rescue::{self, Spares};
+use crate::{files, show, table_files};
 
 pub use forms::{no_platter, pointed, unknown, LENGTH};
 
@@ -104,19 +105,22 @@ fn write_all(blocks: &[u8], platter: &Path) -> Result<(), String> {
     file.save(host.board.platter_mut())
 }
 
-/// Says what was exported: the blocks that could not be read, and those whose tags were
-/// not zero and are not in the image.
+/// Says what was exported: the blocks that could not be read, those whose tags were not
+/// zero and are not in the image, and without a table the spares.
 #[derive(Clone, Debug, Default, PartialEq, Eq)]
 pub struct Exported {
     pub lost: Vec<u32>,
     pub dropped: Vec<u32>,
+    pub spares: Spares,
 }
 
 /// Reads all blocks of a platter into an image, and leaves the platter. If some could not
 /// be read, the image is written only if it is wanted all the same, with zeros for them.
 pub fn export(platter: &Path, image: &Path, how: Export) -> Result<Exported, String> {
     let mut source = Platter::load(platter)?;
+    let mut spares = Spares::default();
     if how.without_table {
+        spares = Spares::of(&source).0;
         source = rescue::as_if_none_moved(platter, source)?;
     }
     let judged = table_files::held(&source).and_then(|bytes| table_files::judged(&bytes));
@@ -127,8 +131,11 @@ pub fn export(platter: &Path, image: &Path, how: Export) -> Result<Exported, Str
     if lost.is_empty() || how.keep_going {
         files::write(&Output::to_new(image, "the image"), &written.bytes)?;
     }
-    let dropped = written.dropped;
-    Ok(Exported { lost, dropped })
+    Ok(Exported {
+        lost,
+        dropped: written.dropped,
+        spares,
+    })
 }
 
 /// Reads all blocks of a platter that has a table, those that cannot be read as zeros.
@@ -170,13 +177,14 @@ impl Exported {
     }
 
     /// Says what the image has not, or not for certain.
-    pub fn notes(&self, how: Export) -> Vec<String> {
+    pub fn notes(&self, platter: &Path, how: Export) -> Vec<String> {
         let mut notes = vec![];
         if how.without_table {
             notes.push(String::from(
                 "  each block is as it is in its home sector: one that moved comes with old \
                  bytes or none, and nobody knows which moved",
             ));
+            notes.extend(self.spares.notes(platter));
         }
         if !self.dropped.is_empty() {
             let blocks = show::ranges(&self.dropped);

@@ -20,6 +20,7 @@ use workbench::image_files::Imported;
 use workbench::odds::{self, Ask};
 use workbench::picture::{self, Moment};
 use workbench::progress::Progress;
+use workbench::rescue::Spares;
 use workbench::run::{Run, Settings, Stop};
 use workbench::table_files::Source;
 use workbench::{files, image_files, report, rescue, show, table_files};
@@ -63,6 +64,7 @@ fn carry_out(work: Work) -> Result<bool, String> {
             image,
             how,
         } => export(&platter, &image, how),
+        Work::Spares { platter, to } => spares(&platter, &to),
         Work::Table { source, to } => table(&source, to.as_deref()),
         Work::PutTable {
             table,
@@ -178,7 +180,7 @@ fn export(platter: &Path, image: &Path, how: Export) -> Result<bool, String> {
     let written = done.lost.is_empty() || how.keep_going;
     if written {
         let mut lines = vec![done.line(platter, image, how)];
-        lines.extend(done.notes(how));
+        lines.extend(done.notes(platter, how));
         say_lines(&lines)?;
     }
     if done.lost.is_empty() {
@@ -192,6 +194,19 @@ fn export(platter: &Path, image: &Path, how: Export) -> Result<bool, String> {
     };
     eprintln!("workbench: {platter}: blocks that cannot be read: {blocks}; {rest}");
     Ok(false)
+}
+
+/// Takes the spares of a platter off. Says whether all could be read.
+fn spares(platter: &Path, to: &Path) -> Result<bool, String> {
+    let done = Spares::take(platter, to)?;
+    say_lines(&done.lines(platter, to))?;
+    match done.fault(platter, to) {
+        Some(fault) => {
+            eprintln!("workbench: {fault}");
+            Ok(false)
+        }
+        None => Ok(true),
+    }
 }
 
 /// Shows the table of a platter file, or of a table's image, or takes it off to a file.

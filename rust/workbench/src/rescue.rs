@@ -1,5 +1,8 @@
 //! Tables that are taken off a platter and put on it, and platters whose table is gone.
-//! The blocks of such a platter can be read in their home sectors, as if none had moved.
+//! The blocks of such a platter can be read in their home sectors, as if none had moved;
+//! `spares` has what did.
+
+mod spares;
 
 use std::collections::BTreeSet;
 use std::path::{Path, PathBuf};
@@ -14,6 +17,8 @@ use crate::platter::{self, Platter, PlatterFile};
 use crate::show;
 use crate::table_files::{self, held, judged, no_image, summary, Source};
 
+pub use spares::Spares;
+
 /// Says why a platter has no good table, and what can be had all the same.
 pub fn no_table(path: &Path, fault: &str) -> String {
     let name = path.display();
@@ -23,6 +28,9 @@ pub fn no_table(path: &Path, fault: &str) -> String {
   workbench export --without-table {name} IMAGE
     each block as it is in its home sector; one that moved comes with old bytes or none
     (with --keep-going, and zeros for those that cannot be read)
+  workbench export --spares {name} FILE
+    the 32 spares, sectors 4928..4959, with the newest bytes of the blocks that moved; of
+    which blocks, only the bytes can tell. Take them first: a drive in use writes there
   workbench put-table FILE {name}
     a table that was taken off earlier; a block that moved since is then read from its old
     sector, and the old bytes there look good

@@ -33,6 +33,8 @@ fn helps(message: &str) {
         "workbench: p has no good table, ",
         "\n  workbench export --without-table p IMAGE\n",
         "one that moved comes with old bytes or none\n",
+        "\n  workbench export --spares p FILE\n    the 32 spares, sectors 4928..4959, with the newest bytes \
+         of the blocks that moved; of\n",
         "\n  workbench put-table FILE p\n",
         "a block that moved since is then read from its old\n    sector, and the old bytes there look good\n",
         "\n  workbench put-table --empty p\n",
@@ -114,7 +116,10 @@ fn the_blocks_come_from_their_home_sectors() {
     let words = ["export", "--without-table", "--keep-going", "p", "a"];
     let (status, out, message) = workbench(&here, &words, "");
     let said = "a: 9727 of the 9728 blocks of p\n  each block is as it is in its home sector: \
-                one that moved comes with old bytes or none, and nobody knows which moved\n";
+                one that moved comes with old bytes or none, and nobody knows which moved\n  \
+                bytes other than zeros are in spares 0..1 (sectors 4928..4929)\n  \
+                (the newest of blocks that moved; workbench export --spares p FILE takes them \
+                off)\n";
     assert_eq!((status, out.as_str()), (1, said));
     assert!(
         message.ends_with("cannot be read: 17; a has zeros for them\n"),
@@ -126,6 +131,50 @@ fn the_blocks_come_from_their_home_sectors() {
     // Block 300 moved: these are its old bytes, with its own number in them.
     assert!(block(&image, 300).starts_with(b"old"));
     assert!(fs::read(here.join("p")).expect("a platter") == before);
+    fs::remove_dir_all(here).expect("removed");
+}
+
+#[test]
+fn the_newest_bytes_of_moved_blocks_come_from_the_spares() {
+    let here = with_lost_table("spares");
+    let before = fs::read(here.join("p")).expect("a platter");
+    let take = ["export", "--spares", "p", "spares.dat"];
+    let out = done(&here, &take, "");
+    let said = "spares.dat: spares 0..31 (sectors 4928..4959) of p\n  \
+                bytes other than zeros are in spares 0..1 (sectors 4928..4929)\n";
+    assert_eq!(out, said);
+    let spares = fs::read(here.join("spares.dat")).expect("spares");
+    assert_eq!(spares.len(), 32 * 532);
+    assert!(block(&spares, 0).starts_with(b"new, block 17. "));
+    assert!(block(&spares, 1).starts_with(b"new, block 300. "));
+    assert!(fs::read(here.join("p")).expect("a platter") == before);
+    let (status, out, message) = workbench(&here, &take, "");
+    assert_eq!((status, out.as_str()), (2, ""));
+    let words = "what the spares hold is not written there\n";
+    assert!(message.ends_with(words), "{message}");
+    // An empty table and two writes bring all back, as the guide says.
+    done(&here, &["put-table", "--empty", "p"], "");
+    let plan = "start\nwrite 17 file spares.dat\nwrite 300 file spares.dat at 532\n\
+                compare 17 with \"new\"\ncompare 300 with \"new\"\n";
+    done(&here, &ON_P, plan);
+    assert!(GUIDE.contains("\n    write 300 file spares.dat at 532\n"));
+    fs::remove_dir_all(here).expect("removed");
+}
+
+#[test]
+fn a_spare_that_cannot_be_read_comes_as_zeros() {
+    let here = with_lost_table("lost-spare");
+    fs::write(here.join("p.unreadable"), "4928\n4960\n").expect("written");
+    let (status, out, message) = workbench(&here, &["export", "--spares", "p", "s"], "");
+    assert_eq!(status, 1);
+    let said =
+        "s: spares 0..31 (sectors 4928..4959) of p\n  bytes other than zeros are in spare 1 \
+                (sector 4929)\n";
+    assert_eq!(out, said);
+    let said = "workbench: p: what cannot be read: spare 0 (sector 4928); s has zeros there\n";
+    assert_eq!(message, said);
+    let spares = fs::read(here.join("s")).expect("spares");
+    assert!(block(&spares, 0) == [0; 532] && block(&spares, 1).starts_with(b"new"));
     fs::remove_dir_all(here).expect("removed");
 }
 

@@ -64,6 +64,11 @@ impl<'a> Sorted<'a> {
         self.options.iter().any(|(given, _)| *given == option)
     }
 
+    /// Says whether an option is given, and no other.
+    pub fn has_alone(&self, option: &str) -> bool {
+        matches!(self.options[..], [(given, _)] if given == option)
+    }
+
     /// Returns the value of an option, if it is given.
     pub fn value(&self, option: &str) -> Option<&'a str> {
         let given = self.options.iter().find(|(given, _)| *given == option);

@@ -33,6 +33,11 @@ pub enum Work {
         image: PathBuf,
         how: Export,
     },
+    /// Take the spares off a platter.
+    Spares {
+        platter: PathBuf,
+        to: PathBuf,
+    },
     Table {
         /// A platter, or a table's image.
         source: PathBuf,
@@ -198,13 +203,16 @@ fn import(words: &[&str]) -> Result<Work, String> {
 fn export(words: &[&str]) -> Result<Work, String> {
     let known = Known {
         command: "export",
-        flags: &["--keep-going", "--without-table"],
+        flags: &["--keep-going", "--spares", "--without-table"],
         valued: &["--form", "--tags"],
     };
     let words = Sorted::new(words, known)?;
     let [platter, image] = words.names() else {
         return misused("export");
     };
+    if words.has("--spares") {
+        return spares(&words, platter, image);
+    }
     let form = words.value("--form").map(image_form).transpose()?;
     let tags = words.value("--tags").map(tag_place).transpose()?;
     let form = form.unwrap_or_default();
@@ -223,6 +231,17 @@ fn export(words: &[&str]) -> Result<Work, String> {
             keep_going: words.has("--keep-going"),
             without_table: words.has("--without-table"),
         },
+    })
+}
+
+fn spares(words: &Sorted, platter: &str, to: &str) -> Result<Work, String> {
+    if !words.has_alone("--spares") {
+        let message = "--spares goes with no other option: the spares are taken off as they are";
+        return Err(String::from(message));
+    }
+    Ok(Work::Spares {
+        platter: readable(platter)?,
+        to: new(to, "what the spares hold")?,
     })
 }
 
@@ -663,6 +682,18 @@ mod tests {
     }
 
     #[test]
+    fn spares_go_to_a_new_file() {
+        let work = Work::Spares {
+            platter: PathBuf::from(HERE),
+            to: PathBuf::from(NOWHERE),
+        };
+        assert_eq!(asks(&["export", "--spares", HERE, NOWHERE]), Ok(work));
+        let message = fault(&["export", HERE, HERE, "--spares"]);
+        let words = "what the spares hold is not written there";
+        assert!(message.ends_with(words), "{message}");
+    }
+
+    #[test]
     fn wrong_options_of_import_and_export() {
         for (words, said) in [
             (&["--form", "dmg"][..], "\"dmg\" is no form of an image: "),
@@ -670,6 +701,10 @@ mod tests {
             (&["--tags", "last"], "--tags goes with --form raw512 or "),
             (&["--replace"], "\"--replace\" is no option of export; "),
             (&["--form"], "--form needs a form: "),
+            (
+                &["--spares", "--keep-going"],
+                "--spares goes with no other option: ",
+            ),
         ] {
             let message = fault(&[&["export", HERE, NOWHERE], words].concat());
             assert!(message.starts_with(said), "{message}");
