@@ -290,7 +290,7 @@ fn what_is_no_table_is_refused_and_nothing_is_written() {
     fs::write(here.join("t"), &image).expect("written");
     let (status, _, message) = workbench(&here, &["convert", "t", "p"], "");
     assert_eq!(status, 2);
-    assert!(message.contains("p is there already"), "{message}");
+    assert!(message.contains("p is a platter (name "), "{message}");
     let (status, _, message) = workbench(&here, &["convert", "t", "none/out"], "");
     assert_eq!(status, 2);
     assert!(message.contains("none/out cannot be written"), "{message}");

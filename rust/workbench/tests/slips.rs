@@ -367,13 +367,51 @@ fn a_read_replaces_no_platter_no_list_no_plan_and_no_data() {
 #[test]
 fn a_read_replaces_what_it_wrote_before() {
     let here = shop("reads-again");
-    let plan = "start\nwrite 3..4 \"two\"\nread 3 to back\nwrite 5 file back\nread 3..4 to back\n\
-                compare 3..4 with file back\nread 3..4 to back\n";
+    let on = ["run", "--platter", "p"];
+    let plan =
+        "start\nwrite 3..4 \"two\"\nread 3..4 to back\nwrite 5..6 file back\nread 3 to back\n\
+                compare 3 with file back\nread 3..4 to back\n";
     for _ in 0..2 {
-        let (status, _, message) = workbench(&here, &["run", "--platter", "p"], plan);
-        assert_eq!((status, message.as_str()), (0, ""));
+        done(&here, &on, plan);
         assert_eq!(fs::read(here.join("back")).expect("bytes").len(), 1064);
     }
+    // A run that begins with another length finds what an earlier one left.
+    let words = "standard input:2: back is there already, with 1064 bytes and not 532 (remove it, \
+                 or name another file): what is read is not written there";
+    refused(
+        &here,
+        &on,
+        "start\nread 3 to back\nread 3..4 to back\n",
+        words,
+    );
+    fs::remove_dir_all(here).expect("removed");
+}
+
+#[test]
+fn a_read_replaces_nothing_of_another_length() {
+    let here = shop("reads-length");
+    fs::write(here.join("front.dat"), [7; 5320]).expect("written");
+    fs::write(here.join("cut.image"), vec![7; 5_000_000]).expect("written");
+    fs::write(here.join("run.sh"), "./workbench week\n").expect("written");
+    fs::write(here.join("empty"), "").expect("written");
+    symlink("front.dat", here.join("front-link")).expect("a link");
+    for (to, length) in [
+        ("front.dat", 5320),
+        ("front-link", 5320),
+        ("cut.image", 5_000_000),
+        ("run.sh", 17),
+        ("b.plan", 6),
+    ] {
+        let words = format!(
+            "standard input:2: {to} is there already, with {length} bytes and not 2660 (remove \
+             it, or name another file): what is read is not written there"
+        );
+        let plan = format!("start\nread 0..4 to {to}\nwrite 0..9 file front.dat\n");
+        refused(&here, &["run"], &plan, &words);
+    }
+    // What has nothing in it loses nothing.
+    let out = done(&here, &["run"], "start\nread 0..4 to empty\n");
+    assert!(out.contains("  2660 bytes written to empty\n"), "{out}");
     fs::remove_dir_all(here).expect("removed");
 }
 
@@ -441,20 +479,31 @@ fn pipes_are_read_and_written() {
 #[test]
 fn new_files_replace_nothing_and_are_no_lists() {
     let here = shop("new-files");
-    fs::remove_file(here.join("p.unreadable")).expect("removed");
     let there = "there already (remove it, or name another file)";
     let list = "the list of unreadable sectors of p";
-    for (command, what) in [
-        (&["export", "p"][..], "the image"),
-        (&["export", "--form", "diskcopy", "p"], "the image"),
-        (&["export", "--form", "raw512", "p"], "the image"),
-        (&["table", "p", "--to"], "the table"),
-        (&["convert", "table"], "the table"),
-        (&["import", "a.image"], "the platter"),
+    let platter = "a platter (name another file)";
+    let exported = "the platter that is exported (name another file)";
+    let taken_off = "the platter whose table is taken off (name another file)";
+    for (command, what, p) in [
+        (&["export", "p"][..], "the image", exported),
+        (
+            &["export", "--form", "diskcopy", "hard"],
+            "the image",
+            exported,
+        ),
+        (
+            &["export", "--form", "raw512", "soft"],
+            "the image",
+            exported,
+        ),
+        (&["table", "p", "--to"], "the table", taken_off),
+        (&["convert", "table"], "the table", platter),
+        (&["import", "a.image"], "the platter", platter),
     ] {
         for (to, why) in [
-            ("p", there),
-            ("soft", there),
+            ("p", p),
+            ("soft", p),
+            ("other", platter),
             ("my.plan", there),
             ("p.unreadable", list),
             ("soft-list", list),
@@ -462,6 +511,44 @@ fn new_files_replace_nothing_and_are_no_lists() {
             let words = format!("{to} is {why}: {what} is not written there");
             refused(&here, &[command, &[to]].concat(), "", &words);
         }
+    }
+    fs::remove_file(here.join("p.unreadable")).expect("removed");
+    let words = format!("soft-list is {list}: the image is not written there");
+    refused(&here, &["export", "other", "soft-list"], "", &words);
+    fs::remove_dir_all(here).expect("removed");
+}
+
+#[test]
+fn nobody_is_told_to_remove_what_holds_a_drives_data() {
+    let here = shop("must-stay");
+    fs::write(here.join("a.dc42"), diskcopy(2)).expect("written");
+    symlink("table", here.join("table-link")).expect("a link");
+    for (command, why, what) in [
+        (["convert", "table", "table"], "what is converted", "table"),
+        (
+            ["convert", "table", "table-link"],
+            "what is converted",
+            "table",
+        ),
+        (["import", "p", "p"], "what is imported", "platter"),
+        (
+            ["import", "a.image", "a.image"],
+            "what is imported",
+            "platter",
+        ),
+        (["import", "a.image", "table"], "a table's image", "platter"),
+        (
+            ["export", "p", "a.image"],
+            "an image of 9728 blocks",
+            "image",
+        ),
+        (["export", "p", "a.dc42"], "a DiskCopy 4.2 image", "image"),
+    ] {
+        let words = format!(
+            "{} is {why} (name another file): the {what} is not written there",
+            command[2]
+        );
+        refused(&here, &command, "", &words);
     }
     fs::remove_dir_all(here).expect("removed");
 }

@@ -21,11 +21,14 @@ pub struct NamedFiles {
 impl NamedFiles {
     /// Lists the files that were read, without those that the run made itself.
     fn inputs(&self) -> Vec<PathBuf> {
-        let made = |path: &&PathBuf| {
-            let read = Identity::of(path);
-            !self.written.iter().any(|path| Identity::of(path) == read)
-        };
-        self.read.iter().filter(made).cloned().collect()
+        let read = self.read.iter().filter(|path| !self.made(path));
+        read.cloned().collect()
+    }
+
+    /// Says whether the run made this file.
+    fn made(&self, path: &Path) -> bool {
+        let file = Identity::of(path);
+        self.written.iter().any(|path| Identity::of(path) == file)
     }
 }
 
@@ -52,10 +55,19 @@ impl<W: Write> Run<W> {
     /// Makes the output of so many bytes to a file that a line names, if it may go there.
     pub(super) fn output(&self, name: &str, length: usize) -> Result<Output, Stop> {
         let to = self.settings.folder.join(name);
-        let over = Over::Bytes(length);
+        let over = self.may_replace(&to, length);
         let output = Output::new(&to, over, "what is read", self.not_to_be_replaced());
         output.check()?;
         Ok(output)
+    }
+
+    /// Says what so many bytes may replace: what an earlier run left, which has as many, and
+    /// what this run made, whatever it has.
+    fn may_replace(&self, to: &Path, length: usize) -> Over {
+        match self.writes_files() && !self.files.made(to) {
+            true => Over::Bytes(length),
+            false => Over::Own(length),
+        }
     }
 
     /// Lists what no output of the run may replace, and says what each is.

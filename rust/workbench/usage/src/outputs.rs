@@ -51,8 +51,11 @@ pub enum Over {
     Nothing,
     /// A file of this kind, or one with nothing in it.
     Same(Kind),
-    /// Any file that is nothing known. It gets so many bytes.
+    /// A file of so many bytes that is nothing known, or one with nothing in it.
     Bytes(usize),
+    /// Any file that is nothing known, since this run made it or writes none. It gets so many
+    /// bytes.
+    Own(usize),
 }
 
 /// Names a kind of file, by which an older one is known.
@@ -102,6 +105,9 @@ impl Kind {
 /// Says what can be done about a file that is in the way.
 const OTHERWISE: &str = "(remove it, or name another file)";
 
+/// Says what can be done about a file that is in the way and must stay.
+const ELSEWHERE: &str = "(name another file)";
+
 /// Reads the beginning of a file; nothing of one that cannot be read.
 fn beginning(path: &Path) -> Vec<u8> {
     let mut start = vec![];
@@ -150,6 +156,12 @@ impl Output {
     /// Makes an output that goes to a new file.
     pub fn to_new(to: &Path, what: &'static str) -> Output {
         Output::new(to, Over::Nothing, what, vec![])
+    }
+
+    /// Says of an output which file it is made from.
+    pub fn made_from(mut self, source: &Path, what: &'static str) -> Output {
+        self.inputs.push((source.to_path_buf(), what));
+        self
     }
 
     /// Makes the picture of a platter, or of a table's image.
@@ -206,19 +218,41 @@ impl Output {
         if kind.is_dir() {
             return Some(String::from("a folder"));
         }
-        if self.over == Over::Nothing {
-            return Some(format!("there already {OTHERWISE}"));
-        }
         if kind.is_block_device() {
             return Some(String::from("a device with data of its own"));
+        }
+        if self.over == Over::Nothing {
+            return Some(self.why_not_new(found));
         }
         if !kind.is_file() {
             return None;
         }
-        let same = |(path, _): &&(PathBuf, _)| Identity::of(path) == Some(found.into());
-        let input = self.inputs.iter().find(same);
-        let input = input.map(|(_, what)| String::from(*what));
+        let input = self.input(found).map(String::from);
         input.or_else(|| self.why_not_over_this(found))
+    }
+
+    /// Says which of the inputs a file is, if it is one.
+    fn input(&self, found: &Metadata) -> Option<&'static str> {
+        let same = |(path, _): &&(PathBuf, _)| Identity::of(path) == Some(found.into());
+        self.inputs.iter().find(same).map(|(_, what)| *what)
+    }
+
+    /// Says what is there in the place of a new file. Nobody is told to remove what cannot be
+    /// made again.
+    fn why_not_new(&self, found: &Metadata) -> String {
+        let there = String::from("there already");
+        let stays = match self.input(found) {
+            Some(input) => Some(String::from(input)),
+            None if found.is_file() => kept(&self.to, found.len()),
+            None => Some(there.clone()),
+        };
+        match stays {
+            Some(what) => format!("{what} {ELSEWHERE}"),
+            None => {
+                let list = self.why_not_a_list();
+                list.unwrap_or_else(|| format!("{there} {OTHERWISE}"))
+            }
+        }
     }
 
     /// Says why a plain file that is no input may not be replaced.
@@ -230,10 +264,9 @@ impl Output {
             Over::Same(kind) if found.len() > 0 && !kind.has(&self.to) => {
                 Some(kind.why_not_over(&self.to))
             }
-            Over::Bytes(length) => made_otherwise(&self.to).or_else(|| {
-                let same = length as u64 == found.len();
-                (!same).then(|| image(&self.to, found.len())).flatten()
-            }),
+            Over::Bytes(length) => known_as(&self.to, found.len(), length)
+                .or_else(|| of_another_length(found.len(), length)),
+            Over::Own(length) => known_as(&self.to, found.len(), length),
             _ => None,
         }
     }
@@ -313,17 +346,32 @@ fn has_at(path: &Path, place: u64, text: &str) -> io::Result<bool> {
     Ok(bytes == text.as_bytes())
 }
 
-/// Says what a file is that another command made, or that belongs to a platter, if it is
-/// one: a table's image, what `put-table` kept, a picture, a page, odds.
-fn made_otherwise(path: &Path) -> Option<String> {
+/// Says what a file of this length is, if it holds a drive's data: a platter, a table's image
+/// or an image of blocks.
+fn kept(path: &Path, length: u64) -> Option<String> {
+    match is_platter(path) {
+        true => Some(String::from("a platter")),
+        false => table_image(path).or_else(|| image(path, length)),
+    }
+}
+
+/// Says so if a file is a table's image, or what `put-table` kept.
+fn table_image(path: &Path) -> Option<String> {
     let name = path.file_name().unwrap_or_default().to_string_lossy();
     let table = |text: &[u8]| {
         let mut start = vec![0; text.len()];
         let read = File::open(path).and_then(|mut file| file.read_exact(&mut start));
         read.is_ok() && start == text
     };
-    if table(b"PROFILE") || table(b"\xF0\x78\x3C\x1E") || name.contains(".old-table") {
-        return Some(String::from("a table's image"));
+    let is_table = table(b"PROFILE") || table(b"\xF0\x78\x3C\x1E") || name.contains(".old-table");
+    is_table.then(|| String::from("a table's image"))
+}
+
+/// Says what a file is that another command made, or that belongs to a platter, if it is
+/// one: a table's image, what `put-table` kept, a picture, a page, odds.
+fn made_otherwise(path: &Path) -> Option<String> {
+    if let Some(table) = table_image(path) {
+        return Some(table);
     }
     if is_svg(path) {
         return Some(String::from("a picture"));
@@ -331,6 +379,18 @@ fn made_otherwise(path: &Path) -> Option<String> {
     let mut kinds = [Kind::Page, Kind::Odds].into_iter();
     let kind = kinds.find(|kind| kind.has(path))?;
     Some(format!("a {}", kind.words()))
+}
+
+/// Says what a file of this length is that so many bytes may not replace, if it is known.
+fn known_as(path: &Path, length: u64, bytes: usize) -> Option<String> {
+    let other = length != bytes as u64;
+    made_otherwise(path).or_else(|| other.then(|| image(path, length)).flatten())
+}
+
+/// Says that a file with something in it has another length than these bytes, if it does.
+fn of_another_length(length: u64, bytes: usize) -> Option<String> {
+    let other = length > 0 && length != bytes as u64;
+    other.then(|| format!("there already, with {length} bytes and not {bytes} {OTHERWISE}"))
 }
 
 /// Says what image of blocks a file of this length is, if it is one.
@@ -444,7 +504,8 @@ mod tests {
         let bytes = |to: &Path| Output::new(to, Over::Bytes(532), "what is read", vec![]);
         for length in [0, 532, PLATTER_LENGTH - 1, PLATTER_LENGTH + 50] {
             file(&platter, length);
-            assert_eq!(bytes(&link).check(), Ok(()), "{length}");
+            let own = Output::new(&link, Over::Own(532), "what is read", vec![]);
+            assert_eq!(own.check(), Ok(()), "{length}");
             assert_eq!(bytes(&list).check(), Ok(()), "{length}");
         }
         let at_end = [
@@ -470,16 +531,37 @@ mod tests {
     }
 
     #[test]
+    fn bytes_replace_as_many_bytes_or_none() {
+        let here = folder("lengths");
+        let to = here.join("a.dat");
+        let over = |over| Output::new(&to, over, "what is read", vec![]);
+        for (length, refused) in [(0, false), (531, true), (532, false), (533, true)] {
+            file(&to, length);
+            let message = over(Over::Bytes(532)).check().err();
+            let words = format!(
+                "{} is there already, with {length} bytes and not 532 (remove it, or name \
+                 another file): what is read is not written there",
+                to.display()
+            );
+            assert_eq!(message, refused.then_some(words));
+            assert_eq!(over(Over::Own(532)).check(), Ok(()));
+        }
+        fs::remove_dir_all(here).expect("removed");
+    }
+
+    #[test]
     fn what_is_no_plain_file_and_what_must_be_new() {
         let here = folder("kinds");
         let message = refusal(Output::picture(&here.join("p"), &here));
         assert!(message.ends_with(" is a folder: the picture is not written there"));
         let null = Path::new("/dev/null");
         assert_eq!(Output::picture(null, null).check(), Ok(()));
-        for to in [null, &here.join("there")] {
-            fs::write(here.join("there"), "").expect("written");
+        let there = here.join("there");
+        fs::write(&there, "").expect("written");
+        for (to, advice) in [(null, "(name"), (&there, "(remove it, or name")] {
             let message = refusal(Output::to_new(to, "the image"));
-            assert!(message.contains(" is there already (remove it, "));
+            let words = format!(" is there already {advice} another file): the image is not ");
+            assert!(message.contains(&words), "{message}");
         }
         let output = Output::to_new(&here.join("new"), "the image");
         assert_eq!(output.check(), Ok(()));

@@ -132,7 +132,7 @@ pub fn parse(words: &[&str], plans: Option<&Path>) -> Result<Work, String> {
         ["put-table", rest @ ..] => put_table(rest),
         ["convert", from, to] => Ok(Work::Convert {
             from: readable(from)?,
-            to: new(to, "the table")?,
+            to: new(to, "the table", (from, "what is converted"))?,
         }),
         ["picture", source, to] => picture(source, to),
         ["timeline", name, to] => timeline(plan(name, plans)?, to),
@@ -194,7 +194,7 @@ fn import(words: &[&str]) -> Result<Work, String> {
     };
     Ok(Work::Import {
         image: readable(image)?,
-        platter: new(platter, "the platter")?,
+        platter: new(platter, "the platter", (image, "what is imported"))?,
         tags: words.value("--tags").map(tag_place).transpose()?,
         keep_going: words.has("--keep-going"),
     })
@@ -224,7 +224,11 @@ fn export(words: &[&str]) -> Result<Work, String> {
     }
     Ok(Work::Export {
         platter: readable(platter)?,
-        image: new(image, "the image")?,
+        image: new(
+            image,
+            "the image",
+            (platter, "the platter that is exported"),
+        )?,
         how: Export {
             form,
             tags: tags.unwrap_or_default(),
@@ -274,12 +278,11 @@ fn table(words: &[&str]) -> Result<Work, String> {
     let [source] = words.names() else {
         return misused("table");
     };
+    let from = (*source, "the platter whose table is taken off");
+    let to = words.value("--to");
     Ok(Work::Table {
         source: readable(source)?,
-        to: words
-            .value("--to")
-            .map(|to| new(to, "the table"))
-            .transpose()?,
+        to: to.map(|to| new(to, "the table", from)).transpose()?,
     })
 }
 
@@ -407,9 +410,11 @@ fn readable(name: &str) -> Result<PathBuf, String> {
     Ok(PathBuf::from(name))
 }
 
-/// Looks whether a file is not there yet, since this output replaces nothing.
-fn new(name: &str, what: &'static str) -> Result<PathBuf, String> {
-    checked(Output::to_new(Path::new(name), what))
+/// Looks whether a file is not there yet, since this output, which is made from another
+/// file, replaces nothing.
+fn new(name: &str, what: &'static str, from: (&str, &'static str)) -> Result<PathBuf, String> {
+    let output = Output::to_new(Path::new(name), what);
+    checked(output.made_from(Path::new(from.0), from.1))
 }
 
 /// Looks whether an output may go where it is to go, and returns that.
@@ -557,7 +562,11 @@ mod tests {
         };
         assert_eq!(asks(&["export", HERE, NOWHERE]), Ok(work));
         assert!(fault(&["export", NOWHERE, NOWHERE]).contains("/none cannot be read: "));
-        assert!(fault(&["export", HERE, HERE]).contains("/Cargo.toml is there already"));
+        assert_eq!(
+            fault(&["export", HERE, HERE]),
+            "./Cargo.toml is the platter that is exported (name another file): the image is not \
+             written there"
+        );
         let work = Work::Import {
             image: here.clone(),
             platter: nowhere.clone(),
@@ -566,7 +575,7 @@ mod tests {
         };
         assert_eq!(asks(&["import", HERE, NOWHERE]), Ok(work));
         assert!(fault(&["import", NOWHERE, NOWHERE]).contains("/none cannot be read: "));
-        assert!(fault(&["import", HERE, HERE]).contains(" is there already"));
+        assert!(fault(&["import", HERE, HERE]).contains(" is what is imported (name "));
         assert!(fault(&["import", FOLDER, NOWHERE]).ends_with("it is a folder"));
         let work = Work::Convert {
             from: here.clone(),
@@ -574,7 +583,7 @@ mod tests {
         };
         assert_eq!(asks(&["convert", HERE, NOWHERE]), Ok(work));
         assert!(fault(&["convert", NOWHERE, NOWHERE]).contains("/none cannot be read: "));
-        assert!(fault(&["convert", HERE, HERE]).contains(" is there already"));
+        assert!(fault(&["convert", HERE, HERE]).contains(" is what is converted (name "));
         let work = Work::Picture {
             source: here,
             to: nowhere,
@@ -728,7 +737,8 @@ mod tests {
         let words = ["table", HERE, "--to", NOWHERE];
         assert_eq!(asks(&words), Ok(shown(Some(nowhere))));
         assert!(fault(&["table", NOWHERE]).contains("/none cannot be read: "));
-        assert!(fault(&["table", HERE, "--to", HERE]).contains(" is there already"));
+        let message = fault(&["table", HERE, "--to", "src/../Cargo.toml"]);
+        assert!(message.contains(" is the platter whose table is taken off (name "));
         assert_eq!(fault(&["table", HERE, "--to"]), "--to needs a file");
         let put = |table, replace| Work::PutTable {
             table,
