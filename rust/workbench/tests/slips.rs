@@ -253,8 +253,16 @@ fn odds_and_pages_replace_no_plan_and_no_platter() {
             refused(&here, &[&command[..], &[to]].concat(), "", &words);
         }
     }
-    let words = [odds("my.plan", "--json"), vec!["o", "--picture", "o"]].concat();
-    refused(&here, &words, "", "--json and --picture go to two files");
+    symlink("o", here.join("o-link")).expect("a link");
+    for (json, picture) in [("o", "o"), ("o", "./o"), ("o", "o-link"), ("o-link", "./o")] {
+        let files = vec![json, "--picture", picture];
+        // So many runs would take hours.
+        let plan = [
+            "odds", "week", "--seeds", "999999", "--rate", "1/50", "--json",
+        ];
+        let words = [&plan[..], &files].concat();
+        refused(&here, &words, "", "--json and --picture go to two files");
+    }
     fs::remove_dir_all(here).expect("removed");
 }
 

@@ -1,8 +1,9 @@
 //! The arguments of `odds`.
 
-use std::path::PathBuf;
+use std::path::{Path, PathBuf};
 
 use crate::near::no_option;
+use crate::outputs::are_one;
 
 /// Which runs are made, under which faults, and where they are told.
 #[derive(Clone, Debug, PartialEq, Eq)]
@@ -106,6 +107,12 @@ impl<'a> Given<'a> {
             .find(|(given, _)| *given == name)
             .map(|value| value.1)
     }
+
+    /// Says whether both files are one.
+    fn has_one_file(&self) -> bool {
+        let files = self.value("--json").zip(self.value("--picture"));
+        files.is_some_and(|(json, picture)| are_one(Path::new(json), Path::new(picture)))
+    }
 }
 
 fn seeds(given: &Given) -> Result<Seeds, String> {
@@ -116,11 +123,7 @@ fn seeds(given: &Given) -> Result<Seeds, String> {
             "--seeds N is missing, or --seed S for one run",
         )),
         (Some(_), None) if given.trace => Err(String::from("--trace goes with --seed S alone")),
-        (Some(_), None)
-            if given
-                .value("--json")
-                .is_some_and(|file| given.value("--picture") == Some(file)) =>
-        {
+        (Some(_), None) if given.has_one_file() => {
             Err(String::from("--json and --picture go to two files"))
         }
         (Some(last), None) => Ok(Seeds::To {
@@ -256,6 +259,10 @@ mod tests {
         ),
         (
             "b --seeds 9 --rate 1/50 --json o --picture o",
+            "--json and --picture go to two files",
+        ),
+        (
+            "b --seeds 9 --rate 1/50 --json ./o --picture src/../o",
             "--json and --picture go to two files",
         ),
         (

@@ -1,6 +1,7 @@
 //! What an output must not replace: the files that a command reads, platters and their
 //! lists of unreadable sectors. Files are told apart by device and number, through links.
 
+use std::ffi::OsString;
 use std::fs::{self, File, Metadata};
 use std::io::{self, Read, Seek, SeekFrom};
 use std::os::unix::fs::{FileTypeExt, MetadataExt};
@@ -311,6 +312,27 @@ pub fn followed(path: &Path) -> io::Result<PathBuf> {
     Err(io::Error::other("its links lead to no file"))
 }
 
+/// Says whether two names lead to one file, be it there or not.
+pub fn are_one(one: &Path, other: &Path) -> bool {
+    match (Identity::of(one), Identity::of(other)) {
+        (None, None) => place(one) == place(other),
+        (one, other) => one == other,
+    }
+}
+
+/// Finds the place of a file that is not there: its folder, by itself or by its name if there
+/// is none, and its name.
+fn place(path: &Path) -> (Option<Identity>, Option<PathBuf>, Option<OsString>) {
+    let path = followed(path).unwrap_or(path.to_path_buf());
+    let folder = match path.parent() {
+        Some(folder) if folder != Path::new("") => folder,
+        _ => Path::new("."),
+    };
+    let found = Identity::of(folder);
+    let named = found.is_none().then(|| folder.to_path_buf());
+    (found, named, path.file_name().map(OsString::from))
+}
+
 /// Names the list of unreadable sectors that belongs to a platter's file. It stands beside
 /// the file itself, and not beside a link to it.
 pub fn list_of(platter: &Path) -> io::Result<PathBuf> {
@@ -581,6 +603,27 @@ mod tests {
             here.join("none/file.unreadable")
         );
         assert!(followed(&round).is_err());
+        fs::remove_dir_all(here).expect("removed");
+    }
+
+    #[test]
+    fn names_of_one_file_are_known_be_it_there_or_not() {
+        let here = folder("one");
+        fs::create_dir(here.join("far")).expect("a folder");
+        symlink("far", here.join("near")).expect("a link");
+        symlink("far/o", here.join("link")).expect("a link");
+        let one = |a: &str, b: &str| are_one(&here.join(a), &here.join(b));
+        for _ in 0..2 {
+            for name in ["far/o", "far/./o", "far/../far/o", "near/o", "link"] {
+                assert!(one("far/o", name) && one(name, "far/o"), "{name}");
+            }
+            for name in ["o", "far/p", "far", "none/o"] {
+                assert!(!one("far/o", name) && !one(name, "link"), "{name}");
+            }
+            fs::write(here.join("far/o"), "").expect("written");
+        }
+        assert!(one("none/o", "none/o") && !one("none/o", "far/none/o"));
+        assert!(are_one(Path::new("none"), Path::new("./none")));
         fs::remove_dir_all(here).expect("removed");
     }
 }
