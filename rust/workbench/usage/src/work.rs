@@ -120,6 +120,9 @@ pub struct Plan {
 /// Reads the words of a command. A plan may be named after its file in the folder of the
 /// repository's plans.
 pub fn parse(words: &[&str], plans: Option<&Path>) -> Result<Work, String> {
+    if let Some(fault) = empty(words) {
+        return Err(fault);
+    }
     match words {
         ["run", rest @ ..] => run(rest, plans),
         ["week", rest @ ..] => match rest.iter().find(|word| !word.starts_with("--")) {
@@ -147,6 +150,15 @@ pub fn parse(words: &[&str], plans: Option<&Path>) -> Result<Work, String> {
             None => no_command(first),
         }),
     }
+}
+
+/// Says which word of a command is empty, if one is: it names no file, and is no value.
+fn empty(words: &[&str]) -> Option<String> {
+    let behind = words.windows(2).find(|pair| pair[1].is_empty())?[0];
+    Some(format!(
+        "the argument behind {} is empty; see --help",
+        quote(behind)
+    ))
 }
 
 fn usage_is(line: &str) -> String {
@@ -550,6 +562,35 @@ mod tests {
             fault(&["week", "latch"]),
             "week is a plan itself, so not \"latch\" too"
         );
+    }
+
+    #[test]
+    fn empty_arguments_are_refused() {
+        let odds = ["odds", HERE, "--seeds", "9", "--rate", "1/50"];
+        for words in [
+            &["run", ""][..],
+            &["run", "--platter", "", HERE],
+            &["run", HERE, "--platter", ""],
+            &["week", ""],
+            &["import", HERE, ""],
+            &["import", "", NOWHERE],
+            &["export", HERE, ""],
+            &["table", ""],
+            &["table", HERE, "--to", ""],
+            &["put-table", "", HERE],
+            &["convert", HERE, ""],
+            &["picture", HERE, ""],
+            &["timeline", HERE, ""],
+            &["report", HERE, ""],
+            &[&odds[..], &["--json", ""]].concat(),
+            &["odds", HERE, "--seeds", ""],
+        ] {
+            let at = words.iter().position(|word| word.is_empty());
+            let before = words[at.expect("an empty word") - 1];
+            let message = format!("the argument behind \"{before}\" is empty; see --help");
+            assert_eq!(fault(words), message, "{words:?}");
+        }
+        assert_eq!(fault(&[""]), "\"\" is no command; see --help");
     }
 
     #[test]
