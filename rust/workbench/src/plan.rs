@@ -156,7 +156,7 @@ fn read(mut words: Words) -> Result<Line, Slip> {
     let blocks = words.blocks()?;
     let retry = retry(&mut words, "to")?;
     let to = match words.take("to") {
-        true => Some(words.need("the name of a file behind \"to\"")?.to_string()),
+        true => Some(words.name("the name of a file behind \"to\"")?.to_string()),
         false => None,
     };
     alone(Line::Read { blocks, retry, to }, words)

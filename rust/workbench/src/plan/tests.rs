@@ -45,7 +45,14 @@ fn reads() {
         Ok(read(17, 17, 255, 0, None))
     );
     let all = read(0, 9727, 2, 1, Some("a.dat"));
-    assert_eq!(parse("read 0..9727 2 1 to a.dat"), Ok(all));
+    for name in ["a.dat", "\"a.dat\"", "\t\"a.dat\" \r\n"] {
+        let line = format!("read 0..9727 2 1 to {name}");
+        assert_eq!(parse(&line), Ok(all.clone()), "{line}");
+    }
+    let blanks = read(5, 5, 10, 3, Some(" my  layout.dat"));
+    assert_eq!(parse("read 5 to \" my  layout.dat\""), Ok(blanks));
+    let marks = read(5, 5, 10, 3, Some("5\"floppy\""));
+    assert_eq!(parse("read 5 to 5\"floppy\""), Ok(marks));
     let table = read(0xFF_FFFF, 0xFF_FFFF, 10, 3, None);
     assert_eq!(parse("read $FFFFFF"), Ok(table.clone()));
     assert_eq!(parse("read 0xffffff"), Ok(table));
@@ -58,7 +65,7 @@ fn reads() {
 
 #[test]
 fn data() {
-    let data = |line| match parse(line) {
+    let data = |line: &str| match parse(line) {
         Ok(Line::Write { data, .. } | Line::Compare { data, .. }) => data,
         other => panic!("{line}: {other:?}"),
     };
@@ -70,6 +77,12 @@ fn data() {
     let file = Data::File { path, offset: 532 };
     assert_eq!(data("write-verify 0..39 file front.dat at 532"), file);
     assert_eq!(data("compare 0..39 2 1 with file front.dat at $214"), file);
+    assert_eq!(data("write 0..39 file \"front.dat\"  at 532"), file);
+    let path = String::from("shop front at 5.dat");
+    let (offset, name) = (0, "\"shop front at 5.dat\"");
+    let file = Data::File { path, offset };
+    assert_eq!(data(&format!("compare 1 with file {name}")), file);
+    assert_eq!(data(&format!("write 1 file {name} at 0")), file);
     assert_eq!(data("compare 7 with 00*532"), Data::Bytes(vec![0; 532]));
 }
 
@@ -290,14 +303,22 @@ fn the_help_knows_every_line_and_every_word() {
 #[test]
 fn help_of_a_line_tells_of_its_parts() {
     let of = |word: &str| help::of(word).expect("lines");
-    let text = of("compare");
-    for part in ["BLOCKS is a number", "DATA is bytes", "R is 10 and T is 3"] {
+    let in_one_line = |text: String| text.split_whitespace().collect::<Vec<_>>().join(" ");
+    let text = in_one_line(of("compare"));
+    for part in [
+        "BLOCKS is a number",
+        "DATA is bytes",
+        "; a NAME with blanks is put in quotation marks.",
+        "R is 10 and T is 3",
+    ] {
         assert!(text.contains(part), "{text}");
     }
     assert!(
         !text.contains("KIND is") && !text.contains("WORDS are"),
         "{text}"
     );
+    let text = in_one_line(of("read"));
+    assert!(text.contains(". FILE with blanks is put in quotation marks."));
     assert_eq!(of("fault").matches("\n  fault ").count(), 7);
     assert!(of("power").contains("LEFT is what a write under way leaves"));
     assert!(of("cuts").contains("The lines from \"cuts from here\""));

@@ -40,6 +40,26 @@ impl<'a> Words<'a> {
         self.next().ok_or_else(|| missing(what))
     }
 
+    /// The name of a file, which must be there: a word, or all between two quotation marks.
+    pub fn name(&mut self, what: &str) -> Result<&'a str, Slip> {
+        let Some(rest) = self.rest.strip_prefix('"') else {
+            return self.need(what);
+        };
+        let Some((name, rest)) = rest.split_once('"') else {
+            let marked = short(self.rest);
+            return Err(missing(&format!("the closing quotation mark of {marked}")));
+        };
+        if name.trim().is_empty() {
+            return Err(missing("the name between the quotation marks"));
+        }
+        if rest.starts_with(|letter: char| !letter.is_whitespace()) {
+            let fault = format!("{} touches the quotation mark before it", quote(rest));
+            return Err(Slip::Form(fault));
+        }
+        self.rest = rest.trim_start();
+        Ok(name)
+    }
+
     /// Takes the next word if it is this one.
     pub fn take(&mut self, word: &str) -> bool {
         let found = self.peek() == Some(word);
@@ -137,7 +157,7 @@ impl<'a> Words<'a> {
             return quoted(self.rest).map(|text| Data::Text(text.to_string()));
         }
         if self.take("file") {
-            let path = self.need("the name behind \"file\"")?.to_string();
+            let path = self.name("the name behind \"file\"")?.to_string();
             let mut offset = 0;
             if self.take("at") {
                 offset = self.number("the offset behind \"at\"", u32::MAX)? as usize;

@@ -28,6 +28,19 @@ pub const FORMS: &[(&str, &[(&str, &str)])] = &[
                 "the offset behind \"at\" is a number, and \"x\" is none",
             ),
             ("write 17 file a b", "\"b\" is too much"),
+            ("write 17 file \"a b\" c", "\"c\" is too much"),
+            (
+                "write 17 file \"a b at 5",
+                "the closing quotation mark of \"a b at 5 is missing",
+            ),
+            (
+                "write 17 file \"\" at 5",
+                "the name between the quotation marks is missing",
+            ),
+            (
+                "write 17 file \"a\"at 5",
+                "\"at 5\" touches the quotation mark before it",
+            ),
             ("write 17 nothing 00", "\"00\" is too much"),
             ("write 17 00*0", "\"00*0\" is no data: a count is 1 to 4096"),
             (
@@ -53,6 +66,22 @@ pub const FORMS: &[(&str, &[(&str, &str)])] = &[
             ("read 17 1 2 3", "\"3\" is too much"),
             ("read 17 to", "the name of a file behind \"to\" is missing"),
             ("read 17 to a b", "\"b\" is too much"),
+            (
+                "read 17 to \"a.dat",
+                "the closing quotation mark of \"a.dat is missing",
+            ),
+            (
+                "read 17 to \"",
+                "the closing quotation mark of \" is missing",
+            ),
+            (
+                "read 17 to \"  \"",
+                "the name between the quotation marks is missing",
+            ),
+            (
+                "read 17 to \"a\"b\"",
+                "\"b\"\" touches the quotation mark before it",
+            ),
             ("read +1", "a block is a number, and \"+1\" is none"),
             ("read -1", "a block is a number, and \"-1\" is none"),
             ("read $", "a block is a number, and \"$\" is none"),
