@@ -1,6 +1,7 @@
 //! The data of a line: what its blocks are written with or compared with.
 
 use reference::geometry::SECTOR_BYTES;
+use usage::{named, shown};
 
 use crate::health;
 
@@ -73,8 +74,8 @@ impl Data {
     pub fn name(&self) -> String {
         match self {
             Data::Bytes(_) => String::from("as given"),
-            Data::Text(text) => format!("\"{text}\""),
-            Data::File { path, .. } => format!("as in {path}"),
+            Data::Text(text) => format!("\"{}\"", shown(text)),
+            Data::File { path, .. } => format!("as in {}", named(path)),
         }
     }
 }

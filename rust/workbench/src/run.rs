@@ -16,6 +16,8 @@ mod wrong;
 use std::io::{self, Write};
 use std::path::PathBuf;
 
+use usage::shown;
+
 use crate::board::Board;
 use crate::clock::Time;
 use crate::faults::Random;
@@ -246,15 +248,15 @@ impl<W: Write> Run<W> {
     fn act(&mut self, line: Line, text: &str) -> Result<(), Stop> {
         match line {
             Line::Nothing => Ok(()),
-            Line::Say(text) => self.say(text),
+            Line::Say(text) => self.say(shown(&text)),
             Line::Help(text) => Ok(writeln!(self.out, "{text}")?),
             Line::Fault(order) => {
                 order.give(&mut self.host.board.faults);
-                Ok(writeln!(self.out, "{text}")?)
+                Ok(writeln!(self.out, "{}", shown(text))?)
             }
             Line::Power(order) => {
                 self.host.board.power.order(order);
-                Ok(writeln!(self.out, "{text}")?)
+                Ok(writeln!(self.out, "{}", shown(text))?)
             }
             Line::CutsFrom => self.cuts_from(),
             Line::CutsTo => self.cuts_to(),

@@ -3,6 +3,7 @@
 use std::io::Write;
 
 use reference::geometry::SECTOR_BYTES;
+use usage::named;
 
 use super::{Run, Stop};
 use crate::data::{Blocks, Data};
@@ -60,7 +61,8 @@ impl<W: Write> Run<W> {
         match to {
             Some(path) if self.last_cut() => Ok(writeln!(
                 self.out,
-                "  not written to {path}, since the power failed"
+                "  not written to {}, since the power failed",
+                named(path)
             )?),
             Some(path) => self.keep(blocks, path, &bytes),
             None => Ok(()),
@@ -70,22 +72,23 @@ impl<W: Write> Run<W> {
     /// Writes what was read to a file, if all of it is good.
     fn keep(&mut self, blocks: Blocks, path: &str, bytes: &[u8]) -> Result<(), Stop> {
         let lost = self.not_good(blocks);
+        let name = named(path);
         if lost.is_empty() {
             self.write_to(path, bytes)?;
             self.expectations += 1;
             let length = bytes.len();
             match self.writes_files() {
-                true => writeln!(self.out, "  {length} bytes written to {path}")?,
+                true => writeln!(self.out, "  {length} bytes written to {name}")?,
                 false => writeln!(
                     self.out,
-                    "  {length} bytes for {path}, which this run does not write"
+                    "  {length} bytes for {name}, which this run does not write"
                 )?,
             }
         } else {
             self.expectations += 1;
             self.not_met();
             let lost = ranges(&lost);
-            writeln!(self.out, "  NOT written to {path}: not read were {lost}")?;
+            writeln!(self.out, "  NOT written to {name}: not read were {lost}")?;
         }
         Ok(())
     }

@@ -224,6 +224,56 @@ fn a_file_of_40_blocks_there_and_back() {
 }
 
 #[test]
+fn a_name_with_blanks_there_and_back() {
+    let folder = test_folder("blanks");
+    fs::write(folder.join("shop front.dat"), [7; 1064]).expect("written");
+    let plan = "start\nwrite 3 file \"shop front.dat\" at 532\nread 3 to \"my back.dat\"\n\
+                compare 3 with file \"shop front.dat\"\nread 3 to \"ab.dat\"\n\
+                read 9728 to \"no such.dat\"\n";
+    let (ended, _, out) = played(plan, on(&folder.join("p")));
+    assert_eq!(ended, Ok(false), "{out}");
+    for words in [
+        "  532 bytes written to \"my back.dat\"\n",
+        "  the bytes are as in \"shop front.dat\"\n",
+        "  532 bytes written to ab.dat\n",
+        "  NOT written to \"no such.dat\": not read were 9728\n",
+    ] {
+        assert!(out.contains(words), "{words}{out}");
+    }
+    for name in ["my back.dat", "ab.dat"] {
+        assert!(fs::read(folder.join(name)).is_ok_and(|bytes| bytes == [7; 532]));
+    }
+    fs::remove_dir_all(folder).expect("removed");
+}
+
+#[test]
+fn control_characters_of_a_plan_are_shown_as_escapes() {
+    let folder = test_folder("escapes");
+    let plan = "say \u{1b}[31mMonday:\tit is \"é\"\nstart\nwrite 3 \"a\u{7}\tb\"\n\
+                fault\u{b}sector 17\tclear\nread 3 to \u{1b}c.dat\n\
+                compare 3 with \"a\u{7}\tb\"\ncompare 3 with file \u{1b}c.dat\n";
+    let settings = Settings {
+        folder: folder.clone(),
+        ..Settings::default()
+    };
+    let (ended, _, out) = played(plan, settings);
+    assert_eq!(ended, Ok(true), "{out}");
+    for words in [
+        "\\u{1b}[31mMonday:\tit is \"é\"\n",
+        "fault\\u{b}sector 17\tclear\n",
+        "  532 bytes written to \\u{1b}c.dat\n",
+        "  the bytes are \"a\\u{7}\tb\"\n",
+        "  the bytes are as in \\u{1b}c.dat\n",
+    ] {
+        assert!(out.contains(words), "{words}{out}");
+    }
+    let raw = |letter: char| letter.is_control() && !['\n', '\t'].contains(&letter);
+    assert!(!out.contains(raw), "{out:?}");
+    assert!(folder.join("\u{1b}c.dat").exists());
+    fs::remove_dir_all(folder).expect("removed");
+}
+
+#[test]
 fn short_data_ends_in_zeros() {
     let plan = "start\nwrite 3 \"one\"\nwrite 4 4d*512\ncompare 4 with 4d*512 00*20\n\
                 compare 3 with \"one\"\nwrite-verify 4 4e*531\ncompare 4 with 4e*531 00\n\

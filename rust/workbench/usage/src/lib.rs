@@ -16,7 +16,7 @@ use std::io::{self, Write};
 use std::process::ExitCode;
 
 pub use odds::{Odds, Seeds};
-pub use quote::{plain, quote, short};
+pub use quote::{named, plain, quote, short, shown};
 pub use repository::called;
 pub use work::{Export, ImageForm, Plan, TagPlace, Work};
 

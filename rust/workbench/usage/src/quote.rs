@@ -30,6 +30,21 @@ pub fn plain(words: &str) -> String {
     words.chars().map(visible).collect()
 }
 
+/// Gives words as `plain` does, but with their tabs.
+pub fn shown(words: &str) -> String {
+    let parts: Vec<String> = words.split('\t').map(plain).collect();
+    parts.join("\t")
+}
+
+/// Gives the name of a file as a plan has it: in quotation marks if there are blanks in it.
+pub fn named(file: &str) -> String {
+    let name = plain(file);
+    match file.contains(char::is_whitespace) {
+        true => format!("\"{name}\""),
+        false => name,
+    }
+}
+
 /// Gives a message as `plain` does, with its further lines, which begin with two blanks.
 pub fn plain_lines(message: &str) -> String {
     let lines: Vec<String> = message.split("\n  ").map(plain).collect();
@@ -65,6 +80,9 @@ mod tests {
         let words = "a\u{1b}[31m\r\n\tb\0\u{7f}\u{9b}\u{202e}\u{feff}";
         let escaped = "a\\u{1b}[31m\\r\\n\\tb\\0\\u{7f}\\u{9b}\\u{202e}\\u{feff}";
         assert_eq!(plain(words), escaped);
+        assert_eq!(shown(words), escaped.replace("\\t", "\t"));
+        assert_eq!(named("a\u{1b}.dat"), "a\\u{1b}.dat");
+        assert_eq!(named("a\tb c"), "\"a\\tb c\"");
         assert!(!quote(words).contains(char::is_control));
         let message = "a\u{1b}\nb has no table\n  known are:\n    c\n";
         let lines = "a\\u{1b}\\nb has no table\n  known are:\n    c\\n";
