@@ -131,8 +131,9 @@ fn play(plan: Option<&Plan>, mut settings: Settings, out: impl Write) -> Result<
         Err(Stop::Unspoken) if typed => {
             nothing_played("no line spoke to the drive: there is nothing to sum up")
         }
-        // Whoever read the output has seen enough.
-        Err(Stop::Output(error)) if error.kind() == BrokenPipe => Ok(Played::default()),
+        Err(Stop::Output(error)) if error.kind() == BrokenPipe => Err(format!(
+            "{name}:{number}: the output is closed, so the run ends here"
+        )),
         Err(Stop::Output(error)) => Err(usage::output_fault(error)),
         Err(stop) => Err(format!("{name}{}", stop.told(number))),
     }
@@ -140,7 +141,7 @@ fn play(plan: Option<&Plan>, mut settings: Settings, out: impl Write) -> Result<
 
 /// Says why typed lines come to nothing, which is nobody's fault.
 fn nothing_played(why: &str) -> Result<Played, String> {
-    eprintln!("workbench: {why}");
+    usage::tell(why);
     Ok(Played {
         good: true,
         ..Played::default()
@@ -161,7 +162,7 @@ fn open(path: &Path) -> Result<Box<dyn BufRead>, String> {
 
 fn standard_input(typed: bool) -> Box<dyn BufRead> {
     if typed {
-        eprintln!("workbench: lines of a plan, please; help shows them, and Ctrl-D ends");
+        usage::tell("lines of a plan, please; help shows them, and Ctrl-D ends");
     }
     Box::new(io::stdin().lock())
 }
@@ -170,7 +171,7 @@ fn standard_input(typed: bool) -> Box<dyn BufRead> {
 fn imported(done: Imported) -> Result<bool, String> {
     say_lines(&done.lines)?;
     for fault in &done.wrong {
-        eprintln!("workbench: {fault}");
+        usage::tell(fault);
     }
     Ok(done.wrong.is_empty())
 }
@@ -192,7 +193,9 @@ fn export(platter: &Path, image: &Path, how: Export) -> Result<bool, String> {
         true => format!("{image} has zeros for them"),
         false => format!("{image} was not written (with --keep-going it has zeros for them)"),
     };
-    eprintln!("workbench: {platter}: blocks that cannot be read: {blocks}; {rest}");
+    usage::tell(&format!(
+        "{platter}: blocks that cannot be read: {blocks}; {rest}"
+    ));
     Ok(false)
 }
 
@@ -218,7 +221,7 @@ fn table(source: &Path, to: Option<&Path>) -> Result<bool, String> {
     say_lines(&[taken.line])?;
     match taken.fault {
         Some(fault) => {
-            eprintln!("workbench: {fault}");
+            usage::tell(&fault);
             Ok(false)
         }
         None => Ok(true),

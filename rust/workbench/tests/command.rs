@@ -3,8 +3,11 @@
 mod common;
 
 use std::fs;
+use std::io::Write;
+use std::os::fd::OwnedFd;
+use std::os::unix::net::UnixStream;
 use std::path::Path;
-use std::process::Command;
+use std::process::{Command, Stdio};
 
 use common::{ended, folder, program, root};
 use reference::image::form_b;
@@ -61,6 +64,53 @@ fn wrong_arguments() {
         assert_eq!((status, out.as_str()), (2, ""), "{arguments:?}");
         assert!(message.starts_with("workbench: "), "{message}");
     }
+    fs::remove_dir_all(here).expect("removed");
+}
+
+/// Runs the workbench with an output that nobody reads, and with such messages too if they
+/// are closed. Says its exit status and its messages.
+fn unread(here: &Path, arguments: &[&str], input: &str, closed: bool) -> (i32, String) {
+    let nobody = || {
+        let (output, _) = UnixStream::pair().expect("a pair");
+        Stdio::from(OwnedFd::from(output))
+    };
+    let mut command = Command::new(program());
+    command.args(arguments).env("WORKBENCH_ROOT", root());
+    command.current_dir(here).stdin(Stdio::piped());
+    command.stdout(nobody()).stderr(match closed {
+        true => nobody(),
+        false => Stdio::piped(),
+    });
+    let mut child = command.spawn().expect("the command");
+    // A command that ends early reads nothing more.
+    let _ = child
+        .stdin
+        .take()
+        .map(|mut pipe| pipe.write_all(input.as_bytes()));
+    let output = child.wait_with_output().expect("its end");
+    let message = String::from_utf8(output.stderr).expect("text");
+    (output.status.code().expect("a status"), message)
+}
+
+#[test]
+fn an_output_that_nobody_reads() {
+    let here = folder("unread");
+    let on = ["run", "--platter", "p"];
+    for answer in [&["--help"][..], &["-h"], &["--version"]] {
+        assert_eq!(unread(&here, answer, "", false), (0, String::new()));
+    }
+    // What was done up to the line stays, and no line behind it is done.
+    let plan = "start\nwrite 0 \"one\"\n";
+    let message = "workbench: standard input:1: the output is closed, so the run ends here\n";
+    assert_eq!(unread(&here, &on, plan, false), (2, String::from(message)));
+    assert_eq!(unread(&here, &on, plan, true), (2, String::new()));
+    let kept = workbench(&here, &on, "start\ncompare 0 with 00*532\n");
+    assert_eq!(kept.0, 0, "{kept:?}");
+    // Other commands do all of their work.
+    let export = ["export", "p", "image"];
+    assert_eq!(unread(&here, &export, "", false), (0, String::new()));
+    assert!(fs::metadata(here.join("image")).is_ok_and(|image| image.len() == 9728 * 532));
+    assert_eq!(unread(&here, &export, "", true), (2, String::new()));
     fs::remove_dir_all(here).expect("removed");
 }
 

@@ -107,7 +107,9 @@ pub fn lock(name: &Path, file: &File, used: Use) -> Result<bool, String> {
             "{name} is in use by another workbench: nothing is done"
         )),
         Err(TryLockError::Error(error)) => {
-            eprintln!("workbench: {name} cannot be locked, so use it once at a time: {error}");
+            usage::tell(&format!(
+                "{name} cannot be locked, so use it once at a time: {error}"
+            ));
             Ok(false)
         }
     }

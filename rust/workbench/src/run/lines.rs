@@ -90,13 +90,10 @@ impl<W: Write> Run<W> {
         };
         self.out.flush()?;
         self.wrong += 1;
-        eprintln!(
-            "workbench: line {}: {}",
-            self.number,
-            usage::plain(&message)
-        );
+        let message = usage::plain(&message);
+        usage::tell(&format!("line {}: {message}", self.number));
         if self.forget_for_cuts(kept) {
-            eprintln!("workbench: the line was done in part, so \"cuts from here\" is forgotten");
+            usage::tell("the line was done in part, so \"cuts from here\" is forgotten");
         }
         Ok(())
     }

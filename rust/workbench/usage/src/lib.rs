@@ -12,6 +12,7 @@ mod repository;
 mod work;
 
 use std::ffi::OsString;
+use std::io::ErrorKind::BrokenPipe;
 use std::io::{self, Write};
 use std::process::ExitCode;
 
@@ -56,11 +57,12 @@ fn version() -> String {
     format!("workbench {version}\n{library}\n")
 }
 
-/// Writes to standard output.
+/// Writes to standard output. If that is closed, whoever read it has seen enough.
 pub fn say(text: &str) -> Result<(), String> {
-    io::stdout()
-        .write_all(text.as_bytes())
-        .map_err(output_fault)
+    match io::stdout().write_all(text.as_bytes()) {
+        Err(error) if error.kind() == BrokenPipe => Ok(()),
+        said => said.map_err(output_fault),
+    }
 }
 
 pub fn output_fault(error: io::Error) -> String {
@@ -69,8 +71,13 @@ pub fn output_fault(error: io::Error) -> String {
 
 /// Says what is wrong, and hands back the status of a wrong argument, plan or file.
 pub fn refuse(message: String) -> ExitCode {
-    eprintln!("workbench: {}", quote::plain_lines(&message));
+    tell(&quote::plain_lines(&message));
     ExitCode::from(2)
+}
+
+/// Writes a message to standard error. If that is closed, nobody can be told.
+pub fn tell(message: &str) {
+    let _ = writeln!(io::stderr(), "workbench: {message}");
 }
 
 #[cfg(test)]
