@@ -120,7 +120,7 @@ fn play(plan: Option<&Plan>, mut settings: Settings, out: impl Write) -> Result<
     let name = plan.map_or("standard input", |plan| plan.name.as_str());
     let mut run = Run::new(settings, BufWriter::new(out))?;
     let played = run.plan(input);
-    let (number, inputs) = (run.number(), run.inputs());
+    let (number, inputs, all_done) = (run.number(), run.inputs(), played.is_ok());
     match played.and_then(|()| run.finish()) {
         Ok((good, moments)) => Ok(Played {
             good,
@@ -131,9 +131,10 @@ fn play(plan: Option<&Plan>, mut settings: Settings, out: impl Write) -> Result<
         Err(Stop::Unspoken) if typed => {
             nothing_played("no line spoke to the drive: there is nothing to sum up")
         }
-        Err(Stop::Output(error)) if error.kind() == BrokenPipe => Err(format!(
-            "{name}:{number}: the output is closed, so the run ends here"
-        )),
+        Err(Stop::Output(error)) if error.kind() == BrokenPipe => Err(match all_done {
+            true => format!("{name}: the output is closed, so the summary is not shown"),
+            false => format!("{name}:{number}: the output is closed, so the run ends here"),
+        }),
         Err(Stop::Output(error)) => Err(usage::output_fault(error)),
         Err(stop) => Err(format!("{name}{}", stop.told(number))),
     }

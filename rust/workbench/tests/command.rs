@@ -3,7 +3,7 @@
 mod common;
 
 use std::fs;
-use std::io::Write;
+use std::io::{BufRead, BufReader, Write};
 use std::os::fd::OwnedFd;
 use std::os::unix::net::UnixStream;
 use std::path::Path;
@@ -112,6 +112,24 @@ fn an_output_that_nobody_reads() {
     assert!(fs::metadata(here.join("image")).is_ok_and(|image| image.len() == 9728 * 532));
     assert_eq!(unread(&here, &export, "", true), (2, String::new()));
     fs::remove_dir_all(here).expect("removed");
+}
+
+#[test]
+fn a_summary_that_nobody_reads() {
+    let mut command = Command::new(program());
+    command.arg("run").stdin(Stdio::piped());
+    command.stdout(Stdio::piped()).stderr(Stdio::piped());
+    let mut child = command.spawn().expect("the command");
+    let mut input = child.stdin.take().expect("a pipe");
+    input.write_all(b"start\n").expect("a line");
+    let mut shown = String::new();
+    let mut output = BufReader::new(child.stdout.take().expect("a pipe"));
+    output.read_line(&mut shown).expect("a line");
+    drop((output, input));
+    let output = child.wait_with_output().expect("its end");
+    let message = "workbench: standard input: the output is closed, so the summary is not shown\n";
+    assert_eq!(output.stderr, message.as_bytes(), "{shown}");
+    assert_eq!(output.status.code(), Some(2));
 }
 
 #[test]
