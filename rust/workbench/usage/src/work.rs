@@ -229,7 +229,7 @@ fn export(words: &[&str]) -> Result<Work, String> {
     let tags = words.value("--tags").map(tag_place).transpose()?;
     let form = form.unwrap_or_default();
     if form == ImageForm::Raw532 && tags.is_some() {
-        let reason = "blocks of 532 bytes are written as they stand";
+        let reason = "blocks of 532 bytes are written as they are";
         return Err(format!(
             "--tags goes with --form raw512 or diskcopy: {reason}"
         ));
@@ -257,7 +257,11 @@ fn spares(words: &Sorted, platter: &str, to: &str) -> Result<Work, String> {
     }
     Ok(Work::Spares {
         platter: readable(platter)?,
-        to: new(to, "what the spares hold")?,
+        to: new(
+            to,
+            "what the spares hold",
+            (platter, "the platter whose spares are taken off"),
+        )?,
     })
 }
 
