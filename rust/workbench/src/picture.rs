@@ -9,4 +9,4 @@ mod timeline;
 pub use odds::odds;
 pub use platter::platter;
 pub(crate) use platter::view;
-pub use timeline::{timeline, Mark, Moment, Outcome};
+pub use timeline::{timeline, Mark, Moment, Move, Outcome};

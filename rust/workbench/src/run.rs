@@ -296,6 +296,7 @@ impl<W: Write> Run<W> {
                 command: String::new(),
                 accesses: vec![],
                 outcome: Outcome::None,
+                moved: None,
                 took: Time::ZERO,
                 other_bytes: false,
             });
@@ -378,6 +379,7 @@ impl<W: Write> Run<W> {
             command: name.to_string(),
             accesses: trace::marks(&report.accesses),
             outcome: show::outcome(report),
+            moved: show::moved(report),
             took: report.took,
             other_bytes: false,
         });

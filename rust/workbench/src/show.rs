@@ -6,7 +6,7 @@ use reference::geometry::{spare, Sector, SPARES};
 use crate::board::{Accessed, Cut, Purpose};
 use crate::health::Health;
 use crate::host::{Change, End, Report};
-use crate::picture::Outcome;
+use crate::picture::{Move, Outcome};
 use crate::power::Fate;
 use crate::{status, surface, trace};
 
@@ -240,28 +240,31 @@ pub fn spare_at(sector: Sector) -> Option<usize> {
 
 /// A command's end as a picture shows it.
 pub fn outcome(report: &Report) -> Outcome {
-    let moved = report.changes.iter().find_map(|change| match change {
+    match report.end {
+        End::Refused(_) => Outcome::Refused,
+        End::Cut(_) => Outcome::Cut,
+        End::Finished(bytes) if bytes[0] & status::NOT_55 != 0 => Outcome::None,
+        End::Finished(bytes) if !status::good(bytes) => Outcome::Failed,
+        End::Finished(_) => Outcome::Good,
+        End::Offered(_) | End::Waits => Outcome::None,
+    }
+}
+
+/// Gives the block that a command moved, as a picture shows it. The command may have failed.
+pub fn moved(report: &Report) -> Option<Move> {
+    report.changes.iter().find_map(|change| match change {
         Change::Moved {
             block,
             spare,
             cause,
             ..
-        } => Some((block.number(), *spare, *cause)),
+        } => Some(Move {
+            block: block.number(),
+            sector: spare_sector(*spare),
+            cause: *cause,
+        }),
         _ => None,
-    });
-    match (report.end, moved) {
-        (End::Refused(_), _) => Outcome::Refused,
-        (End::Cut(_), _) => Outcome::Cut,
-        (End::Finished(bytes), _) if bytes[0] & status::NOT_55 != 0 => Outcome::None,
-        (End::Finished(bytes), _) if !status::good(bytes) => Outcome::Failed,
-        (End::Finished(_), Some((block, k, cause))) => Outcome::Spared {
-            block,
-            sector: spare_sector(k),
-            cause,
-        },
-        (End::Finished(_), None) => Outcome::Good,
-        (End::Offered(_) | End::Waits, _) => Outcome::None,
-    }
+    })
 }
 
 /// The words, cut to at most this many characters.

@@ -414,6 +414,26 @@ fn pictures() {
     fs::remove_dir_all(here).expect("removed");
 }
 
+#[test]
+fn a_time_line_counts_the_moves_of_failed_commands() {
+    let here = folder("failed-moves");
+    let plan = "start\nwrite 5 \"after\"\nfault sector 5 writes next 1 timeout\n\
+                fault sector 4960 writes next 1 timeout\nwrite 5 \"x\"\nread 5\n";
+    fs::write(here.join("my.plan"), plan).expect("written");
+    let (status, out, _) = workbench(&here, &["run", "my.plan"], "");
+    assert!(status == 0 && out.contains("table not stored (timeout), failed, spared\n"));
+    assert!(out.contains("\n3 commands, 107 accesses, 1 move, history: allowed\n"));
+    let svg = picture(&here, "timeline", "my.plan");
+    let sum = ">3 commands (1 moved a block, 1 failed), 107 surface accesses (2 errors), ";
+    assert!(svg.contains(sum), "{svg}");
+    assert!(svg.contains(">5 → sector 4928, timeout</text>"));
+    for (plan, moves) in [("latch", 1), ("random", 32)] {
+        let svg = picture(&here, "timeline", plan);
+        assert!(svg.contains(&format!(" commands ({moves} moved a block, ")));
+    }
+    fs::remove_dir_all(here).expect("removed");
+}
+
 /// Asks for the odds of the banner with these further words.
 fn odds(here: &Path, words: &str) -> (i32, String, String) {
     let words = format!("odds banner --rate 1/20 {words}");

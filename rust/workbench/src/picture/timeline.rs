@@ -6,7 +6,7 @@
 mod choice;
 mod marks;
 
-pub use marks::{Mark, Outcome};
+pub use marks::{Mark, Move, Outcome};
 
 use super::svg::{counted, room, Canvas, EDGE, FAINT, WIDTH};
 use crate::clock::Time;
@@ -23,6 +23,8 @@ pub struct Moment {
     pub accesses: Vec<Mark>,
     /// How the command ended.
     pub outcome: Outcome,
+    /// The block that it moved, if it did.
+    pub moved: Option<Move>,
     /// What it would have taken on the drive.
     pub took: Time,
     /// A comparison found other bytes than it should.
@@ -44,10 +46,11 @@ const CARD_GAP: i32 = 8;
 const MARGIN: i32 = 9;
 
 /// Marks of a card take at most this room; of more, the first and the last
-/// are shown.
+/// are shown, with the number of the others between them.
 const ROOM: i32 = 480;
 const FIRST_ROOM: i32 = 330;
 const LAST_ROOM: i32 = 90;
+const MORE_ROOM: i32 = 115;
 
 /// So few marks stand further apart.
 const FEW: usize = 24;
@@ -83,6 +86,7 @@ struct Card {
     /// The marks are those of each of so many commands.
     times: usize,
     outcome: Outcome,
+    moved: Option<Move>,
     took: Time,
     other_bytes: bool,
 }
@@ -125,7 +129,8 @@ fn summary(moments: &[Moment]) -> String {
     let count = |wanted: fn(Outcome) -> bool| moments.iter().filter(|m| wanted(m.outcome)).count();
     let finished = |outcome| !matches!(outcome, Outcome::Refused | Outcome::Cut | Outcome::None);
     let commands = count(finished);
-    let moved = count(|outcome| matches!(outcome, Outcome::Spared { .. }));
+    let moved = moments.iter().filter(|moment| moment.moved.is_some());
+    let moved = moved.count();
     let failed = count(|outcome| outcome == Outcome::Failed);
     let marks = || moments.iter().flat_map(|moment| &moment.accesses);
     let errors = marks().map(|mark| mark.errors()).sum();
@@ -237,8 +242,8 @@ fn wrapped(words: &str, most: usize) -> Vec<String> {
 /// The two commands share a card: they are of one kind, have like accesses, and came to
 /// the same. A move and a power cut have cards of their own.
 fn share(one: &Moment, next: &Moment) -> bool {
-    let alone = matches!(one.outcome, Outcome::Spared { .. } | Outcome::Cut);
-    !alone
+    let alone = |moment: &Moment| moment.moved.is_some() || moment.outcome == Outcome::Cut;
+    !(alone(one) || alone(next))
         && one.outcome == next.outcome
         && one.other_bytes == next.other_bytes
         && one.accesses == next.accesses
@@ -247,9 +252,7 @@ fn share(one: &Moment, next: &Moment) -> bool {
 
 /// Says whether nothing went wrong in the command.
 fn is_clean(moment: &Moment) -> bool {
-    matches!(moment.outcome, Outcome::Good | Outcome::None)
-        && !moment.other_bytes
-        && moment.accesses.iter().all(|mark| mark.errors() == 0)
+    !choice::is_notable(moment) && moment.accesses.iter().all(|mark| mark.errors() == 0)
 }
 
 /// A command's first word and what follows it.
@@ -271,6 +274,7 @@ fn card(moments: &[&Moment]) -> Card {
         marks: marks.copied().collect(),
         times,
         outcome: first.outcome,
+        moved: first.moved,
         took: time_of(moments.iter().copied()),
         other_bytes: first.other_bytes,
     }
@@ -393,10 +397,13 @@ impl Card {
         if marks.is_empty() {
             return vec![Piece::Words("no access".to_string())];
         }
-        if all <= ROOM {
+        let apart = self.apart() * marks.len() as i32;
+        let free = CARDS_END - CARDS - 2 * MARGIN - self.end_room() - apart;
+        if all <= ROOM.min(free) {
             return ones(marks);
         }
-        let first = fitting(marks.iter(), FIRST_ROOM);
+        let first = FIRST_ROOM.min(free - MORE_ROOM - LAST_ROOM);
+        let first = fitting(marks.iter(), first);
         let last = marks.len() - fitting(marks.iter().rev(), LAST_ROOM);
         let mut pieces: Vec<Piece> = ones(&marks[..first]);
         let more = accesses_of(marks[first..last].iter());
@@ -422,10 +429,11 @@ impl Card {
         }
     }
 
-    /// Gives the outcome whose symbol is drawn: none for a good one with other bytes.
+    /// Gives the outcome whose symbol is drawn: none for a good one with a move or other
+    /// bytes, which have marks of their own.
     fn symbol(&self) -> Outcome {
         match self.outcome {
-            Outcome::Good if self.other_bytes => Outcome::None,
+            Outcome::Good if self.other_bytes || self.moved.is_some() => Outcome::None,
             outcome => outcome,
         }
     }
@@ -433,9 +441,27 @@ impl Card {
     fn width(&self) -> i32 {
         let pieces = self.pieces();
         let marks: i32 = pieces.iter().map(|piece| piece.room() + self.apart()).sum();
-        let others = i32::from(self.other_bytes) * marks::other_bytes_room();
         let words = room(&self.title(), 12) + self.time_room();
-        words.max(marks + self.symbol().room() + others) + 2 * MARGIN
+        words.max(marks + self.end_room()) + 2 * MARGIN
+    }
+
+    /// Gives the room behind the marks for a move, the outcome and other bytes.
+    fn end_room(&self) -> i32 {
+        let moved = self.moved.map_or(0, Move::room);
+        let others = i32::from(self.other_bytes) * marks::other_bytes_room();
+        moved + self.symbol().room() + others
+    }
+
+    /// Draws the move, the outcome and other bytes in their room, which begins at `x`.
+    fn draw_end(&self, canvas: &mut Canvas, mut x: i32, y: i32) {
+        if let Some(moved) = self.moved {
+            moved.draw(canvas, x, y);
+            x += moved.room();
+        }
+        self.symbol().draw(canvas, x, y);
+        if self.other_bytes {
+            marks::other_bytes(canvas, x + self.symbol().room(), y);
+        }
     }
 
     /// Room for the time behind the title.
@@ -463,10 +489,7 @@ impl Card {
             piece.draw(canvas, x, y);
             x += piece.room() + self.apart();
         }
-        self.symbol().draw(canvas, x, y);
-        if self.other_bytes {
-            marks::other_bytes(canvas, x + self.symbol().room(), y);
-        }
+        self.draw_end(canvas, x, y);
     }
 
     /// The card in words.
@@ -478,8 +501,17 @@ impl Card {
             true => ", other bytes",
             false => "",
         };
-        let (end, about) = (self.outcome.words(), about(self.took));
+        let (end, about) = (self.ended(), about(self.took));
         format!("{label}: {accesses}, {errors}{end}{others}{about}")
+    }
+
+    /// Says how the commands ended, and what moved: ", failed, spared: 5 → sector 4928, timeout".
+    fn ended(&self) -> String {
+        match (self.outcome, self.moved) {
+            (outcome, None) => outcome.words(),
+            (Outcome::Good, Some(moved)) => format!(", spared: {}", moved.words()),
+            (outcome, Some(moved)) => format!("{}, spared: {}", outcome.words(), moved.words()),
+        }
     }
 }
 
@@ -542,8 +574,22 @@ mod tests {
             command: command.to_string(),
             accesses: accesses.to_vec(),
             outcome,
+            moved: None,
             took: Time::ZERO,
             other_bytes: false,
+        }
+    }
+
+    /// The command, which moved this block to the first spare.
+    fn moving(block: u32, moment: Moment) -> Moment {
+        let moved = Move {
+            block,
+            sector: 4928,
+            cause: Cause::Crc,
+        };
+        Moment {
+            moved: Some(moved),
+            ..moment
         }
     }
 
@@ -570,13 +616,11 @@ mod tests {
         svg
     }
 
+    fn rereads(failed: u32) -> Mark {
+        Rereads { all: 100, failed }
+    }
+
     fn week() -> Vec<Moment> {
-        let spared = Outcome::Spared {
-            block: 17,
-            sector: 4928,
-            cause: Cause::Timeout,
-        };
-        let rereads = |failed| Rereads { all: 100, failed };
         let long = [CrcError, Read, CrcError, Timeout, Read, Write, rereads(31)];
         let moved = [&long[..], &[Write, rereads(0), Store]].concat();
         [
@@ -590,7 +634,7 @@ mod tests {
                 Outcome::Good,
             )],
             vec![heading("Wednesday: the block moves")],
-            vec![moment("read 17", &moved, spared)],
+            vec![moving(17, moment("read 17", &moved, Outcome::Good))],
             vec![heading("Thursday: nothing is left to store")],
             vec![moment("raise", &[], Outcome::None)],
             vec![heading("Friday: written with verify")],
@@ -607,7 +651,7 @@ mod tests {
         for words in [
             "40 writes, blocks 0–39: 40 accesses, 0 errors, good",
             "read 17: 3 accesses, 2 errors, good",
-            "read 17: 208 accesses, 34 errors, spared: 17 → sector 4928, timeout",
+            "read 17: 208 accesses, 34 errors, spared: 17 → sector 4928, CRC error",
             "raise: 0 accesses, 0 errors",
             "40 write/verifies, blocks 0–39: 80 accesses, 0 errors, good",
         ] {
@@ -623,7 +667,8 @@ mod tests {
             );
         }
         assert_eq!(svg.matches(">40 reads, blocks 0–39</text>").count(), 2);
-        assert_eq!(svg.matches(">17 → sector 4928, timeout</text>").count(), 1);
+        let words = ">17 → sector 4928, CRC error</text>";
+        assert_eq!(svg.matches(words).count(), 1);
         assert!(svg.len() < 25_000, "{}", svg.len());
     }
 
@@ -716,12 +761,12 @@ mod tests {
             ["raise, 2 times"]
         );
         assert_eq!(fold("read 1", "write 1", &error, Outcome::Failed).len(), 2);
-        let spared = Outcome::Spared {
-            block: 1,
-            sector: 4928,
-            cause: Cause::Crc,
-        };
-        assert_eq!(fold("read 1", "read 1", &error, spared).len(), 2);
+        for outcome in [Outcome::Good, Outcome::Failed] {
+            let moved = moving(1, moment("read 1", &error, outcome));
+            assert_eq!(labels(&[moved.clone(), moved.clone()]).len(), 2);
+            let not = moment("read 1", &error, outcome);
+            assert_eq!(labels(&[not, moved]).len(), 2);
+        }
         let failed = moment("read 1", &error, Outcome::Failed);
         let other = moment("read 1", &[CrcError], Outcome::Failed);
         assert_eq!(labels(&[failed, other]).len(), 2);
@@ -761,18 +806,28 @@ mod tests {
         assert_eq!(svg.matches(">other bytes</text>").count(), 2);
         assert_eq!(svg.matches("l3 3l5 -6").count(), 2);
         assert!(svg.contains(" surface accesses (0 errors), 2 blocks with other bytes<"));
-        let spared = Outcome::Spared {
-            block: 2,
-            sector: 4928,
-            cause: Cause::Crc,
-        };
-        let moved = Moment {
-            outcome: spared,
-            ..other
-        };
-        let svg = drawn(&[moved]);
+        let svg = drawn(&[moving(2, other)]);
         assert!(svg.contains(">2 → sector 4928, CRC error</text>"));
         assert_eq!(svg.matches(">other bytes</text>").count(), 2);
+    }
+
+    #[test]
+    fn a_move_whose_command_failed_has_both_marks() {
+        let moved = |outcome| moving(5, moment("write 5", &[Timeout, Write, Timeout], outcome));
+        let svg = drawn(&[moved(Outcome::Failed)]);
+        let words = "write 5: 3 accesses, 2 errors, failed, spared: 5 → sector 4928, CRC error";
+        assert!(svg.contains(&format!("<title>{words}</title>")), "{svg}");
+        let sum = ">1 command (1 moved a block, 1 failed), 3 surface accesses (2 errors)</text>";
+        assert!(svg.contains(sum), "{svg}");
+        let pill = svg.find(">5 → sector 4928, CRC error</text>");
+        let pill = pill.expect("the move");
+        // The cross of a failed command is on the card behind the move, and in the legend.
+        let cross = "l6 6m0 -6l-6 6";
+        assert_eq!(svg.matches(cross).count(), 2);
+        assert_eq!(svg[pill..].matches(cross).count(), 2);
+        let width = |outcome| card(&[&moved(outcome)]).width();
+        let failure = Outcome::Failed.room();
+        assert_eq!(width(Outcome::Failed), width(Outcome::Good) + failure);
     }
 
     #[test]
@@ -885,18 +940,13 @@ mod tests {
 
     #[test]
     fn failures_and_moves_are_drawn_before_others() {
-        let moved = Outcome::Spared {
-            block: 901,
-            sector: 4928,
-            cause: Cause::Crc,
-        };
         let command = |at: u32| match at {
             350 | 920 => moment(&format!("read {at}"), &[CrcError], Outcome::Failed),
             400 => Moment {
                 other_bytes: true,
                 ..moment("read 400", &[Read], Outcome::Good)
             },
-            901 => moment("read 901", &[CrcError], moved),
+            901 => moving(901, moment("read 901", &[CrcError], Outcome::Good)),
             // Good ones that share no card.
             _ => moment(&format!("x{at}"), &[Read], Outcome::Good),
         };
@@ -929,13 +979,14 @@ mod tests {
             other_bytes: true,
             ..moment("read 5", &[Read], Outcome::Good)
         });
+        moments.push(moving(6, moment("write 6", &[Timeout], Outcome::Failed)));
         let words: Vec<String> = row(&moments).heading.into_iter().map(|l| l.words).collect();
         assert_eq!(
             words.join(" "),
-            "11 more not drawn, 11 failures or moves among them"
+            "12 more not drawn, 12 failures or moves among them"
         );
         let labels = labels(&moments);
-        assert_eq!(labels[298..], ["x298", "… 11 more …", "read 5"]);
+        assert_eq!(labels[297..], ["x297", "… 12 more …", "read 5", "write 6"]);
     }
 
     #[test]
@@ -982,8 +1033,22 @@ mod tests {
     }
 
     #[test]
+    fn a_long_move_that_failed_fits_its_card() {
+        let trials = [Write, rereads(31)].repeat(4);
+        let long = [vec![Timeout; 346], trials.repeat(8)].concat();
+        let few = [vec![Timeout; 11], trials].concat();
+        for marks in [long, few] {
+            let moment = moving(9727, moment("write 9727", &marks, Outcome::Failed));
+            let card = card(&[&moment]);
+            assert!(card.width() <= CARDS_END - CARDS, "{}", card.width());
+            let some = |piece: &Piece| matches!(piece, Piece::Words(_));
+            assert!(card.pieces().iter().any(some));
+            drawn(&[moment]);
+        }
+    }
+
+    #[test]
     fn trials_that_went_well_share_a_card() {
-        let rereads = |failed| Rereads { all: 100, failed };
         let two = |failed| labels(&each("write", 1..3, &[Write, rereads(failed)]));
         assert_eq!(two(0), ["2 writes, blocks 1–2"]);
         assert_eq!(two(1), ["2 writes, blocks 1–2, each"]);
@@ -991,18 +1056,18 @@ mod tests {
 
     #[test]
     fn long_rows_wrap() {
-        let spared = |block| Outcome::Spared {
-            block,
-            sector: 4928 + block,
-            cause: Cause::NoSettle,
+        let command = |block| {
+            moving(
+                block,
+                moment(&format!("read {block}"), &[NoSettle; 100], Outcome::Good),
+            )
         };
-        let command = |block| moment(&format!("read {block}"), &[NoSettle; 100], spared(block));
         let moments: Vec<Moment> = (0..9).map(command).collect();
         let lines: Vec<i32> = row(&moments).items.iter().map(|item| item.1).collect();
         assert_eq!(lines, [0, 1, 2, 3, 4, 5, 6, 7, 8]);
         let svg = drawn(&moments);
         for block in 0..9 {
-            let words = format!("{block} → sector {}, no settle", 4928 + block);
+            let words = format!("{block} → sector 4928, CRC error");
             assert!(svg.contains(&format!(">{words}</text>")), "{words}");
         }
         let short = [

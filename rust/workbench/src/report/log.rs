@@ -61,6 +61,8 @@ pub struct Card {
     pub words: String,
     pub status: Option<[u8; 4]>,
     pub outcome: Outcome,
+    /// A block moved, whether its command was good or failed.
+    pub moved: bool,
     /// Trials, moves and dead spares.
     pub lines: Vec<String>,
     pub rows: Kept<Row>,
@@ -145,6 +147,7 @@ impl Card {
                 _ => None,
             },
             outcome: show::outcome(report),
+            moved: show::moved(report).is_some(),
             lines: trials.into_iter().chain(changes).collect(),
             rows: rows(&report.accesses, room),
             cut: match report.end {

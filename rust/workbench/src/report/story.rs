@@ -2,6 +2,7 @@
 
 use super::html::{escape, linked, Html};
 use super::kept::Part;
+use super::timeline::{behind_move, ended};
 use super::told::{is_unmet, Kind, Step, Told};
 use crate::clock::Time;
 use crate::picture::Outcome;
@@ -118,7 +119,7 @@ fn write_step(html: &mut Html, told: &Told, step: &Step) {
         });
         html.block("div", r#"class="ended""#, |html| {
             if !badge.is_empty() {
-                html.words("span", r#"class="badge""#, badge);
+                html.words("span", r#"class="badge""#, &badge);
             }
             if step.cards.counted() > 0 {
                 let label = format!("accesses of line {number}");
@@ -142,19 +143,15 @@ fn write_number(html: &mut Html, number: usize, known: bool) {
     }
 }
 
-/// Gives the class of a line, and the word for how it ended.
-fn badge(step: &Step) -> (&'static str, &'static str) {
+/// Gives the class of a line, and the words for how it ended.
+fn badge(step: &Step) -> (&'static str, String) {
+    let moved = step.moved();
     match (step.kind, step.outcome()) {
-        (Kind::Order, _) => ("order", "ordered"),
-        (Kind::Expect(true), _) => ("expect", ""),
-        (Kind::Expect(false), _) => ("expect bad", "not met"),
-        (_, Outcome::None) => ("plain", ""),
-        (_, Outcome::Good) if has_unmet(step) => ("bad", "✗ other bytes"),
-        (_, Outcome::Good) => ("good", "✓ good"),
-        (_, Outcome::Spared { .. }) => ("moved", "→ moved"),
-        (_, Outcome::Failed) => ("bad", "✗ failed"),
-        (_, Outcome::Refused) => ("refused", "refused"),
-        (_, Outcome::Cut) => ("cut", "⚡ power fails"),
+        (Kind::Order, _) => ("order", String::from("ordered")),
+        (Kind::Expect(true), _) => ("expect", String::new()),
+        (Kind::Expect(false), _) => ("expect bad", String::from("not met")),
+        (_, Outcome::Good) if has_unmet(step) => ("bad", behind_move(moved, "✗ other bytes")),
+        (_, outcome) => ended(outcome, moved),
     }
 }
 

@@ -83,17 +83,39 @@ fn the_week() {
     assert!(html.len() < 80_000, "{}", html.len());
 }
 
+/// Finds the word for how a line of the story ended.
+fn badge(html: &str, number: usize) -> &str {
+    let line = format!("id=\"line-{number}\"");
+    let rest = &html[html.find(&line).expect("the line")..];
+    let (_, rest) = rest.split_once("class=\"badge\">").expect("a badge");
+    rest.split_once('<').expect("its end").0
+}
+
 #[test]
 fn other_bytes_are_no_good_line() {
-    let plan = "start\nwrite 17 \"a\"\ncompare 17 with \"b\"\ncompare 17 with \"a\"\n";
+    let plan = "start\nwrite 17 \"a\"\ncompare 17 with \"b\"\ncompare 17 with \"a\"\n\
+                fault sector 17 reads next 2 crc\nfault sector 17 rereads fail 31 of 100\n\
+                compare 17 1 1 with \"b\"\n";
     let html = made(plan).html;
-    let line = |number: usize| {
-        let begins = format!("id=\"line-{number}\"");
-        let rest = &html[html.find(&begins).expect("the line")..];
-        rest[..rest.find("class=\"ended\"").expect("its end") + 200].to_string()
-    };
-    assert!(line(3).contains("✗ other bytes") && !line(3).contains("✓ good"));
-    assert!(line(4).contains("✓ good"));
+    assert_eq!(badge(&html, 3), "✗ other bytes");
+    assert_eq!(badge(&html, 4), "✓ good");
+    assert_eq!(badge(&html, 7), "→ moved, ✗ other bytes");
+}
+
+#[test]
+fn a_move_whose_command_failed_is_told() {
+    let plan = "start\nwrite 5 \"after\"\nfault sector 5 writes next 1 timeout\n\
+                fault sector 4960 writes next 1 timeout\nwrite 5 \"x\"\n\
+                fault sector 6 writes next 1 timeout\nwrite 6 \"x\"\n";
+    let html = made(plan).html;
+    assert_eq!(badge(&html, 5), "→ moved, ✗ failed");
+    assert_eq!(badge(&html, 7), "→ moved");
+    for (class, words) in [("bad", "→ moved, ✗ failed"), ("moved", "→ moved")] {
+        let card = format!("<details class=\"card {class}\">");
+        assert_eq!(html.matches(&card).count(), 1, "{class}");
+        let end = format!("<span class=\"end\">{words}</span>");
+        assert_eq!(html.matches(&end).count(), 1, "{words}");
+    }
 }
 
 #[test]

@@ -18,6 +18,9 @@ const LETTERS: usize = 400;
 /// So many marks of a command are shown in its line.
 const MARKS: usize = 40;
 
+/// The words of a move.
+const MOVED: &str = "→ moved";
+
 /// So many sectors are named one by one.
 const SECTORS: usize = 12;
 
@@ -102,14 +105,14 @@ fn write_step(html: &mut Html, step: &Step) {
 
 /// Writes a command, or those that share a card.
 fn write_card(html: &mut Html, card: &Card) {
-    let (class, sign) = ended(card);
+    let (class, sign) = ended(card.outcome, card.moved);
     html.block("details", &format!(r#"class="card {class}""#), |html| {
         html.element("summary", "", |html| {
             html.words("span", r#"class="what""#, &card.name());
             html.element("span", r#"class="marks" aria-hidden="true""#, |html| {
                 marks(html, card);
             });
-            html.words("span", r#"class="end""#, sign);
+            html.words("span", r#"class="end""#, &sign);
             if card.took > Time::ZERO {
                 html.raw(" ");
                 html.words("span", r#"class="took""#, &card.took.to_string());
@@ -141,15 +144,24 @@ fn about(took: Time) -> String {
     }
 }
 
-/// Gives the class of a card, and the words for how it ended.
-fn ended(card: &Card) -> (&'static str, &'static str) {
-    match card.outcome {
+/// Gives the class of commands, and the words for how they ended: "→ moved, ✗ failed".
+pub fn ended(outcome: Outcome, moved: bool) -> (&'static str, String) {
+    let (class, words) = match outcome {
+        Outcome::Good | Outcome::None if moved => return ("moved", String::from(MOVED)),
         Outcome::None => ("plain", ""),
         Outcome::Good => ("good", "✓ good"),
-        Outcome::Spared { .. } => ("moved", "→ moved"),
         Outcome::Failed => ("bad", "✗ failed"),
         Outcome::Refused => ("refused", "refused"),
         Outcome::Cut => ("cut", "⚡ power fails"),
+    };
+    (class, behind_move(moved, words))
+}
+
+/// Puts words behind those of a move, if there was one.
+pub fn behind_move(moved: bool, words: &str) -> String {
+    match moved {
+        true => format!("{MOVED}, {words}"),
+        false => words.to_string(),
     }
 }
 

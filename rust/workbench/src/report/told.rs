@@ -265,13 +265,17 @@ impl Step {
         let rank = |outcome: &Outcome| match outcome {
             Outcome::None => 0,
             Outcome::Good => 1,
-            Outcome::Spared { .. } => 2,
-            Outcome::Refused => 3,
-            Outcome::Failed => 4,
-            Outcome::Cut => 5,
+            Outcome::Refused => 2,
+            Outcome::Failed => 3,
+            Outcome::Cut => 4,
         };
         let outcomes = self.cards.things().into_iter().map(|card| card.outcome);
         outcomes.max_by_key(rank).unwrap_or(Outcome::None)
+    }
+
+    /// Says whether a command of the line moved its block.
+    pub fn moved(&self) -> bool {
+        self.cards.things().into_iter().any(|card| card.moved)
     }
 }
 

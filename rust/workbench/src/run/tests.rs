@@ -721,14 +721,12 @@ fn moments_are_kept_for_a_picture() {
     assert_eq!(moments.len(), 6);
     assert_eq!(moments[0].heading.as_deref(), Some("Monday"));
     assert_eq!(moments[2].command, "write-verify 9");
-    assert!(matches!(
-        moments[2].outcome,
-        Outcome::Spared {
-            block: 9,
-            sector: 4928,
-            cause: Cause::Crc
-        }
-    ));
+    let moved = crate::picture::Move {
+        block: 9,
+        sector: 4928,
+        cause: Cause::Crc,
+    };
+    assert_eq!(moments[2].moved, Some(moved));
     let rereads = |failed| Mark::Rereads { all: 100, failed };
     assert_eq!(
         moments[2].accesses,

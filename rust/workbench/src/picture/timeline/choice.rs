@@ -23,18 +23,19 @@ pub fn left_out<'a>(groups: &[&[&'a Moment]], drawn: &[bool]) -> Vec<&'a Moment>
 /// Says whether a command failed, moved a block, was cut off or refused, or brought other
 /// bytes.
 pub fn is_notable(moment: &Moment) -> bool {
-    moment.other_bytes || !matches!(moment.outcome, Outcome::Good | Outcome::None)
+    let ended = matches!(moment.outcome, Outcome::Good | Outcome::None);
+    moment.other_bytes || moment.moved.is_some() || !ended
 }
 
 /// Says how soon a command is left out, the last ones first.
 fn rank(moment: &Moment) -> u8 {
     let errors = moment.accesses.iter().any(|mark| mark.errors() > 0);
-    match moment.outcome {
-        // There are no more of them than spares.
-        Outcome::Spared { .. } => 0,
-        _ if moment.other_bytes => 0,
-        _ if is_notable(moment) => 1,
-        _ if errors => 2,
-        _ => 3,
+    match moment.moved {
+        // There are few of them: each takes a spare, or its store failed.
+        Some(_) => 0,
+        None if moment.other_bytes => 0,
+        None if is_notable(moment) => 1,
+        None if errors => 2,
+        None => 3,
     }
 }

@@ -26,16 +26,19 @@ pub enum Mark {
 #[derive(Clone, Copy, Debug, PartialEq, Eq)]
 pub enum Outcome {
     Good,
-    Spared {
-        block: u32,
-        sector: u32,
-        cause: Cause,
-    },
     Failed,
     Refused,
     /// The power failed.
     Cut,
     None,
+}
+
+/// A block that moved to a spare, whether its command was good or failed.
+#[derive(Clone, Copy, Debug, PartialEq, Eq)]
+pub struct Move {
+    pub block: u32,
+    pub sector: u32,
+    pub cause: Cause,
 }
 
 const READ: &str = r##"fill="#2563a8""##;
@@ -143,7 +146,6 @@ impl Outcome {
         match self {
             Outcome::Good | Outcome::Failed | Outcome::Refused => 24,
             Outcome::Cut => room(POWER_FAILS, 12) + 36,
-            Outcome::Spared { .. } => room(&self.spared(), 12) + 24,
             Outcome::None => 0,
         }
     }
@@ -155,7 +157,6 @@ impl Outcome {
             Outcome::Failed => failed(canvas, x + 14, y),
             Outcome::Refused => refused(canvas, x + 14, y),
             Outcome::Cut => cut(canvas, x + 6, y),
-            Outcome::Spared { .. } => pill(canvas, x + 6, y, &self.spared()),
             Outcome::None => {}
         }
     }
@@ -167,21 +168,26 @@ impl Outcome {
             Outcome::Failed => ", failed".to_string(),
             Outcome::Refused => ", refused".to_string(),
             Outcome::Cut => format!(", {POWER_FAILS}"),
-            Outcome::Spared { .. } => format!(", spared: {}", self.spared()),
             Outcome::None => String::new(),
         }
     }
+}
 
-    /// Says where a block moved and why: "17 → sector 4929, CRC error".
-    fn spared(self) -> String {
-        match self {
-            Outcome::Spared {
-                block,
-                sector,
-                cause,
-            } => format!("{block} → sector {sector}, {}", table::cause(cause)),
-            _ => String::new(),
-        }
+impl Move {
+    /// Gives the room behind the marks.
+    pub fn room(self) -> i32 {
+        room(&self.words(), 12) + 24
+    }
+
+    /// Draws it in its room, which begins at `x`.
+    pub fn draw(self, canvas: &mut Canvas, x: i32, y: i32) {
+        pill(canvas, x + 6, y, &self.words());
+    }
+
+    /// Says where the block moved and why: "17 → sector 4929, CRC error".
+    pub fn words(self) -> String {
+        let cause = table::cause(self.cause);
+        format!("{} → sector {}, {cause}", self.block, self.sector)
     }
 }
 
