@@ -421,11 +421,25 @@ impl Card {
         }
     }
 
+    /// Says whether the marks are those of each of several commands.
+    fn is_each(&self) -> bool {
+        self.times > 1 && !self.marks.is_empty()
+    }
+
     /// Gives what stands above the marks.
     fn title(&self) -> String {
-        match self.times > 1 && !self.marks.is_empty() {
+        match self.is_each() {
             true => format!("{}, each", self.label),
             false => self.label.clone(),
+        }
+    }
+
+    /// Gives the time of all its commands: "184 s", or "184 s in all" beside the marks of each.
+    fn time(&self) -> Option<String> {
+        match (self.took, self.is_each()) {
+            (Time::ZERO, _) => None,
+            (took, true) => Some(format!("{took} in all")),
+            (took, false) => Some(took.to_string()),
         }
     }
 
@@ -466,17 +480,14 @@ impl Card {
 
     /// Room for the time behind the title.
     fn time_room(&self) -> i32 {
-        match self.took {
-            Time::ZERO => 0,
-            took => room(&took.to_string(), 12) + MARGIN,
-        }
+        self.time().map_or(0, |time| room(&time, 12) + MARGIN)
     }
 
     /// Draws the time in the card's upper right corner, unless there is none.
     fn draw_time(&self, canvas: &mut Canvas, right: i32, y: i32) {
-        if self.took > Time::ZERO {
+        if let Some(time) = self.time() {
             let style = format!(r#"text-anchor="end" fill="{FAINT}""#);
-            canvas.text((right - MARGIN, y + 18), &style, &self.took.to_string());
+            canvas.text((right - MARGIN, y + 18), &style, &time);
         }
     }
 
@@ -900,10 +911,11 @@ mod tests {
         let words = "40 reads, blocks 0–39: 40 accesses, 40 errors, failed, about 30.0 s";
         assert!(svg.contains(&format!("<title>{words}</title>")), "{svg}");
         assert!(svg.contains(">40 reads, blocks 0–39, each</text>"));
-        assert!(svg.contains(">30.0 s</text>"));
+        assert!(svg.contains(">30.0 s in all</text>"));
         let title = room("40 reads, blocks 0–39, each", 12);
-        let width = title + room("30.0 s", 12) + 3 * MARGIN;
+        let width = title + room("30.0 s in all", 12) + 3 * MARGIN;
         assert_eq!(row(&all).items[0].2.width(), width);
+        assert!(drawn(&all[1..2]).contains(">1.0 s</text>"));
     }
 
     #[test]

@@ -68,6 +68,10 @@ fn the_week() {
         "<li>trial of sector <a href=\"#sector-17\">17</a>: 100 rereads, 31 failed, not passed</li>",
         "<p>expect good in-place errors 1 accesses 3: so it is</p>",
         "<span class=\"what\">write-verify 18..39</span>",
+        "<span class=\"took\">0.853 s in all</span>",
+        "<p>39 commands, each 1 write, good, about 0.853 s in all</p>",
+        "<span class=\"took\">0.151 s</span>",
+        " The seconds are estimates for the drive of document 000: docs/WORKBENCH.md, Time.</p>",
         "<td>12</td><td>write of a trial</td><td><a href=\"#sector-17\">17</a></td><td>done</td>",
         "<td>13..112</td><td>rereads of a trial</td><td><a href=\"#sector-17\">17</a></td>\
          <td class=\"wrong\">69 good, 31 CRC errors</td>",

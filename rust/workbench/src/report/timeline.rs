@@ -18,6 +18,11 @@ const LETTERS: usize = 400;
 /// So many marks of a command are shown in its line.
 const MARKS: usize = 40;
 
+/// What is said above the commands.
+const HINT: &str = "A command opens, and shows its accesses one by one. Equal neighbours are \
+     folded: accesses that went alike, and commands for blocks in a row. The seconds are \
+     estimates for the drive of document 000: docs/WORKBENCH.md, Time.";
+
 /// The words of a move.
 const MOVED: &str = "→ moved";
 
@@ -28,9 +33,7 @@ const SECTORS: usize = 12;
 pub fn timeline(html: &mut Html, told: &Told) {
     html.block("section", r#"id="time" aria-labelledby="h-time""#, |html| {
         html.line("h2", r#"id="h-time""#, "Time line");
-        let words = "A command opens, and shows its accesses one by one. Equal neighbours \
-                     are folded: accesses that went alike, and commands for blocks in a row.";
-        html.line("p", r#"class="hint""#, words);
+        html.line("p", r#"class="hint""#, HINT);
         keys(html);
         for chapter in chapters(told) {
             write_chapter(html, &chapter);
@@ -113,17 +116,13 @@ fn write_card(html: &mut Html, card: &Card) {
                 marks(html, card);
             });
             html.words("span", r#"class="end""#, &sign);
-            if card.took > Time::ZERO {
+            if let Some(took) = took(card) {
                 html.raw(" ");
-                html.words("span", r#"class="took""#, &card.took.to_string());
+                html.words("span", r#"class="took""#, &took);
             }
         });
         html.raw("\n");
-        let words = match card.commands {
-            1 => card.words.clone(),
-            commands => format!("{commands} commands, each {}", card.words),
-        };
-        html.line("p", "", &format!("{words}{}", about(card.took)));
+        html.line("p", "", &words(card));
         for line in &card.lines {
             let line = linked(line, LETTERS);
             html.element("p", r#"class="sub""#, |html| html.raw(&line));
@@ -134,6 +133,25 @@ fn write_card(html: &mut Html, card: &Card) {
             html.line("p", r#"class="status""#, &trace::status_line(status));
         }
     });
+}
+
+/// Says what the commands of a card came to, and what they took.
+fn words(card: &Card) -> String {
+    let words = match card.commands {
+        1 => card.words.clone(),
+        commands => format!("{commands} commands, each {}", card.words),
+    };
+    let about = took(card).map(|took| format!(", about {took}"));
+    words + &about.unwrap_or_default()
+}
+
+/// Gives the time of a card: "2.2 s", or "184 s in all" if it has several commands.
+fn took(card: &Card) -> Option<String> {
+    match (card.took, card.commands) {
+        (Time::ZERO, _) => None,
+        (took, 1) => Some(took.to_string()),
+        (took, _) => Some(format!("{took} in all")),
+    }
 }
 
 /// Says what commands would have taken on the drive, if they had an access.
