@@ -1,7 +1,7 @@
 //! The odds of a plan: a column for each number of sectors that died in a run, and in it
 //! the endings of those runs, one upon another, as shares of them.
 
-use super::svg::{counted, Canvas, Key, BAD, EDGE, FAINT, INK, MOVED, TABLE, WIDTH};
+use super::svg::{counted, room, Canvas, Key, BAD, EDGE, FAINT, INK, MOVED, TABLE, WIDTH};
 use crate::odds::{percent, Counts, Ending, Figures, Odds};
 use crate::run::Why;
 
@@ -43,8 +43,13 @@ pub fn odds(odds: &Odds) -> String {
     axes(&mut canvas);
     let columns = columns(&figures);
     let across = ((RIGHT - LEFT) / columns.len() as i32).min(WIDEST);
+    let apart = labels_apart(&columns, across);
     for (at, column) in (0..).zip(&columns) {
-        column.draw(&mut canvas, LEFT + across * at, across);
+        let x = LEFT + across * at;
+        if at % apart == 0 {
+            canvas.text((x + across / 2, BOTTOM + 20), MIDDLE, &column.label());
+        }
+        column.draw(&mut canvas, x, across);
     }
     let end = canvas.legend(BOTTOM + 76, 3, &keys(&figures));
     canvas.finish(&title, end + 20)
@@ -127,6 +132,13 @@ fn columns(figures: &Figures) -> Vec<Column> {
     (0..=most / wide).map(column).collect()
 }
 
+/// Says every which column has its label, so that labels do not touch.
+fn labels_apart(columns: &[Column], across: i32) -> i32 {
+    let rooms = columns.iter().map(|column| room(&column.label(), 12));
+    let widest = rooms.max().unwrap_or(0);
+    (widest - 1) / across + 1
+}
+
 impl Column {
     fn runs(&self) -> u64 {
         self.counts.iter().sum()
@@ -144,7 +156,6 @@ impl Column {
     fn draw(&self, canvas: &mut Canvas, x: i32, across: i32) {
         let middle = x + across / 2;
         let runs = self.runs().to_string();
-        canvas.text((middle, BOTTOM + 20), MIDDLE, &self.label());
         canvas.text((middle, BOTTOM + 40), &faint(MIDDLE), &runs);
         let width = across - (across / 6).max(2);
         let mut below = 0;
@@ -331,7 +342,43 @@ mod tests {
     fn many_numbers_share_columns() {
         let runs: Vec<(Ending, u64)> = (0..1000).map(|deaths| (Ending::Whole, deaths)).collect();
         let svg = drawn(&runs);
-        assert!(svg.contains(">0–49</text>") && svg.contains(">950–999</text>"));
+        assert!(svg.contains(">0–49</text>") && svg.contains("<title>950–999 died, "));
         assert_eq!(svg.matches("<title>").count(), 1 + 20);
+    }
+
+    /// The places of the labels of the columns, from left to right, and their words.
+    fn labels(svg: &str) -> Vec<(i32, String)> {
+        let height = format!(r#"" y="{}" {MIDDLE}>"#, BOTTOM + 20);
+        let labels = svg.lines().filter_map(|line| {
+            let (x, words) = line.split_once(&height)?;
+            let x = x.strip_prefix("<text x=\"")?.parse().ok()?;
+            Some((x, words.strip_suffix("</text>")?.to_string()))
+        });
+        labels.collect()
+    }
+
+    #[test]
+    fn labels_do_not_touch() {
+        for most in [0, 19, 20, 99, 100, 170, 999, 1000, 9791, 99_999] {
+            let svg = drawn(&[(Ending::Whole, 0), (Ending::Whole, most)]);
+            let labels = labels(&svg);
+            assert!(!labels.is_empty(), "{most}");
+            for pair in labels.windows(2) {
+                let rooms: i32 = pair.iter().map(|(_, words)| room(words, 12)).sum();
+                assert!(pair[1].0 - pair[0].0 >= rooms / 2, "{pair:?}");
+            }
+        }
+    }
+
+    #[test]
+    fn every_second_column_has_a_label_if_they_are_long() {
+        let words = |most| -> Vec<String> {
+            let svg = drawn(&[(Ending::Whole, most)]);
+            labels(&svg).into_iter().map(|(_, words)| words).collect()
+        };
+        assert_eq!(words(99).len(), 20);
+        let long = words(170);
+        assert_eq!(long[..2], ["0–8", "18–26"]);
+        assert_eq!(long[long.len() - 1], "162–170");
     }
 }
