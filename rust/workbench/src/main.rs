@@ -23,7 +23,7 @@ use workbench::progress::Progress;
 use workbench::rescue::Spares;
 use workbench::run::{Run, Settings, Stop};
 use workbench::table_files::Source;
-use workbench::{files, image_files, report, rescue, show, table_files};
+use workbench::{files, image_files, report, rescue, show, summary, table_files};
 
 fn main() -> ExitCode {
     let asked = usage::asked(env::args_os().skip(1));
@@ -100,6 +100,8 @@ fn say_lines(lines: &[String]) -> Result<bool, String> {
 struct Played {
     /// All was as it should be.
     good: bool,
+    /// What was not.
+    wrong: Option<String>,
     moments: Vec<Moment>,
     /// The files that the plan read.
     inputs: Vec<PathBuf>,
@@ -121,9 +123,11 @@ fn play(plan: Option<&Plan>, mut settings: Settings, out: impl Write) -> Result<
     let mut run = Run::new(settings, BufWriter::new(out))?;
     let played = run.plan(input);
     let (number, inputs, all_done) = (run.number(), run.inputs(), played.is_ok());
+    let wrong = summary::not_as_it_should(run.host(), run.expectations());
     match played.and_then(|()| run.finish()) {
         Ok((good, moments)) => Ok(Played {
             good,
+            wrong,
             moments,
             inputs,
         }),
@@ -249,6 +253,9 @@ fn timeline(plan: &Plan, to: &Path) -> Result<bool, String> {
     let svg = picture::timeline(&format!("The run of {name}"), &played.moments);
     let output = Output::timeline(&plan.path, &played.inputs, to);
     files::write(&output, svg.as_bytes())?;
+    if let Some(wrong) = played.wrong {
+        eprintln!("workbench: {}: {wrong}", plan.name);
+    }
     Ok(played.good)
 }
 
@@ -312,6 +319,8 @@ fn page(plan: &Plan, to: &Path) -> Result<bool, String> {
     let page = page.map_err(|stop| format!("{}{stop}", plan.name))?;
     let output = Output::page(&plan.path, &page.inputs, to);
     files::write(&output, page.html.as_bytes())?;
-    say(&format!("{}: {}\n", to.display(), page.last_line))?;
+    let unmet = summary::not_met(page.expectations).map(|unmet| format!("; {unmet}"));
+    let unmet = unmet.unwrap_or_default();
+    say(&format!("{}: {}{unmet}\n", to.display(), page.last_line))?;
     Ok(page.good)
 }

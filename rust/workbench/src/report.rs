@@ -34,6 +34,8 @@ pub struct Page {
     pub good: bool,
     /// The last line of the run's output.
     pub last_line: String,
+    /// How many expectations are met, and how many there are.
+    pub expectations: (u32, u32),
     /// The files that the plan read.
     pub inputs: Vec<PathBuf>,
 }
@@ -46,6 +48,7 @@ pub fn page(name: &str, settings: Settings, plan: impl BufRead) -> Result<Page, 
         html: page::html(&told),
         good: told.good,
         last_line: told.last_line,
+        expectations: told.expectations,
         inputs: told.inputs,
     })
 }

@@ -115,6 +115,19 @@ fn dead(host: &Host) -> Option<String> {
     (!numbers.is_empty()).then(|| format!("dead sectors: {}", ranges(&numbers)))
 }
 
+/// Says how many expectations are not met, unless all are: "1 of 2 expectations not met".
+pub fn not_met((met, all): (u32, u32)) -> Option<String> {
+    (met < all).then(|| format!("{} of {all} expectations not met", all - met))
+}
+
+/// Says what of a run is not as it should be: a broken history, expectations, or nothing.
+pub fn not_as_it_should(host: &Host, expectations: (u32, u32)) -> Option<String> {
+    let history = host.board.history();
+    let broken = (!history.allowed()).then(|| format!("history: {}", history.verdict()));
+    let wrong: Vec<String> = broken.into_iter().chain(not_met(expectations)).collect();
+    (!wrong.is_empty()).then(|| wrong.join("; "))
+}
+
 /// The last line.
 pub fn last_line(host: &Host) -> String {
     let tally = host.tally;
@@ -125,4 +138,35 @@ pub fn last_line(host: &Host) -> String {
         count(tally.moves, "move", "moves"),
         host.board.history().verdict()
     )
+}
+
+#[cfg(test)]
+mod tests {
+    use reference::geometry::Sector;
+    use reference::surface::{Access, Left};
+
+    use super::*;
+    use crate::board::Board;
+    use crate::host::USUAL;
+    use crate::platter::Platter;
+
+    #[test]
+    fn what_is_not_as_it_should_be() {
+        let mut host = Host::new(Board::new(Platter::blank()));
+        host.start();
+        host.write(5, true, &[7; 532]);
+        assert_eq!(not_as_it_should(&host, (0, 0)), None);
+        assert_eq!(not_as_it_should(&host, (2, 2)), None);
+        let unmet = "2 of 3 expectations not met";
+        assert_eq!(not_as_it_should(&host, (1, 3)).as_deref(), Some(unmet));
+        let (sector, other) = (Sector::new(5).expect("a sector"), vec![8; 532]);
+        let left = Left::Held(other.clone());
+        let platter = host.board.platter_mut();
+        platter.leave(Access::Write(sector), &other, &left);
+        host.read(5, USUAL);
+        let broken = "history: broken, after start 1: a good read of block 5 gave other bytes";
+        assert_eq!(not_as_it_should(&host, (2, 2)).as_deref(), Some(broken));
+        let both = format!("{broken}; {unmet}");
+        assert_eq!(not_as_it_should(&host, (1, 3)), Some(both));
+    }
 }

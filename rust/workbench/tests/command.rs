@@ -406,8 +406,9 @@ fn pictures() {
     assert!(!svg.contains("other bytes"));
     let plan = "start\nwrite 0..3 \"one\"\ncompare 0..3 with \"two\"\n";
     fs::write(here.join("my.plan"), plan).expect("written");
-    let (status, _, _) = workbench(&here, &["timeline", "my.plan", "out.svg"], "");
-    assert_eq!(status, 1);
+    let (status, out, message) = workbench(&here, &["timeline", "my.plan", "out.svg"], "");
+    let said = "workbench: my.plan: 1 of 1 expectations not met\n";
+    assert_eq!((status, out.as_str(), message.as_str()), (1, "", said));
     let svg = fs::read_to_string(here.join("out.svg")).expect("a picture");
     let words = "4 reads, blocks 0–3: 4 accesses, 0 errors, good, other bytes";
     assert!(svg.contains(&format!("<title>{words}, about 0.")));
@@ -533,9 +534,12 @@ fn pages() {
     assert!(page.starts_with("<!DOCTYPE html>\n") && page.ends_with("</html>\n"));
     assert!(page.contains("<h1>The run of week.plan</h1>"));
 
-    fs::write(here.join("my.plan"), "start\nread 17\nexpect failed\n").expect("written");
-    let (status, _, _) = workbench(&here, &["report", "my.plan", "my.html"], "");
-    assert_eq!(status, 1);
+    let plan = "start\nread 17\nexpect failed\nexpect good\n";
+    fs::write(here.join("my.plan"), plan).expect("written");
+    let (status, out, message) = workbench(&here, &["report", "my.plan", "my.html"], "");
+    let said = "my.html: 1 command, 2 accesses, 0 moves, history: allowed; \
+                1 of 2 expectations not met\n";
+    assert_eq!((status, out.as_str(), message.as_str()), (1, said, ""));
     let page = fs::read_to_string(here.join("my.html")).expect("a page");
     assert!(page.contains("NOT as line 3 expects: failed"));
 
