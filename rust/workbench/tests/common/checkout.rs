@@ -8,13 +8,16 @@ use std::process::Command;
 
 use super::{ended, folder, root};
 
-/// Copies a folder, without what was built and without version control's own.
+/// Copies a folder, without what was built, version control's own and call scripts.
 fn copy(from: &Path, to: &Path) {
     fs::create_dir(to).expect("a new folder");
     for entry in fs::read_dir(from).expect("a folder") {
         let entry = entry.expect("an entry");
         let (name, path) = (entry.file_name(), entry.path());
-        if name == "target" || name == ".git" {
+        if ["target", ".git", "scripts"]
+            .iter()
+            .any(|left| name == *left)
+        {
             continue;
         }
         match path.is_dir() {
