@@ -59,6 +59,8 @@ pub struct Report {
     pub changes: Vec<Change>,
     /// What it would have taken on the drive, with the handshakes before it.
     pub took: Time,
+    /// It is a good read that a comparison wanted to bring other bytes.
+    pub other_bytes: bool,
 }
 
 impl Report {
@@ -182,6 +184,7 @@ impl Host {
             end,
             changes,
             took: self.board.clock().now() - begun,
+            other_bytes: false,
         }
     }
 

@@ -381,7 +381,7 @@ impl<W: Write> Run<W> {
             outcome: show::outcome(report),
             moved: show::moved(report),
             took: report.took,
-            other_bytes: false,
+            other_bytes: report.other_bytes,
         });
     }
 

@@ -329,6 +329,7 @@ mod tests {
             end: End::Finished(status),
             changes: vec![],
             took: Time::ZERO,
+            other_bytes: false,
         }
     }
 

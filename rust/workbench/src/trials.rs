@@ -186,6 +186,7 @@ mod tests {
             end: host::End::Finished(status),
             changes: vec![],
             took: Time::ZERO,
+            other_bytes: false,
         }
     }
 

@@ -69,6 +69,8 @@ pub struct Card {
     pub cut: Option<Cut>,
     /// What they would have taken on the drive.
     pub took: Time,
+    /// A comparison wanted other bytes than they brought.
+    pub other_bytes: bool,
     /// A spare changed.
     changed: bool,
 }
@@ -155,6 +157,7 @@ impl Card {
                 _ => None,
             },
             took: report.took,
+            other_bytes: report.other_bytes,
             changed,
         }
     }
@@ -175,7 +178,7 @@ impl Card {
     /// Says whether something went otherwise than well.
     pub fn noted(&self) -> bool {
         let well = matches!(self.outcome, Outcome::Good | Outcome::None);
-        !well || self.changed || self.rows.things().iter().any(|row| !row.well)
+        !well || self.changed || self.other_bytes || self.rows.things().iter().any(|row| !row.well)
     }
 
     /// Says whether the next command is shown on the same card.
@@ -184,6 +187,7 @@ impl Card {
         self.verb == next.verb
             && self.follows(&next.first)
             && self.status == next.status
+            && self.other_bytes == next.other_bytes
             && !(self.changed || next.changed)
             && self.cut.is_none()
             && next.cut.is_none()

@@ -2,7 +2,7 @@
 
 use super::html::{escape, linked, Html};
 use super::kept::Part;
-use super::timeline::{behind_move, ended};
+use super::timeline::{ended, other_bytes};
 use super::told::{is_unmet, Kind, Step, Told};
 use crate::clock::Time;
 use crate::picture::Outcome;
@@ -150,7 +150,7 @@ fn badge(step: &Step) -> (&'static str, String) {
         (Kind::Order, _) => ("order", String::from("ordered")),
         (Kind::Expect(true), _) => ("expect", String::new()),
         (Kind::Expect(false), _) => ("expect bad", String::from("not met")),
-        (_, Outcome::Good) if has_unmet(step) => ("bad", behind_move(moved, "✗ other bytes")),
+        (_, Outcome::Good) if has_unmet(step) => other_bytes(moved),
         (_, outcome) => ended(outcome, moved),
     }
 }

@@ -107,6 +107,26 @@ fn other_bytes_are_no_good_line() {
 }
 
 #[test]
+fn a_card_of_other_bytes_is_a_failure_of_its_own() {
+    let plan = "start\nwrite 17..19 \"a\"\nwrite 18 \"b\"\ncompare 17..19 with \"a\"\n";
+    let html = made(plan).html;
+    let (_, line) = html.split_once(r#"id="time-4""#).expect("the line's cards");
+    let cards: Vec<&str> = line.split("<details ").skip(1).take(3).collect();
+    let names = ["read 17", "read 18", "read 19"];
+    for (card, name) in cards.iter().zip(names) {
+        assert!(card.contains(&format!(">{name}</span>")), "{name}: {card}");
+    }
+    assert!(cards[0].starts_with(r#"class="card good""#) && cards[0].contains("✓ good"));
+    assert!(cards[1].starts_with(r#"class="card bad""#) && cards[1].contains("✗ other bytes"));
+    assert!(
+        cards[1].contains("<p>1 read, good, other bytes, about "),
+        "{}",
+        cards[1]
+    );
+    assert!(cards[2].starts_with(r#"class="card good""#));
+}
+
+#[test]
 fn a_move_whose_command_failed_is_told() {
     let plan = "start\nwrite 5 \"after\"\nfault sector 5 writes next 1 timeout\n\
                 fault sector 4960 writes next 1 timeout\nwrite 5 \"x\"\n\

@@ -108,7 +108,10 @@ fn write_step(html: &mut Html, step: &Step) {
 
 /// Writes a command, or those that share a card.
 fn write_card(html: &mut Html, card: &Card) {
-    let (class, sign) = ended(card.outcome, card.moved);
+    let (class, sign) = match card.other_bytes {
+        true => other_bytes(card.moved),
+        false => ended(card.outcome, card.moved),
+    };
     html.block("details", &format!(r#"class="card {class}""#), |html| {
         html.element("summary", "", |html| {
             html.words("span", r#"class="what""#, &card.name());
@@ -137,9 +140,14 @@ fn write_card(html: &mut Html, card: &Card) {
 
 /// Says what the commands of a card came to, and what they took.
 fn words(card: &Card) -> String {
+    let others = if card.other_bytes {
+        ", other bytes"
+    } else {
+        ""
+    };
     let words = match card.commands {
-        1 => card.words.clone(),
-        commands => format!("{commands} commands, each {}", card.words),
+        1 => format!("{}{others}", card.words),
+        commands => format!("{commands} commands, each {}{others}", card.words),
     };
     let about = took(card).map(|took| format!(", about {took}"));
     words + &about.unwrap_or_default()
@@ -175,8 +183,13 @@ pub fn ended(outcome: Outcome, moved: bool) -> (&'static str, String) {
     (class, behind_move(moved, words))
 }
 
+/// Gives the same of commands that were good and brought other bytes than they should.
+pub fn other_bytes(moved: bool) -> (&'static str, String) {
+    ("bad", behind_move(moved, "✗ other bytes"))
+}
+
 /// Puts words behind those of a move, if there was one.
-pub fn behind_move(moved: bool, words: &str) -> String {
+fn behind_move(moved: bool, words: &str) -> String {
     match moved {
         true => format!("{MOVED}, {words}"),
         false => words.to_string(),

@@ -21,6 +21,15 @@ struct Unlike {
 }
 
 impl Unlike {
+    /// Notes how the read of a block went. One that the power ended is neither.
+    fn note(&mut self, number: u32, report: &Report) {
+        if report.other_bytes {
+            self.other.push(number);
+        } else if !report.good() && !report.cut() {
+            self.not_read.push(number);
+        }
+    }
+
     /// Says which blocks have other bytes and which were not read; nothing if there are none.
     fn words(&self) -> Option<String> {
         let all = [
@@ -99,30 +108,17 @@ impl<W: Write> Run<W> {
         let mut wanted = wanted.iter();
         let mut unlike = Unlike::default();
         self.each("read", blocks, |host, number| {
-            let report = host.read(number, retry);
+            let mut report = host.read(number, retry);
             let same = wanted
                 .next()
                 .is_some_and(|w| host.board.data().starts_with(w));
-            match (report.good(), same) {
-                (true, true) => {}
-                (true, false) => unlike.other.push(number),
-                (false, _) if report.cut() => {}
-                (false, _) => unlike.not_read.push(number),
-            }
+            report.other_bytes = report.good() && !same;
+            unlike.note(number, &report);
             report
         })?;
         self.compared.other += unlike.other.len() as u32;
         self.compared.failed += unlike.not_read.len() as u32;
-        self.mark_others(blocks, &unlike.other);
         self.show_compared(blocks, data, &unlike)
-    }
-
-    /// Marks the reads of the host's last line that brought other bytes, for the picture.
-    fn mark_others(&mut self, blocks: Blocks, others: &[u32]) {
-        let first = self.moments.len().saturating_sub(self.last.len());
-        for (number, moment) in blocks.numbers().zip(&mut self.moments[first..]) {
-            moment.other_bytes = others.binary_search(&number).is_ok();
-        }
     }
 
     /// Says whether blocks hold the data, of which these are not so. Blocks that the power

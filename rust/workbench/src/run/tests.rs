@@ -572,6 +572,7 @@ fn figures(end: End, first: [u8; 5]) -> (bool, String) {
         end,
         changes: vec![],
         took: Time::ZERO,
+        other_bytes: false,
     };
     let mut data = [0; 532];
     data[..5].copy_from_slice(&first);
