@@ -70,6 +70,14 @@ impl Time {
         (self.0 * 1000 + TICKS / 2) / TICKS
     }
 
+    /// Says it behind other words: ", about 3.6 s", or nothing if it is none.
+    pub fn about(self) -> String {
+        match self {
+            Time::ZERO => String::new(),
+            time => format!(", about {time}"),
+        }
+    }
+
     /// Returns a mean of so many times, of which this is the sum; 0 of none.
     pub fn mean_of(self, count: u64) -> Time {
         Time((self.0 + count / 2).checked_div(count).unwrap_or(0))

@@ -145,7 +145,7 @@ fn summary(moments: &[Moment]) -> String {
         0 => String::new(),
         cuts => format!(", {}", counted(cuts, "power cut")),
     };
-    let rest = format!("{others}{cuts}{}", about(time_of(moments.iter())));
+    let rest = format!("{others}{cuts}{}", time_of(moments.iter()).about());
     format!("{commands} ({moved} moved a block, {failed} failed), {accesses} ({errors}){rest}")
 }
 
@@ -157,14 +157,6 @@ fn accesses_of<'a>(marks: impl Iterator<Item = &'a Mark>) -> usize {
 /// How long the moments take together.
 fn time_of<'a>(moments: impl Iterator<Item = &'a Moment>) -> Time {
     moments.map(|moment| moment.took).sum()
-}
-
-/// ", about 3.6 s", or nothing if it takes no time.
-fn about(took: Time) -> String {
-    match took {
-        Time::ZERO => String::new(),
-        took => format!(", about {took}"),
-    }
 }
 
 /// The row of the moments from a heading to the next.
@@ -512,7 +504,7 @@ impl Card {
             true => ", other bytes",
             false => "",
         };
-        let (end, about) = (self.ended(), about(self.took));
+        let (end, about) = (self.ended(), self.took.about());
         format!("{label}: {accesses}, {errors}{end}{others}{about}")
     }
 

@@ -79,7 +79,7 @@ fn write_chapter(html: &mut Html, chapter: &Chapter) {
         return;
     }
     let (title, _) = chapter.heading();
-    html.line("h3", "", &format!("{title}{}", about(chapter.took)));
+    html.line("h3", "", &format!("{title}{}", chapter.took.about()));
     for step in steps {
         write_step(html, step);
     }
@@ -159,14 +159,6 @@ fn took(card: &Card) -> Option<String> {
         (Time::ZERO, _) => None,
         (took, 1) => Some(took.to_string()),
         (took, _) => Some(format!("{took} in all")),
-    }
-}
-
-/// Says what commands would have taken on the drive, if they had an access.
-fn about(took: Time) -> String {
-    match took {
-        Time::ZERO => String::new(),
-        took => format!(", about {took}"),
     }
 }
 
