@@ -1,5 +1,7 @@
 // The surface's answers: to the start's reads, the store, a read command, a write and its verify, and a
 // sector trial; document 01's codes 4 and 5 first.
+#![tactic(auto)]
+
 ghost use Rattle.std.specs.Prelude.{◌≡◌, true, [], ◌≤◌};
 ghost use Rattle.drive.specs.declared.Phase.TheVariants as phase;
 ghost use Rattle.drive.specs.declared.Answer.TheVariants as answer;

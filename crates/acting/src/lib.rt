@@ -1,4 +1,6 @@
 // Acts on a command (document 01, "Acting on a command", with requests 3, 4 and 7 of document 02).
+#![tactic(auto)]
+
 ghost use Rattle.std.specs.Prelude.{◌≡◌, ◌≤◌, ◌<◌, length};
 ghost use Rattle.drive.specs.Words.{block_of};
 ghost use Rattle.drive.specs.Results.{clean, finish};

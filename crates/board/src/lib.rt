@@ -1,5 +1,7 @@
 // The seven calls over a record that is lent, for a board's loop: each takes the record out, calls the
 // controller by value, and puts the record back.
+#![tactic(auto)]
+
 ghost use Rattle.drive.specs.Calls.{start_of, raise_of, lower_of, feed_of, surface_of, reset_of, image_out_of};
 ghost use Rattle.calls.specs.Gives.{Returns};
 ghost use Rattle.board.specs.Lent.{Leaves};

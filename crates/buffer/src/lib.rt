@@ -1,4 +1,6 @@
 // Runs of bytes in lent buffers: written, filled, compared, summed.
+#![tactic(auto)]
+
 ghost use Rattle.std.specs.Prelude.{◌≡◌, ◌+◌, ◌*◌, ◌≤◌, length, replicate};
 ghost use Rattle.buffer.specs.Runs.{over, same, all_are, sum};
 

@@ -1,5 +1,7 @@
 // Exports the seven calls over a record's words, which are lent, convert, and the parity of a byte, to callers in C and Rust.
 // include/bumivondra.h says the same in C, with what a caller owes. specs/ says demand 3 of every list of these calls.
+#![tactic(auto)]
+
 ghost use Rattle.std.specs.Prelude.{◌≡◌};
 ghost use Rattle.drive.specs.Calls as call;
 ghost use Rattle.parity.specs.Bits.{parity_of};

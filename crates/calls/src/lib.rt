@@ -1,6 +1,8 @@
 // The seven calls of document 01, and convert of document 02, request 6. Each of the seven refuses with
 // codes 1 and 2, lets its rule decide, and leaves the buffer as the turn says. Over lent lists: whoever
 // holds a record, in whatever form, calls these. Over the whole record: the methods of Controller.
+#![tactic(auto)]
+
 ghost use Rattle.std.specs.Prelude.{◌≡◌, ◌&&◌, length};
 ghost use Rattle.buffer.specs.Runs.{same};
 ghost use Rattle.drive.specs.Words.{data_of};
@@ -20,7 +22,7 @@ use tables::Noted;
 pub mod tables;
 
 // Names what codes 1 and 2 say of a call.
-#[derive(Drop)]
+#[derive(Clone, Copy)]
 pub enum Verdict {
     Passes,
     Refuses(Refusal),
@@ -284,7 +286,7 @@ pub fn convert(from: &[u8], to: &mut [u8]) -> Answer
 }
 
 // Holds the record of a drive.
-#[derive(Drop)]
+#[derive(Clone, Copy)]
 pub struct Controller(pub Drive);
 
 impl Controller {

@@ -9,7 +9,7 @@ use image::Found;
 use table::Table;
 
 // Holds a table, and the causes of its spare entries.
-#[derive(Drop)]
+#[derive(Clone, Copy)]
 pub struct Noted {
     pub table: Table,
     pub causes: [u16; 32],

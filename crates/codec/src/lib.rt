@@ -1,5 +1,7 @@
 // Reads and writes the table's image, 532 bytes on sector 4960: form A of document 01, form B of document
 // 02, request 6.
+#![tactic(auto)]
+
 ghost use Rattle.std.specs.Prelude.{◌≡◌, ◌≤◌, length};
 ghost use Rattle.image.specs.FormB.{has_magic};
 ghost use Rattle.image.specs.Images.{read_of};

@@ -1,5 +1,7 @@
 // The calls over a record's words, which are lent: unpacked, called, and what comes of it written back. A
 // refused call writes nothing. Convert has no record.
+#![tactic(auto)]
+
 ghost use Rattle.std.specs.Prelude.{◌≡◌, ◌++◌, length, take};
 ghost use Rattle.drive.specs.Words.{code_of};
 ghost use Rattle.drive.specs.Calls as call;
@@ -14,7 +16,7 @@ use drive::{Answer, Change, Drive, Refusal, Turn};
 // Holds what a call answers: 0 wait, 1 offer and its response byte, 2 read and its sector, 3 write and its
 // sector, 4 store, 5 finished, 6 refused and the code.
 #[repr(C)]
-#[derive(Drop)]
+#[derive(Clone, Copy)]
 pub struct Reply {
     pub kind: u32,
     pub value: u32,

@@ -1,10 +1,12 @@
 // The controller's record, what a rule decides and what a call answers. Types alone: specs/ says what
 // the calls do with them, and the crates above hold the code.
+#![tactic(auto)]
+
 use geometry::{Block, Sector};
 use table::Table;
 
 // Holds what a command has met so far. errors is document 01's E: how many of the R rereads failed.
-#[derive(Drop)]
+#[derive(Clone, Copy)]
 pub struct Seen {
     pub errors: u8,
     pub crc: bool,
@@ -14,7 +16,7 @@ pub struct Seen {
 // Holds a read command under way. first: its first read is awaited, and left is R. Otherwise left counts
 // the rereads left, the awaited one included; where it is 0, a further read is awaited, and spent is
 // what further reads have cost. threshold is T. good: the data part holds good bytes.
-#[derive(Drop)]
+#[derive(Clone, Copy)]
 pub struct Retry {
     pub block: Block,
     pub sector: Sector,
@@ -27,7 +29,7 @@ pub struct Retry {
 }
 
 // Holds a write command's write to its block's present sector. verify: it is read back once.
-#[derive(Drop)]
+#[derive(Clone, Copy)]
 pub struct Target {
     pub block: Block,
     pub sector: Sector,
@@ -35,7 +37,7 @@ pub struct Target {
 }
 
 // Names the cause of a spare entry: unknown, a CRC error, a timeout, no settle.
-#[derive(Drop)]
+#[derive(Clone, Copy)]
 pub enum Cause {
     Unknown,
     Crc,
@@ -47,7 +49,7 @@ pub enum Cause {
 // that were answered, failures how many of them failed. Three failures of the command are remembered:
 // last is the last of this trial's rereads, before the one before this spare was tried, present the last
 // on the block's present sector, once that was left.
-#[derive(Drop)]
+#[derive(Clone, Copy)]
 pub struct Trial {
     pub block: Block,
     pub sector: Sector,
@@ -61,7 +63,7 @@ pub struct Trial {
 }
 
 // Names the commands by their opcode: 00 read, 01 write, 02 write/verify, and every other one.
-#[derive(Drop)]
+#[derive(Clone, Copy)]
 pub enum Kind {
     Read,
     Write,
@@ -70,7 +72,7 @@ pub enum Kind {
 }
 
 // Holds a decoded command: what it asks for, the number in its block field, R and T.
-#[derive(Drop)]
+#[derive(Clone, Copy)]
 pub struct Order {
     pub kind: Kind,
     pub number: u32,
@@ -80,7 +82,7 @@ pub struct Order {
 
 // Names what the drive offers at a raise: to take a command, to read, to take data for a write or for a
 // write/verify, to act on a write.
-#[derive(Drop)]
+#[derive(Clone, Copy)]
 pub enum Offer {
     Command,
     Read,
@@ -90,7 +92,7 @@ pub enum Offer {
 }
 
 // Holds a command's end, while its store is awaited: how it ended, and what it has met.
-#[derive(Drop)]
+#[derive(Clone, Copy)]
 pub struct Close {
     pub ending: Ending,
     pub seen: Seen,
@@ -99,7 +101,7 @@ pub struct Close {
 // Names what the surface was asked for: a read of the start (with how many were asked for), the store
 // before a command finishes, a read command's read, a write command's write and the verify that follows
 // it, and the write and a reread of a trial.
-#[derive(Drop)]
+#[derive(Clone, Copy)]
 pub enum Access {
     Start(u8),
     Store(Close),
@@ -111,7 +113,7 @@ pub enum Access {
 }
 
 // Names where the drive is. Awaiting: the surface owes an answer.
-#[derive(Drop)]
+#[derive(Clone, Copy)]
 pub enum Phase {
     Idle,
     Offered(Offer),
@@ -123,7 +125,7 @@ pub enum Phase {
 // Holds five marks. known: there is a table. changed: it has changes that are not stored. moved: some
 // block's place is not stored. latch: an answer 3 has ended a command since the last start. fresh: no
 // command finished since the last start or reset.
-#[derive(Drop)]
+#[derive(Clone, Copy)]
 pub struct Marks {
     pub known: bool,
     pub changed: bool,
@@ -134,7 +136,7 @@ pub struct Marks {
 
 // Holds all of the record but the table and its causes. command: its first count bytes were fed; fed: how many data
 // bytes were, counted up to 533; run: the run number, one more per store asked for.
-#[derive(Drop)]
+#[derive(Clone, Copy)]
 pub struct State {
     pub phase: Phase,
     pub marks: Marks,
@@ -146,7 +148,7 @@ pub struct State {
 
 // Holds the record. The table is first, so that a call can hand it on in one copy. The cause of a spare
 // entry is at the entry's place.
-#[derive(Drop)]
+#[derive(Clone, Copy)]
 pub struct Drive {
     pub table: Table,
     pub causes: [u16; 32],
@@ -154,7 +156,7 @@ pub struct Drive {
 }
 
 // Names why a call is refused, in the order of the codes.
-#[derive(Drop)]
+#[derive(Clone, Copy)]
 pub enum Refusal {
     Record,
     Buffer,
@@ -167,7 +169,7 @@ pub enum Refusal {
 }
 
 // Names what a call answers.
-#[derive(Drop)]
+#[derive(Clone, Copy)]
 pub enum Answer {
     Wait,
     Offer(Offer),
@@ -179,7 +181,7 @@ pub enum Answer {
 }
 
 // Holds what a call hands back.
-#[derive(Drop)]
+#[derive(Clone, Copy)]
 pub struct Step {
     pub drive: Drive,
     pub answer: Answer,
@@ -187,7 +189,7 @@ pub struct Step {
 
 // Names how a command ends: good; good and moved; failed; too many data bytes; no such number; no table
 // (true: on a write); answer 3 or the latch; failed with the bad list full; no spare unused.
-#[derive(Drop)]
+#[derive(Clone, Copy)]
 pub enum Ending {
     Good,
     Moved,
@@ -204,7 +206,7 @@ pub enum Ending {
 // or leaves the bad list, a block moves to the next unused spare (its old entry dies, and it leaves the
 // bad list), the next unused spare dies. With a move come the causes of the new entry and of the old one,
 // with a dead spare its cause.
-#[derive(Drop)]
+#[derive(Clone, Copy)]
 pub enum Change {
     Keep,
     Load,
@@ -215,11 +217,11 @@ pub enum Change {
 }
 
 // Holds four bytes: a status, or the figures of the health block.
-#[derive(Drop)]
+#[derive(Clone, Copy)]
 pub struct Four(pub u8, pub u8, pub u8, pub u8);
 
 // Names what becomes of the buffer's status bytes.
-#[derive(Drop)]
+#[derive(Clone, Copy)]
 pub enum Status {
     Kept,
     Written(Four),
@@ -227,7 +229,7 @@ pub enum Status {
 
 // Names what becomes of the buffer's data part: it stays, the bytes lent with the call fill it from a
 // byte on, it is zeroed from a byte on, it is form A of the table, it is four figures and zeros.
-#[derive(Drop)]
+#[derive(Clone, Copy)]
 pub enum Part {
     Kept,
     Filled(usize),
@@ -237,14 +239,14 @@ pub enum Part {
 }
 
 // Holds what a call leaves in the buffer.
-#[derive(Drop)]
+#[derive(Clone, Copy)]
 pub struct Leaves {
     pub status: Status,
     pub part: Part,
 }
 
 // Holds what a rule decides: the next state, the answer, what becomes of the table and of the buffer.
-#[derive(Drop)]
+#[derive(Clone, Copy)]
 pub struct Turn {
     pub state: State,
     pub answer: Answer,
@@ -253,12 +255,12 @@ pub struct Turn {
 }
 
 // Holds what an ending sets of status bytes 1, 2 and 3, but for bits 4 and 0 of the first.
-#[derive(Drop)]
+#[derive(Clone, Copy)]
 pub struct Row(pub u8, pub u8, pub u8);
 
 // Names what an answer to a read command's read leads to: done at the first read; one more read; good
 // after errors, so that E and T decide; never good; ended by answer 3.
-#[derive(Drop)]
+#[derive(Clone, Copy)]
 pub enum Outcome {
     Done(Retry),
     Again(Retry),

@@ -1,13 +1,15 @@
 // Blocks and sectors of document 01: two separate counts, and the mapping from a block to its home.
+#![tactic(auto)]
+
 ghost use Rattle.std.specs.Prelude.{◌≡◌, ◌<◌};
 ghost use Rattle.geometry.specs.Geometry.{is_block, is_sector, home_of, spare_of, table_sector};
 
 // A block's number. Blocks are 0..9727.
-#[derive(Drop)]
+#[derive(Clone, Copy)]
 pub struct Block(pub u16);
 
 // A sector's number. Sectors are 0..9791.
-#[derive(Drop)]
+#[derive(Clone, Copy)]
 pub struct Sector(pub u32);
 
 // Says whether a block exists.

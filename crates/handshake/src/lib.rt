@@ -1,4 +1,6 @@
 // The host's calls (document 01, "Calls"): raise, lower, feed and reset.
+#![tactic(auto)]
+
 ghost use Rattle.std.specs.Prelude.{◌≡◌, ◌≤◌, min};
 ghost use Rattle.drive.specs.Words.{order_of};
 ghost use Rattle.drive.specs.Handshake.{offer_for, kept_bytes, offers_act, raised, acted, goes_on, broken_off, lowered, fed_command, fed_data, fed_to, at_rest, rested};

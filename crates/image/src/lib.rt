@@ -1,8 +1,9 @@
 // What is said of the table's image, 532 bytes on sector 4960: form A of document 01, form B of document 02,
 // request 6. Types alone: specs/ says what an image is, and `codec` has the code.
+#![tactic(auto)]
 
 // Names why bytes are no image: they have neither form, form B's sum is wrong, or another field of it is.
-#[derive(Drop)]
+#[derive(Clone, Copy)]
 pub enum Fault {
     Form,
     Sum,
@@ -11,14 +12,14 @@ pub enum Fault {
 
 // Names what an image holds: a spare list and a bad list of so many entries and the run number, or no
 // table.
-#[derive(Drop)]
+#[derive(Clone, Copy)]
 pub enum Found {
     Lists(usize, usize, u32),
     Malformed(Fault),
 }
 
 // Holds what the reader answers: what it found, and beside it the two lists and the causes.
-#[derive(Drop)]
+#[derive(Clone, Copy)]
 pub struct Image {
     pub found: Found,
     pub spares: [u16; 32],
@@ -28,7 +29,7 @@ pub struct Image {
 
 // Holds where an image has its lists: how many entries, the place of the first spare entry, how many
 // bytes a spare entry has, and the place of the first bad entry.
-#[derive(Drop)]
+#[derive(Clone, Copy)]
 pub struct Layout {
     pub nspares: usize,
     pub nbads: usize,

@@ -1,4 +1,6 @@
 // What a turn leaves in the buffer. No other crate writes block data.
+#![tactic(auto)]
+
 ghost use Rattle.std.specs.Prelude.{◌≡◌, ◌++◌, ◌+◌, ◌-◌, ◌≤◌, length, take, replicate};
 ghost use Rattle.buffer.specs.Runs.{over};
 ghost use Rattle.image.specs.FormA.{image_a};

@@ -1,4 +1,6 @@
 // Lists of table entries, lent as slices: an entry is a block's number or the dead mark.
+#![tactic(auto)]
+
 ghost use Rattle.std.specs.Prelude.{◌≡◌, false, ℕ, ◌+◌, ◌<◌, ◌%◌, length, take, drop, get_or};
 ghost use Rattle.lists.specs.Lists.{index_of, member_of, entry_ok, entries_ok};
 

@@ -2,6 +2,8 @@
 // table's counts and entries come next, and the causes of its spare entries last. Any words are unpacked:
 // a flag that is not 0 is true, and a phase, an offer or an ending that there is not becomes a phase that
 // code 1 refuses.
+#![tactic(auto)]
+
 ghost use Rattle.std.specs.Prelude.{◌≡◌, ◌++◌, ◌+◌, ◌≤◌, length, take, drop, get_or};
 ghost use Rattle.buffer.specs.Runs.{over};
 ghost use Rattle.drive.specs.Words.{response, cause_number};
@@ -20,7 +22,7 @@ pub type Words = [u16; 189];
 // 9 trial write, 10 trial read; detail is the offer's response byte, the start's reads, the number of the
 // ending that waits for the store, or a trial's rereads; spent is also a trial's failures, first also
 // whether a write is read back; remembered holds the three failures that a trial remembers.
-#[derive(Drop)]
+#[derive(Clone, Copy)]
 pub struct Stage {
     pub kind: u8,
     pub detail: u8,

@@ -1,4 +1,6 @@
 // The bus's bit of odd parity, as a constant table: document 02, request 5.
+#![tactic(auto)]
+
 ghost use Rattle.std.specs.Prelude.{◌≡◌};
 ghost use Rattle.parity.specs.Bits.{parity_of};
 

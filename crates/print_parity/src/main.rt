@@ -1,4 +1,6 @@
 // Prints the parity table: the entries from 0 to 255, one digit a line.
+#![tactic(auto)]
+
 ghost use Rattle.std.specs.Prelude.{◌≡◌, ◌+◌, ◌*◌, ◌≤◌, length};
 ghost use Rattle.buffer.specs.Runs.{over};
 ghost use Rattle.print_parity.specs.Lines.{line, lines};

@@ -1,5 +1,7 @@
 // A read command's reads (document 01, "Read"): which bytes stay in the data part, and what ends the
 // command.
+#![tactic(auto)]
+
 ghost use Rattle.std.specs.Prelude.{◌≡◌, true, []};
 ghost use Rattle.drive.specs.Records.{retry_ok};
 ghost use Rattle.drive.specs.Retries.{after_read};

@@ -1,5 +1,7 @@
 // The tests of a record (document 01's code 1), the command decoded, the ways in which a rule ends, and
 // the four status bytes.
+#![tactic(auto)]
+
 ghost use Rattle.std.specs.Prelude.{◌≡◌, cond, ◌&&◌, ◌||◌, ◌<◌, eqb, take};
 ghost use Rattle.geometry.specs.Geometry.{spare_of};
 ghost use Rattle.drive.specs.Words.{kind_of, number_of, order_of, is_read, is_write, is_verify, row_of, fails, latches, status_of};

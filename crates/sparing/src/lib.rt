@@ -1,5 +1,7 @@
 // Sector trials (document 02, request 4): one write, then a hundred rereads, of the present sector or of
 // the next unused spare.
+#![tactic(auto)]
+
 ghost use Rattle.std.specs.Prelude.{◌≡◌, true, [], ◌≤◌};
 ghost use Rattle.drive.specs.declared.Access.TheVariants as access;
 ghost use Rattle.drive.specs.declared.Phase.TheVariants as phase;

@@ -1,4 +1,6 @@
 // The spare table: which block is on which spare, and which blocks are bad.
+#![tactic(auto)]
+
 ghost use Rattle.std.specs.Prelude.{◌≡◌, ◌-◌, ◌≤◌, ◌<◌, length, take};
 ghost use Rattle.lists.specs.Lists.{member_of};
 ghost use Rattle.table.specs.Tables.{lists_ok, sector_of, next_spare, empty_table, listed, killed_next, with_bad, without_bad, removed};
@@ -9,7 +11,7 @@ use lists::DEAD;
 
 // The first nspares places of spares hold the spare list, the first nbads places of bads the bad list.
 #[repr(C)]
-#[derive(Drop)]
+#[derive(Clone, Copy)]
 pub struct Table {
     pub spares: [u16; 32],
     pub bads: [u16; 100],
@@ -18,7 +20,7 @@ pub struct Table {
 }
 
 // The sector of the next unused spare, or that there is none.
-#[derive(Drop)]
+#[derive(Clone, Copy)]
 pub enum NextSpare {
     At(Sector),
     None,

@@ -1,11 +1,13 @@
 // Reads descriptions of images, a line each, and writes for each what the reader finds in it and
 // what the writer makes of that.
+#![tactic(auto)]
+
 use image::Found;
 use libc::{STDIN_FILENO, STDOUT_FILENO};
 use test_text::{Bytes, Fault, Kept};
 
 // Where in a line the reader is. Word: after so many letters of the word.
-#[derive(Drop)]
+#[derive(Clone, Copy)]
 enum Place {
     Start,
     Skipped,
@@ -15,7 +17,7 @@ enum Place {
 }
 
 // What a line was: an image of so many bytes, or one that stops the run.
-#[derive(Drop)]
+#[derive(Clone, Copy)]
 enum Line {
     Skipped,
     Image(usize),
@@ -23,7 +25,7 @@ enum Line {
 }
 
 // The line's number, the place in it, and how much of the output is not written yet.
-#[derive(Drop)]
+#[derive(Clone, Copy)]
 struct State {
     line: u64,
     place: Place,

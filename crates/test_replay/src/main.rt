@@ -1,5 +1,7 @@
 // Runs a call script: reads it from standard input, makes its calls, one after another, on one drive,
 // and writes the transcript, a line for each call.
+#![tactic(auto)]
+
 mod player;
 
 use drive::Drive;
@@ -8,7 +10,7 @@ use player::{Brought, Buffer, Numbers, Page};
 use test_script::{Line, Place};
 
 // The line's number, what was read of it, and how much of the output is not written yet.
-#[derive(Drop)]
+#[derive(Clone, Copy)]
 struct State {
     number: u64,
     line: Line,
@@ -16,7 +18,7 @@ struct State {
 }
 
 // The drive between two calls, and where the run is.
-#[derive(Drop)]
+#[derive(Clone, Copy)]
 struct Run {
     drive: Drive,
     state: State,

@@ -16,7 +16,7 @@ pub type Brought = [u8; 4096];
 pub type Page = [u8; 65536];
 
 // The drive after a call, and how much of the output is not written yet.
-#[derive(Drop)]
+#[derive(Clone, Copy)]
 pub struct Made {
     pub drive: Drive,
     pub at: usize,

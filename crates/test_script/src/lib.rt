@@ -1,5 +1,7 @@
 // Reads the lines of a call script and writes those of its transcript, as docs/REPLAY.md has them. A line is a name, then
 // numbers, then bytes. It comes a character at a time: a blank ends a piece, and its place in the line says what it is for.
+#![tactic(auto)]
+
 mod calls;
 mod print;
 mod sum;
@@ -12,7 +14,7 @@ pub use print::{put_call, put_image};
 use test_text::{Fault, Kept, Number, Token};
 
 // The calls. What each takes is said in the table of `calls`.
-#[derive(Drop)]
+#[derive(Clone, Copy)]
 pub enum Call {
     Start,
     Raise,
@@ -25,21 +27,21 @@ pub enum Call {
 }
 
 // The number that a call needs first: a byte in hex, without a count, or a decimal number up to this, or else the fault.
-#[derive(Drop)]
+#[derive(Clone, Copy)]
 pub enum Need {
     Hex,
     Number(u32, Fault),
 }
 
 // What a call takes after that.
-#[derive(Drop)]
+#[derive(Clone, Copy)]
 pub enum Rest {
     Nothing,
     Bytes,
 }
 
 // How many bytes a call is lent: as many as it wants, or so many.
-#[derive(Drop)]
+#[derive(Clone, Copy)]
 pub enum Lent {
     All,
     Of(usize),
@@ -47,7 +49,7 @@ pub enum Lent {
 
 // What the next piece of a line is for. Start: no character was read. Word: the name, or also `lend` where it is true.
 // Length: the number after `lend`.
-#[derive(Drop)]
+#[derive(Clone, Copy)]
 pub enum Place {
     Start,
     Skipped,
@@ -59,7 +61,7 @@ pub enum Place {
 }
 
 // What a piece does: it leads to a place, says how much is lent, or brings a number or bytes and leads to a place.
-#[derive(Drop)]
+#[derive(Clone, Copy)]
 pub enum Effect {
     Goes(Place),
     Lends(u32),
@@ -68,7 +70,7 @@ pub enum Effect {
 }
 
 // What was read of a piece, as a name, as a decimal number and as a byte with a count.
-#[derive(Drop)]
+#[derive(Clone, Copy)]
 pub struct Piece {
     pub name: u64,
     pub number: Number,
@@ -76,7 +78,7 @@ pub struct Piece {
 }
 
 // What was read of a line. It brought `count` numbers and `used` bytes, which are at the front of what is lent for them.
-#[derive(Drop)]
+#[derive(Clone, Copy)]
 pub struct Line {
     pub lent: Lent,
     pub count: usize,

@@ -1,4 +1,6 @@
 // Reads and writes test texts a character at a time: hex bytes, counts, decimal numbers, words.
+#![tactic(auto)]
+
 mod print;
 
 ghost use Rattle.std.specs.Prelude.{◌≡◌, ◌<◌, take};
@@ -7,21 +9,21 @@ ghost use Rattle.test_text.specs.Reading.{within, decimal_digit, hex_digit, Belo
 pub use print::{push, put_bytes, put_decimal, put_error, put_hex, put_run, put_word, run_at};
 
 // The value of a digit, or that the character is no digit.
-#[derive(Drop)]
+#[derive(Clone, Copy)]
 pub enum Digit {
     Of(u8),
     None,
 }
 
 // A decimal number, or that it is no number or too large.
-#[derive(Drop)]
+#[derive(Clone, Copy)]
 pub enum Number {
     Of(u32),
     None,
 }
 
 // What is wrong with a line. Length: a number of bytes to lend. Many: the line brings too many bytes.
-#[derive(Drop)]
+#[derive(Clone, Copy)]
 pub enum Fault {
     Word,
     Arguments,
@@ -33,7 +35,7 @@ pub enum Fault {
 }
 
 // What was read of a token, HH or HH*N.
-#[derive(Drop)]
+#[derive(Clone, Copy)]
 pub enum Token {
     Gap,
     High(u8),
@@ -43,21 +45,21 @@ pub enum Token {
 }
 
 // What a whole token brings: a byte, so many times.
-#[derive(Drop)]
+#[derive(Clone, Copy)]
 pub enum Run {
     Of(u8, u32),
     Bad(Fault),
 }
 
 // Where the bytes of a line end in the lent buffer.
-#[derive(Drop)]
+#[derive(Clone, Copy)]
 pub enum Kept {
     To(usize),
     Bad(Fault),
 }
 
 // The tokens of a line: how many bytes the earlier ones brought, and the one that is read.
-#[derive(Drop)]
+#[derive(Clone, Copy)]
 pub struct Bytes {
     pub used: usize,
     pub token: Token,

@@ -1,0 +1,19 @@
+use mathlib.Core.Path.{◌≡◌, refl, sym, ◌∙◌}
+use mathlib.Core.Bool.{◌&&◌}
+use Prim.Native.Nat.{◌≤◌, ◌-◌}
+use lib.ListN.{length, drop}
+use Rattle.buffer.specs.Runs.{all_are}
+use Rattle.buffer.proofs.Compare.{all_step, all_end}
+use borrow.Author.Rules.{rules}
+use native.Mathlib.Omega.{arith}
+use Rattle.buffer.proofs.all_are.Goals as goal
+
+pub loop-i-preserved : goal.loop-i-preserved
+loop-i-preserved c =
+    let a = c.args in
+    (omega arith, all_step c.loop-i.ok a.v a.s.now c.loop-i.i (omega arith) ∙ c.loop-i.invariant.1)
+
+pub returns : goal.returns
+returns c =
+    let a = c.args in
+    sym (all_end c.loop-i.ok a.v a.s.now c.loop-i.i (omega arith)) ∙ c.loop-i.invariant.1

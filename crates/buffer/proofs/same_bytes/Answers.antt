@@ -1,0 +1,22 @@
+use mathlib.Core.Path.{◌≡◌, refl, sym, ◌∙◌}
+use mathlib.Core.Bool.{◌&&◌}
+use Prim.Native.Nat.{◌≤◌, ◌-◌}
+use lib.ListN.{length, drop}
+use Rattle.buffer.specs.Runs.{same}
+use Rattle.buffer.proofs.Compare.{same_longer, same_step, same_end}
+use borrow.Author.Rules.{rules}
+use native.Mathlib.Omega.{arith}
+use Rattle.buffer.proofs.same_bytes.Goals as goal
+
+pub returns-then-a-b : goal.returns-then-a-b
+returns-then-a-b c = sym (same_longer _ _ c.if-a-b.true)
+
+pub loop-i-preserved : goal.loop-i-preserved
+loop-i-preserved c =
+    let r = c.args in
+    (omega arith, same_step c.loop-i.ok r.a.now r.b.now c.loop-i.i (omega arith) (omega arith) ∙ c.loop-i.invariant.1)
+
+pub returns : goal.returns
+returns c =
+    let r = c.args in
+    sym (same_end c.loop-i.ok r.a.now r.b.now c.loop-i.i (omega arith) (omega arith)) ∙ c.loop-i.invariant.1

@@ -1,0 +1,18 @@
+use mathlib.Core.Path.{◌≡◌, refl, sym, ◌∙◌}
+use Prim.Native.Nat.{◌≤◌, ◌-◌, ◌+◌, ◌*◌}
+use lib.ListN.{length, drop}
+use Rattle.buffer.specs.Runs.{sum}
+use Rattle.buffer.proofs.Sums.{sum_step, sum_end}
+use borrow.Author.Rules.{rules}
+use native.Mathlib.Omega.{arith}
+use Rattle.buffer.proofs.sum.Goals as goal
+
+pub loop-i-preserved : goal.loop-i-preserved
+loop-i-preserved c =
+    let a = c.args in
+    (omega arith, omega (arith, c.shared_slice_known-1.given c.loop-i.i), sum_step c.loop-i.t a.s.now c.loop-i.i (omega arith) ∙ c.loop-i.invariant.2)
+
+pub returns : goal.returns
+returns c =
+    let a = c.args in
+    sym (sum_end c.loop-i.t a.s.now c.loop-i.i (omega arith)) ∙ c.loop-i.invariant.2

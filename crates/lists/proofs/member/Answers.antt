@@ -1,0 +1,19 @@
+use mathlib.Core.Path.{◌≡◌, refl, sym, ◌∙◌}
+use mathlib.Core.Bool.{◌||◌}
+use Prim.Native.Nat.{◌≤◌, ◌-◌}
+use lib.ListN.{length, drop}
+use Rattle.lists.specs.Lists.{member_of}
+use Rattle.lists.proofs.Walk.{gathered, gathered_all}
+use borrow.Author.Rules.{rules}
+use native.Mathlib.Omega.{arith}
+use Rattle.lists.proofs.member.Goals as goal
+
+pub loop-i-preserved : goal.loop-i-preserved
+loop-i-preserved c =
+    let s = c.args.s.now in
+    (omega arith, gathered c.loop-i.hit c.args.x s c.loop-i.i (omega arith) ∙ c.loop-i.invariant.1)
+
+pub returns : goal.returns
+returns c =
+    let s = c.args.s.now in
+    sym (gathered_all c.loop-i.hit c.args.x s c.loop-i.i (omega arith)) ∙ c.loop-i.invariant.1
