@@ -1,0 +1,12 @@
+use borrow.Author.Tests.{lt-ltb, le-ltb}
+use Rattle.table.specs.Tables.{causes_killed}
+use borrow.Author.Rules.{rules}
+use Rattle.table.proofs.Table.kill_cause.Goals as goal
+
+pub returns-then-n-ge32 : goal.returns-then-n-ge32
+unfolding causes_killed
+returns-then-n-ge32 c = rw (le-ltb _ _ c.if-n-ge32.true)
+
+pub returns : goal.returns
+unfolding causes_killed
+returns c = rw (lt-ltb _ _ c.if-n-ge32.false)
