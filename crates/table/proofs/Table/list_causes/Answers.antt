@@ -20,3 +20,10 @@ bounds-out-k c =
 pub returns : goal.returns
 unfolding causes_listed
 returns c = rw (c.find-k.ensures, c.cut.ensures, lt-ltb _ _ c.if-n-ge32.false)
+
+pub offset_bounds-out-k : goal.offset_bounds-out-k
+offset_bounds-out-k c =
+    let a = c.args in
+    let n = length-take a.self.nspares a.self.spares in
+    let k = index_most a.b.0 (take a.self.nspares a.self.spares) in
+    omega (arith, n, k, rw c.cut.ensures at c.find-k.ensures)
