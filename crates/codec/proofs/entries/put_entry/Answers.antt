@@ -1,0 +1,11 @@
+use Rattle.image.specs.Layouts.{triple}
+use native.Mathlib.Omega.{arith}
+use borrow.Author.Rules.{rules}
+use Rattle.codec.proofs.entries.put_entry.Goals as goal
+
+pub returns : goal.returns
+unfolding triple
+returns c =
+    let p = c.put_summed.ensures in
+    let e = c.widened-v.ensures.0 in
+    (rw (p.0, e), rw (p.1, e), omega (arith, p.2))

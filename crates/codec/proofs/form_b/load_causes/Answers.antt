@@ -1,0 +1,25 @@
+use mathlib.Core.Path.{◌≡◌, refl}
+use mathlib.Core.List.{◌++◌}
+use Prim.Native.Nat.{◌≤◌, ◌-◌, ◌*◌, ◌+◌}
+use native.Mathlib.Numerals.{add-one}
+use lib.ListN.{length, drop, replicate, length-set}
+use Rattle.image.proofs.Layouts.{store_step}
+use Rattle.image.proofs.ReadingB.{causes_length, causes_snoc}
+use Rattle.image.specs.FormB.{causes_from}
+use borrow.Author.Rules.{rules}
+use native.Mathlib.Omega.{arith}
+use Rattle.codec.proofs.form_b.load_causes.Goals as goal
+
+pub loop-k-init : goal.loop-k-init
+unfolding causes_from
+loop-k-init c = (omega arith, refl, refl)
+
+pub loop-k-preserved : goal.loop-k-preserved
+loop-k-preserved c =
+    let a = c.args in
+    let k = c.loop-k.k in
+    let rest = drop 16 a.s.now in (
+      omega arith,
+      simp length-set c.loop-k.invariant.1,
+      rw (c.loop-k.invariant.2, add-one, causes_snoc k a.s.now) (store_step (causes_from k rest) (replicate 32 0) k _ (causes_length k rest) (omega arith)),
+    )

@@ -1,0 +1,10 @@
+use native.Mathlib.Omega.{arith}
+use Rattle.image.proofs.WritingB.{head_bytes_lem}
+use borrow.Author.Rules.{rules}
+use Rattle.codec.proofs.form_b.put_head.Goals as goal
+
+pub returns : goal.returns
+returns c =
+    let p = c.put_summed.ensures in
+    let e = head_bytes_lem c.args.run c.args.n c.args.m c.requires.1 c.requires.2 in
+    (rw e p.0, rw e p.1, omega (arith, p.2))
