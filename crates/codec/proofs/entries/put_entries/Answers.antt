@@ -21,7 +21,7 @@ loop-k-preserved c =
     let k = c.loop-k.k in
     let p = c.put_entry-t.ensures in
     let h : (a.at + 3 * length a.list.now ≤ length a.out.now) = c.requires.0 in
-    let e : c.put_entry-t.new.0 ≡ over a.at (triples (take (k + 1) a.list.now)) a.out.now =
+    let e : c.put_entry-t.new.out ≡ over a.at (triples (take (k + 1) a.list.now)) a.out.now =
     rw (p.0, c.loop-k.invariant.2, add-one) (written_step a.at a.list.now a.out.now k (omega arith) (omega (arith, h))) in
     let t = triples_length (take (k + 1) a.list.now) in
     let n = length-take-le (k + 1) a.list.now (omega arith) in (

@@ -1,0 +1,7 @@
+use Rattle.drive.specs.Records.{retry_ok}
+use borrow.Author.Rules.{rules}
+use Rattle.records.proofs.retry_ok.Goals as goal
+
+pub returns : goal.returns
+unfolding retry_ok
+returns c = rw (c.is_sector.ensures, c.is_block.ensures)

@@ -1,0 +1,7 @@
+use Rattle.drive.specs.Records.{state_ok}
+use borrow.Author.Rules.{rules}
+use Rattle.records.proofs.state_ok.Goals as goal
+
+pub returns : goal.returns
+unfolding state_ok
+returns c = rw c.phase_ok.ensures
