@@ -132,12 +132,13 @@ none_good : {start : Sectors} {w : World} {H : History} → Sim start w H → Da
 none_good m k [] ok = tt
 none_good {start} {w} {H} m k (call e ∷ ms) ok =
     let r = step m e.call e.spoils ok.0 in
-    (refuted r.0 (good_report H (entry_of e (made w (call e)))) refl, none_good r.1 (dark_step m k e ok.0) ms ok.1)
+    (refuted r.0 (good_report H (entry_of e (made w (call e)))) refl, none_good {w = after w (call e) (made w (call e))} r.1 (dark_step m k e ok.0) ms ok.1)
   where
     refuted : Kept H (entry_of e (made w (call e))) → (q : Bool) → good_report H (entry_of e (made w (call e))) ≡ q → q ≡ false
     refuted f true p = clash (f.tabled p) k.none
     refuted f false p = refl
-none_good m k (power d v x ∷ ms) ok = none_good (began m d v x) (dark_start m k d v x) ms ok.1
+none_good {w = w} m k (power d v x ∷ ms) ok =
+    none_good {w = after w (power d v x) (made w (power d v x))} (began m d v x) (dark_start m k d v x) ms ok.1
 
 pub unreadable_table : UnreadableTable
 unreadable_table c e ms ok = none_good (sim_then c) (record { lost = e; none = not-found-then c }) ms ok

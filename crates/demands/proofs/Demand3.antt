@@ -29,7 +29,7 @@ module _ {start : Sectors} where
   -- and after the list.
   pub sim-after : {w : World} {H : History} → Sim start w H → (ms : List Moment) → Lawful w ms → Sim start (after_all w ms) (past_all start H (lines w ms))
   sim-after s [] ok = s
-  sim-after s (m ∷ ms) ok = sim-after (sim-next s m ok.0) ms ok.1
+  sim-after {w = w} s (m ∷ ms) ok = sim-after {w = after w m (made w m)} (sim-next s m ok.0) ms ok.1
 
   fits_next : {w : World} {H : History} → Sim start w H → (m : Moment) → Permits w m (made w m) → FitsLine H (line_of m (made w m))
   fits_next s (call e) ok = (step s e.call e.spoils ok).0.fits
@@ -37,16 +37,17 @@ module _ {start : Sectors} where
 
   pub all : {w : World} {H : History} → Sim start w H → (ms : List Moment) → Lawful w ms → Allows start H (lines w ms)
   all s [] ok = tt
-  all s (m ∷ ms) ok =
+  all {w = w} s (m ∷ ms) ok =
       let n = sim-next s m ok.0 in
-      (fits_next s m ok.0, sim_apart n, all n ms ok.1)
+      (fits_next s m ok.0, sim_apart n, all {w = after w m (made w m)} n ms ok.1)
 
   pub all-tabled : {w : World} {H : History} → Sim start w H → (ms : List Moment) → Lawful w ms → Tabled start H (lines w ms)
   all-tabled s [] ok = tt
-  all-tabled s (call e ∷ ms) ok =
+  all-tabled {w = w} s (call e ∷ ms) ok =
       let r = step s e.call e.spoils ok.0 in
-      (r.0.tabled, all-tabled r.1 ms ok.1)
-  all-tabled s (power d u f ∷ ms) ok = all-tabled (began s d u f) ms ok.1
+      (r.0.tabled, all-tabled {w = after w (call e) (made w (call e))} r.1 ms ok.1)
+  all-tabled {w = w} s (power d u f ∷ ms) ok =
+      all-tabled {w = after w (power d u f) (made w (power d u f))} (began s d u f) ms ok.1
 
 -- DEMAND 3.
 pub demand_3 : Demand3

@@ -667,8 +667,9 @@ all : {start : Sectors} {w : World} {H : History} (wrote : Wrote) → Sim start 
 all wrote m k [] ok = tt
 all {start} {w} {H} wrote m k (call e ∷ ms) ok =
     let r = owes start H wrote e.spoils w k (sim_known m) e.call in
-    (r.0, all _ (step m e.call e.spoils ok.0).1 r.1 ms ok.1)
-all {start} {w} {H} wrote m k (power d v x ∷ ms) ok = all wrote (began m d v x) (restarted w H wrote k d v x) ms ok.1
+    (r.0, all {w = after w (call e) (made w (call e))} _ (step m e.call e.spoils ok.0).1 r.1 ms ok.1)
+all {start} {w} {H} wrote m k (power d v x ∷ ms) ok = 
+    all {w = after w (power d v x) (made w (power d v x))} wrote (began m d v x) (restarted w H wrote k d v x) ms ok.1
 
 pub writes_made : WritesMade
 unfolding start_of
