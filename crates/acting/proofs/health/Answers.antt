@@ -1,0 +1,7 @@
+use Rattle.drive.specs.Handshake.{health}
+use borrow.Author.Rules.{rules}
+use Rattle.acting.proofs.health.Goals as goal
+
+pub returns : goal.returns
+unfolding health
+returns c = rw (c.bit-unstored.ensures, c.bit-latch.ensures, c.unused-unused.ensures)

@@ -1,0 +1,7 @@
+use Rattle.drive.specs.Handshake.{no_number}
+use borrow.Author.Rules.{rules}
+use Rattle.acting.proofs.no_number.Goals as goal
+
+pub returns : goal.returns
+unfolding no_number
+returns c = rw (c.is_read.ensures, c.asks_health.ensures, c.asks_table.ensures, c.asks_buffer.ensures)

@@ -1,0 +1,12 @@
+use Rattle.image.specs.Layouts.{triple}
+use Rattle.image.specs.FormB.{quad}
+use borrow.Author.Rules.{rules}
+use native.Mathlib.Omega.{arith}
+use Rattle.codec.proofs.form_b.put_spare.Goals as goal
+
+pub returns : goal.returns
+unfolding quad triple
+returns c =
+    let p = c.put_summed.ensures in
+    let e = c.widened-v.ensures.0 in
+    (rw (p.0, e), rw (p.1, e), omega (arith, p.2))

@@ -1,0 +1,7 @@
+use Rattle.image.specs.FormB.{two_bytes}
+use borrow.Author.Rules.{rules}
+use Rattle.codec.proofs.form_b.put_sum.Goals as goal
+
+pub returns : goal.returns
+unfolding two_bytes
+returns c = c.put.ensures

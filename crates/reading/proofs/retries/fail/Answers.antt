@@ -1,0 +1,7 @@
+use Rattle.drive.specs.Retries.{failed}
+use borrow.Author.Rules.{rules}
+use Rattle.reading.proofs.retries.fail.Goals as goal
+
+pub returns : goal.returns
+unfolding failed
+returns c = rw (c.spent_after.ensures, c.left_after.ensures, c.errors_after.ensures, c.met-met.ensures)
