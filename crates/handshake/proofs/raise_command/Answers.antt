@@ -1,0 +1,7 @@
+use Rattle.drive.specs.Handshake.{raised}
+use borrow.Author.Rules.{rules}
+use Rattle.handshake.proofs.raise_command.Goals as goal
+
+pub returns : goal.returns
+unfolding raised
+returns c = rw (c.offer.ensures, c.kept_bytes.ensures, c.offer_for-o.ensures, c.order_of-k.ensures)
