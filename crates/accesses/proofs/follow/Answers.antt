@@ -1,0 +1,30 @@
+use Rattle.drive.specs.Access.{follows, write_answered}
+use Rattle.accesses.proofs.Answers.{reading_ok, reread_ok, read_bads}
+use mathlib.Core.List.{[]}
+use Rattle.drive.specs.Sparing.{tried, missed}
+use borrow.Author.Rules.{rules}
+use Rattle.accesses.proofs.follow.Goals as goal
+
+pub returns-in-Start : goal.returns-in-Start
+unfolding follows
+returns-in-Start c = rw (c.start.ensures, c.x-1.given.1)
+
+pub returns-in-Store : goal.returns-in-Store
+unfolding follows
+returns-in-Store c = rw (c.store.ensures, c.x-in-Store-1.given.1)
+
+pub returns-in-Read : goal.returns-in-Read
+unfolding follows
+returns-in-Read c = rw (c.read.ensures, c.x-in-Read-1.given.1) (read_bads _ _ [] _ _ _ _)
+
+pub returns-in-Write : goal.returns-in-Write
+unfolding follows write_answered
+returns-in-Write c = rw (c.write.ensures, c.x-in-Write-1.given.1)
+
+pub returns-in-Verify : goal.returns-in-Verify
+unfolding follows
+returns-in-Verify c = rw (c.verify.ensures, c.x-in-Verify-1.given.1)
+
+pub returns-in-TrialWrite : goal.returns-in-TrialWrite
+unfolding follows tried missed
+returns-in-TrialWrite c = rw (c.tried.ensures, c.x-in-TrialWrite-1.given.1)

@@ -1,0 +1,9 @@
+use native.Mathlib.Omega.{arith}
+use mathlib.Core.Path.{sym}
+use lib.ListN.{length-take}
+use Rattle.leaving.proofs.Buffers.{none_filled}
+use borrow.Author.Rules.{rules}
+use Rattle.leaving.proofs.fill.Goals as goal
+
+pub returns-then-f-ge532 : goal.returns-then-f-ge532
+returns-then-f-ge532 c = sym (none_filled _ _ c.if-f-ge532.true _)

@@ -1,0 +1,6 @@
+use Rattle.leaving.proofs.Buffers.{part_put}
+use borrow.Author.Rules.{rules}
+use Rattle.leaving.proofs.put_image.Goals as goal
+
+pub returns : goal.returns
+returns c = rw (part_put c.args.buf.now, c.write_table.ensures)

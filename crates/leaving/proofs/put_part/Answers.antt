@@ -1,0 +1,23 @@
+use Rattle.drive.specs.Results.{part_left}
+use borrow.Author.Rules.{rules}
+use Rattle.leaving.proofs.put_part.Goals as goal
+
+pub returns-in-Kept : goal.returns-in-Kept
+unfolding part_left
+returns-in-Kept c = rw c.enum_told-1.given.1
+
+pub returns-in-Filled : goal.returns-in-Filled
+unfolding part_left
+returns-in-Filled c = rw (c.fill.ensures, c.p-1.given.1)
+
+pub returns-in-Zeroed : goal.returns-in-Zeroed
+unfolding part_left
+returns-in-Zeroed c = rw (c.zero.ensures, c.p-in-Zeroed-1.given.1)
+
+pub returns-in-Image : goal.returns-in-Image
+unfolding part_left
+returns-in-Image c = rw (c.put_image.ensures, c.enum_told-in-Image-1.given.1)
+
+pub returns-in-Figures : goal.returns-in-Figures
+unfolding part_left
+returns-in-Figures c = rw (c.put_figures.ensures, c.p-in-Figures-1.given.1)

@@ -1,0 +1,13 @@
+use Rattle.drive.specs.Results.{status_left}
+use Rattle.buffer.specs.Runs.{over}
+use Rattle.drive.specs.Words.{data_of}
+use borrow.Author.Rules.{rules}
+use Rattle.leaving.proofs.put_status.Goals as goal
+
+pub returns-in-Kept : goal.returns-in-Kept
+unfolding status_left
+returns-in-Kept c = rw c.enum_told-1.given.1
+
+pub returns-in-Written : goal.returns-in-Written
+unfolding status_left over data_of
+returns-in-Written c = rw (c.put_four.ensures, c.s-1.given.1)
