@@ -1,6 +1,6 @@
 -- Lines of a transcript, and known sums of zlib: of no bytes, of `Wikipedia`, of 532 zeros, and of 532 bytes of EE hex.
 use mathlib.Core.Path.{◌≡◌, refl}
-use mathlib.Core.List.{[], ◌∷◌}
+use mathlib.Core.List.{[]}
 use lib.ListN.{replicate}
 use Rattle.drive.specs.declared.Answer.TheVariants as answer
 use Rattle.drive.specs.Words.{data_of}
