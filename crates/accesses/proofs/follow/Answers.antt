@@ -7,24 +7,24 @@ use Rattle.accesses.proofs.follow.Goals as goal
 
 pub returns-in-Start : goal.returns-in-Start
 unfolding follows
-returns-in-Start c = rw (c.start.ensures, c.x-1.given.1)
+returns-in-Start c = rw (c.start.ensures, c.in-Start.is)
 
 pub returns-in-Store : goal.returns-in-Store
 unfolding follows
-returns-in-Store c = rw (c.store.ensures, c.x-in-Store-1.given.1)
+returns-in-Store c = rw (c.store.ensures, c.in-Store.is)
 
 pub returns-in-Read : goal.returns-in-Read
 unfolding follows
-returns-in-Read c = rw (c.read.ensures, c.x-in-Read-1.given.1) (read_bads _ _ [] _ _ _ _)
+returns-in-Read c = rw (c.read.ensures, c.in-Read.is) (read_bads _ _ [] _ _ _ _)
 
 pub returns-in-Write : goal.returns-in-Write
 unfolding follows write_answered
-returns-in-Write c = rw (c.write.ensures, c.x-in-Write-1.given.1)
+returns-in-Write c = rw (c.write.ensures, c.in-Write.is)
 
 pub returns-in-Verify : goal.returns-in-Verify
 unfolding follows
-returns-in-Verify c = rw (c.verify.ensures, c.x-in-Verify-1.given.1)
+returns-in-Verify c = rw (c.verify.ensures, c.in-Verify.is)
 
 pub returns-in-TrialWrite : goal.returns-in-TrialWrite
 unfolding follows tried missed
-returns-in-TrialWrite c = rw (c.tried.ensures, c.x-in-TrialWrite-1.given.1)
+returns-in-TrialWrite c = rw (c.tried.ensures, c.in-TrialWrite.is)

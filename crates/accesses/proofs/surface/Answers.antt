@@ -8,16 +8,16 @@ fit-requires c = (c.requires.0, awaited_ok _ c.args.l _ c.p-1.given.1 c.requires
 
 pub returns-in-Idle : goal.returns-in-Idle
 unfolding answered
-returns-in-Idle c = rw (c.refuse.ensures, c.enum_told-1.given.1)
+returns-in-Idle c = rw (c.refuse.ensures, c.in-Idle.is)
 
 pub returns-in-Offered : goal.returns-in-Offered
 unfolding answered
-returns-in-Offered c = rw (c.refuse-in-Offered.ensures, c.enum_told-in-Offered-1.given.1)
+returns-in-Offered c = rw (c.refuse-in-Offered.ensures, c.in-Offered.is)
 
 pub returns-in-Command : goal.returns-in-Command
 unfolding answered
-returns-in-Command c = rw (c.refuse-in-Command.ensures, c.enum_told-in-Command-1.given.1)
+returns-in-Command c = rw (c.refuse-in-Command.ensures, c.in-Command.is)
 
 pub returns-in-Data : goal.returns-in-Data
 unfolding answered
-returns-in-Data c = rw (c.refuse-in-Data.ensures, c.enum_told-in-Data-1.given.1)
+returns-in-Data c = rw (c.refuse-in-Data.ensures, c.in-Data.is)

@@ -6,8 +6,8 @@ use Rattle.leaving.proofs.put_status.Goals as goal
 
 pub returns-in-Kept : goal.returns-in-Kept
 unfolding status_left
-returns-in-Kept c = rw c.enum_told-1.given.1
+returns-in-Kept c = rw c.in-Kept.is
 
 pub returns-in-Written : goal.returns-in-Written
 unfolding status_left over data_of
-returns-in-Written c = rw (c.put_four.ensures, c.s-1.given.1)
+returns-in-Written c = rw (c.put_four.ensures, c.in-Written.is)
