@@ -28,3 +28,7 @@ returns-in-Verify c = rw (c.verify.ensures, c.in-Verify.is)
 pub returns-in-TrialWrite : goal.returns-in-TrialWrite
 unfolding follows tried missed
 returns-in-TrialWrite c = rw (c.tried.ensures, c.in-TrialWrite.is)
+
+pub returns-in-TrialRead : goal.returns-in-TrialRead
+unfolding follows tried missed
+returns-in-TrialRead c = rw (c.checked.ensures, c.in-TrialRead.is)

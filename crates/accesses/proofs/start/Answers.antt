@@ -20,13 +20,13 @@ returns-in_default c =
     rw (
       c.count_try-in_default.ensures,
       c.if-a-ne0.false,
-      is_formed _ _ _ (ap (λ (x : Image). x.found) c.read_image-read.ensures) c.enum_told-1.given.1,
+      is_formed _ _ _ (ap (λ (x : Image). x.found) c.read_image-read.ensures) c.in_default.is,
     )
 
 pub returns : goal.returns
 unfolding start_answered
 returns c =
     let e = ap (λ (x : Image). x.found) c.read_image-read.ensures in
-    let f = c.found-1.given.1 in
+    let f = c.in-Lists.is in
     let h = is_formed _ _ _ e f in
     rw (c.with_table.ensures, c.if-a-ne0.false, h, found_run _ _ _ _ _ h e f)

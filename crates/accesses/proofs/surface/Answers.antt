@@ -4,7 +4,7 @@ use borrow.Author.Rules.{rules}
 use Rattle.accesses.proofs.surface.Goals as goal
 
 pub fit-requires : goal.fit-requires
-fit-requires c = (c.requires.0, awaited_ok _ c.args.l _ c.p-1.given.1 c.requires.1)
+fit-requires c = (c.requires.0, awaited_ok _ c.args.l _ c.in-Awaiting.is c.requires.1)
 
 pub returns-in-Idle : goal.returns-in-Idle
 unfolding answered
