@@ -1,0 +1,10 @@
+use mathlib.Core.Path.{sym, ◌∙◌}
+use Rattle.drive.specs.Access.{verifies}
+use Rattle.calls.proofs.Buffers.{as_compared}
+use borrow.Author.Rules.{rules}
+use Rattle.calls.proofs.equal.Goals as goal
+
+pub returns-then-verifies : goal.returns-then-verifies
+returns-then-verifies c =
+    let a = c.args in
+    rw (sym c.verifies.ensures ∙ c.if-verifies.true) (sym (as_compared a.bytes.now a.buf.now c.same_bytes.ensures))
