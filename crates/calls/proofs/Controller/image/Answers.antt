@@ -8,7 +8,7 @@ use Rattle.calls.proofs.Controller.image.Goals as goal
 
 pub returns-then-not-m : goal.returns-then-not-m
 returns-then-not-m c =
-    let e = image-no-table _ _ c.guard-g.ensures c.in-Passes.is (c.if-not-m.true) in
+    let e = image-no-table _ _ c.guard-g.ensures c.in-Passes.is (not-true _ c.if-not-m.true) in
     (c.say-then-not-m.ensures ∙ ap (λ (o : Out). o.step) (sym e), ap (λ (o : Out). o.bytes) (sym e))
 
 pub write_stored-requires : goal.write_stored-requires
@@ -23,5 +23,5 @@ returns-in-Refuses c =
 
 pub returns-else-not-m : goal.returns-else-not-m
 returns-else-not-m c =
-    let e = image-given _ _ c.guard-g.ensures c.in-Passes.is (c.if-not-m.false) in
+    let e = image-given _ _ c.guard-g.ensures c.in-Passes.is (not-false _ c.if-not-m.false) in
     (c.say-in-Passes.ensures ∙ ap (λ (o : Out). o.step) (sym e), c.write_stored.ensures ∙ ap (λ (o : Out). o.bytes) (sym e))
