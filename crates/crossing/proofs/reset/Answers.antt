@@ -1,0 +1,14 @@
+use mathlib.Core.List.{List}
+use Prim.Native.Nat.{ℕ}
+use Rattle.table.specs.declared.Table.{Table}
+use Rattle.drive.specs.declared.State.{State}
+use Rattle.drive.specs.Calls as call
+use Rattle.calls.specs.Gives.{Gives}
+use Rattle.crossing.proofs.Crossed.{of_words}
+use borrow.Author.Rules.{rules}
+use Rattle.crossing.proofs.reset.Goals as goal
+
+pub returns : goal.returns
+returns c =
+    let a = c.args in
+    of_words a.w.now (λ (t : Table) (cs : List ℕ) (l : State). Gives call.reset t cs l a.buf.now c.reset.result c.reset.new.buf) c.spares.ensures c.number-n.ensures c.bads.ensures c.number-m.ensures c.causes.ensures c.state_at-l.ensures c.reset.ensures
