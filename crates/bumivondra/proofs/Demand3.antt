@@ -29,7 +29,7 @@ use Rattle.packed.proofs.Round.{unpacked}
 use Rattle.crossing.specs.Crossing.{Shown, shown, reply_of, kept, crossed, start_shown}
 use Rattle.bumivondra.specs.Demand3.{Board, answer_of, world_of, Occasion, call, power, moment_of, shown_at, out_of, words_after, board_after, LawfulCalls, lines_of, started, TypedCalls, Demand3Calls}
 use Rattle.demands.proofs.Valid.{fine_typed, step_valid, step_typed, started_fine, started_valid}
-use Rattle.demands.proofs.Refusals.{refused-unchanged}
+use Rattle.demands.proofs.Refusals.{refused_unchanged}
 use Rattle.demands.proofs.Demand3.{demand_3}
 
 answer_back : (a : Answer) → answer_of (reply_of a) ≡ a
@@ -98,21 +98,21 @@ module _ (w : World) (e : Event) (s : Sound w.drive) (y : TypedCall e.call) wher
   abbrev x : Out
   x = made w (run.call e)
 
-  sound-call : Sound x.step.drive
-  sound-call = record { typed = step_typed e.call w.drive w.buffer y s.typed s.valid; valid = step_valid e.call w.drive w.buffer y s.typed s.valid }
+  sound_call : Sound x.step.drive
+  sound_call = record { typed = step_typed e.call w.drive w.buffer y s.typed s.valid; valid = step_valid e.call w.drive w.buffer y s.typed s.valid }
 
   words_are : kept x.step.answer (pack_of w.drive) (pack_of x.step.drive) ≡ pack_of x.step.drive
   words_are =
       branch (λ (v : List ℕ). v ≡ pack_of x.step.drive) (of_answer x.step.answer).refused
-      (λ r. ap pack_of (sym (refused-unchanged w.drive w.buffer e.call r).0)) (λ r. refl)
+      (λ r. ap pack_of (sym (refused_unchanged w.drive w.buffer e.call r).0)) (λ r. refl)
 
-  shown-call : shown_at (packs w) (call e) ≡ shows x
-  shown-call =
+  shown_call : shown_at (packs w) (call e) ≡ shows x
+  shown_call =
       ap (λ (d : Drive). crossed (pack_of w.drive) (step_of e.call d w.buffer)) (back w.drive s)
       ∙ (λ i. shown (reply_of x.step.answer) (words_are i) x.bytes)
 
-  out-call : out_of (shown_at (packs w) (call e)) ≡ x
-  out-call = ap out_of shown-call ∙ (λ i. record { step = record { drive = back x.step.drive sound-call i; answer = answer_back x.step.answer i }; bytes = x.bytes })
+  out_call : out_of (shown_at (packs w) (call e)) ≡ x
+  out_call = ap out_of shown_call ∙ (λ i. record { step = record { drive = back x.step.drive sound_call i; answer = answer_back x.step.answer i }; bytes = x.bytes })
 
 -- and so does a start: it is refused and leaves the words, or makes the record anew.
 start_shown_lem : (v : List ℕ) (u : Bytes) → out_of (start_shown v u) ≡ start_of (unpack_of v) u
@@ -123,17 +123,17 @@ start_shown_lem v u =
 
 -- So what the board has after each is the packing of the world after it.
 out_is : (w : World) (m : Occasion) → Sound w.drive → Typed1 m → out_of (shown_at (packs w) m) ≡ made w (moment_of m)
-out_is w (call e) s y = out-call w e s y
+out_is w (call e) s y = out_call w e s y
 out_is w (power v u f) s y = start_shown_lem v u
 
 sound : (w : World) (m : Occasion) → Sound w.drive → Typed1 m → Sound (after w (moment_of m) (made w (moment_of m))).drive
 unfolding start_of
-sound w (call e) s y = sound-call w e s y
+sound w (call e) s y = sound_call w e s y
 sound w (power v u f) s y = branch (λ (x : Out). Sound (after w (run.power (unpack_of v) u f) x).drive) (eqb (length u) 536) (λ q. sound_start) (λ q. s)
 
 words_is : (w : World) (m : Occasion) → Sound w.drive → Typed1 m → words_after (pack_of w.drive) m (shown_at (packs w) m) ≡ pack_of (after w (moment_of m) (made w (moment_of m))).drive
 unfolding start_of
-words_is w (call e) s y = ap (λ (z : Shown). z.words) (shown-call w e s y)
+words_is w (call e) s y = ap (λ (z : Shown). z.words) (shown_call w e s y)
 words_is w (power v u f) s y =
     branch (λ (x : Out). words_after (pack_of w.drive) (power v u f) (crossed v x) ≡ pack_of (after w (run.power (unpack_of v) u f) x).drive) (eqb (length u) 536) (λ q. refl) (λ q. refl)
 

@@ -73,14 +73,14 @@ module _ (d : Drive) (k n : ℕ) {g : Verdict} (e : g ≡ guard_of (record_ok d)
   pub sound : g ≡ verdict.Passes → Sound d k n
   sound f = let z = passes_so (record_ok d) (eqb k n) (sym e ∙ f) in sound_so d k n z.0 z.1
 
-  by-verdict : {A : Type 0} (v : Verdict) (f : Refusal → A) (x : A) → g ≡ v → cond (record_ok d) (cond (eqb k n) x (f refusal.Buffer)) (f refusal.Record) ≡ choose v f x
-  by-verdict v f x h = chosen (record_ok d) (eqb k n) f x ∙ ap (λ (y : Verdict). choose y f x) (sym e ∙ h)
+  by_verdict : {A : Type 0} (v : Verdict) (f : Refusal → A) (x : A) → g ≡ v → cond (record_ok d) (cond (eqb k n) x (f refusal.Buffer)) (f refusal.Record) ≡ choose v f x
+  by_verdict v f x h = chosen (record_ok d) (eqb k n) f x ∙ ap (λ (y : Verdict). choose y f x) (sym e ∙ h)
 
 -- A call that lends the buffer u.
 module _ (d : Drive) (u : List ℕ) {g : Verdict} (e : g ≡ guard_of (record_ok d) (eqb (length u) 536)) where
   module _ (bs : List ℕ) (x : Turn) where
     turned : (v : Verdict) → g ≡ v → guarded (record_ok d) (length u) d.state x ≡ choose v (λ (r : Refusal). refuse r d.state) x
-    turned v k = by-verdict d (length u) 536 e v (λ (r : Refusal). refuse r d.state) x k
+    turned v k = by_verdict d (length u) 536 e v (λ (r : Refusal). refuse r d.state) x k
 
     -- The table is changed as the turn says, and a refusal says nothing.
     module _ {r : Refusal} {y : Turn} (f : g ≡ verdict.Refuses r) (k : y ≡ refuse r d.state) where
@@ -88,29 +88,29 @@ module _ (d : Drive) (u : List ℕ) {g : Verdict} (e : g ≡ guard_of (record_ok
       unfolding part_left status_left
       refused = let z = turned (verdict.Refuses r) f in (rw (z, k), rw z)
 
-      pub surface-refused : Returns (called d u bs x) (handed (altered_of y.change (notes_of d) bs) y) u
-      surface-refused = rw k (rw k at refused)
+      pub surface_refused : Returns (called d u bs x) (handed (altered_of y.change (notes_of d) bs) y) u
+      surface_refused = rw k (rw k at refused)
 
     module _ {y : Turn} {v : List ℕ} (f : g ≡ verdict.Passes) (k : y ≡ x) (w : v ≡ leave y.leaves d.table bs u) where
-      pub surface-given : Returns (called d u bs x) (handed (altered_of y.change (notes_of d) bs) y) v
-      surface-given = let z = turned verdict.Passes f in (rw (z, k), rw (z, ← k) w)
+      pub surface_given : Returns (called d u bs x) (handed (altered_of y.change (notes_of d) bs) y) v
+      surface_given = let z = turned verdict.Passes f in (rw (z, k), rw (z, ← k) w)
 
       pub given : x.change ≡ change.Keep → Returns (called d u bs x) (handed (notes_of d) y) v
-      given h = let e : y.change ≡ change.Keep = rw k h in rw e at surface-given
+      given h = let e : y.change ≡ change.Keep = rw k h in rw e at surface_given
 
 -- A call for the image.
 module _ (d : Drive) (u : List ℕ) {g : Verdict} (e : g ≡ guard_of (record_ok d) (eqb (length u) 532)) where
   imaged : (v : Verdict) → g ≡ v
       → image_out_of d u ≡ choose v (λ (r : Refusal). image_says d (answer.Refused r) u) (cond d.state.marks.known (image_says d answer.Wait (stored_image d)) (image_says d (answer.Refused refusal.Place) u))
   unfolding image_out_of
-  imaged v k = by-verdict d (length u) 532 e v (λ (r : Refusal). image_says d (answer.Refused r) u) _ k
+  imaged v k = by_verdict d (length u) 532 e v (λ (r : Refusal). image_says d (answer.Refused r) u) _ k
 
-  pub image-refused : {r : Refusal} → g ≡ verdict.Refuses r → image_out_of d u ≡ image_says d (answer.Refused r) u
-  image-refused {r} f = imaged (verdict.Refuses r) f
+  pub image_refused : {r : Refusal} → g ≡ verdict.Refuses r → image_out_of d u ≡ image_says d (answer.Refused r) u
+  image_refused {r} f = imaged (verdict.Refuses r) f
 
   module _ (f : g ≡ verdict.Passes) where
-    pub image-no-table : d.state.marks.known ≡ false → image_out_of d u ≡ image_says d (answer.Refused refusal.Place) u
-    image-no-table k = imaged verdict.Passes f ∙ rw k
+    pub image_no_table : d.state.marks.known ≡ false → image_out_of d u ≡ image_says d (answer.Refused refusal.Place) u
+    image_no_table k = imaged verdict.Passes f ∙ rw k
 
-    pub image-given : d.state.marks.known ≡ true → image_out_of d u ≡ image_says d answer.Wait (stored_image d)
-    image-given k = imaged verdict.Passes f ∙ rw k
+    pub image_given : d.state.marks.known ≡ true → image_out_of d u ≡ image_says d answer.Wait (stored_image d)
+    image_given k = imaged verdict.Passes f ∙ rw k

@@ -107,25 +107,25 @@ module _ (bs : List ℕ) where
   abbrev Loads : Turn → Type 0
   Loads x = Formed bs x.change
 
-  follow-formed : (x : Access) (l : State) (t : Table) (a : ℕ) (q : Bool) → Loads (follows x l t a bs q)
+  follow_formed : (x : Access) (l : State) (t : Table) (a : ℕ) (q : Bool) → Loads (follows x l t a bs q)
   unfolding follows
-  follow-formed (access.Start k) l t a q =
+  follow_formed (access.Start k) l t a q =
       start_cases Loads k l a bs (record { table = λ e. and_right (eqb a 0) (well_formed bs) e; stops = λ e f. refl; again = λ e f. refl; gives_up = λ e f. refl })
-  follow-formed (access.Store k) l t a q = rw (no_load (access.Store k) l t a bs q refl)
-  follow-formed (access.Read r) l t a q = rw (no_load (access.Read r) l t a bs q refl)
-  follow-formed (access.Write w) l t a q = rw (no_load (access.Write w) l t a bs q refl)
-  follow-formed (access.Verify w) l t a q = rw (no_load (access.Verify w) l t a bs q refl)
-  follow-formed (access.TrialWrite r) l t a q = rw (no_load (access.TrialWrite r) l t a bs q refl)
-  follow-formed (access.TrialRead r) l t a q = rw (no_load (access.TrialRead r) l t a bs q refl)
+  follow_formed (access.Store k) l t a q = rw (no_load (access.Store k) l t a bs q refl)
+  follow_formed (access.Read r) l t a q = rw (no_load (access.Read r) l t a bs q refl)
+  follow_formed (access.Write w) l t a q = rw (no_load (access.Write w) l t a bs q refl)
+  follow_formed (access.Verify w) l t a q = rw (no_load (access.Verify w) l t a bs q refl)
+  follow_formed (access.TrialWrite r) l t a q = rw (no_load (access.TrialWrite r) l t a bs q refl)
+  follow_formed (access.TrialRead r) l t a q = rw (no_load (access.TrialRead r) l t a bs q refl)
 
-  pub answered-formed : (p : Phase) (l : State) (t : Table) (a : ℕ) (q : Bool) → Loads (answered p l t a bs q)
+  pub answered_formed : (p : Phase) (l : State) (t : Table) (a : ℕ) (q : Bool) → Loads (answered p l t a bs q)
   unfolding answered
-  answered-formed phase.Idle l t a q = refl
-  answered-formed (phase.Offered o) l t a q = refl
-  answered-formed phase.Command l t a q = refl
-  answered-formed phase.Data l t a q = refl
-  answered-formed (phase.Awaiting x) l t a q =
-      fitting_cases Loads (asks_read x) l a (length bs) _ (record { answer = λ e. refl; bytes = λ e f. refl; fits = λ e f. follow-formed x l t a q })
+  answered_formed phase.Idle l t a q = refl
+  answered_formed (phase.Offered o) l t a q = refl
+  answered_formed phase.Command l t a q = refl
+  answered_formed phase.Data l t a q = refl
+  answered_formed (phase.Awaiting x) l t a q =
+      fitting_cases Loads (asks_read x) l a (length bs) _ (record { answer = λ e. refl; bytes = λ e f. refl; fits = λ e f. follow_formed x l t a q })
 
 -- Of the table an answer needs no more than the number of spares and the bad list.
 pub no_spares : (p : Phase) (l : State) (s b : List ℕ) (n m a : ℕ) (bs : List ℕ) (q : Bool) → answered p l (lent [] n b m) a bs q ≡ answered p l (lent s n b m) a bs q

@@ -49,23 +49,23 @@ loads i x n m run h e f =
 
 -- The lists that were found are those of a table, and make the image in the other form.
 module _ (i : List ℕ) (x : Image) (n m run : ℕ) (h : well_formed i ≡ true) (e : x ≡ read_of i) (f : x.found ≡ found.Lists n m run) where
-  same-notes : found_notes x n m ≡ image_notes i
-  same-notes = loads i x n m run h e f
+  same_notes : found_notes x n m ≡ image_notes i
+  same_notes = loads i x n m run h e f
 
-  pub few-found : (n ≤ 32) × (m ≤ 100)
-  few-found =
+  pub few_found : (n ≤ 32) × (m ≤ 100)
+  few_found =
       let p = passes (table_of i) (read_ok i h) in
-      let a = ap (λ (k : Noted). k.table.nspares) same-notes in
-      let b = ap (λ (k : Noted). k.table.nbads) same-notes in
+      let a = ap (λ (k : Noted). k.table.nspares) same_notes in
+      let b = ap (λ (k : Noted). k.table.nbads) same_notes in
       (rw a p.few_spares, rw b p.few_bads)
 
-  pub to-form-a : has_magic i ≡ true → image_a (lent x.spares n x.bads m) ≡ converted i
+  pub to_form_a : has_magic i ≡ true → image_a (lent x.spares n x.bads m) ≡ converted i
   unfolding converted
-  to-form-a b = ap (λ (k : Noted). image_a k.table) same-notes ∙ rw b
+  to_form_a b = ap (λ (k : Noted). image_a k.table) same_notes ∙ rw b
 
-  pub to-form-b : has_magic i ≡ false → image_b 0 (lent x.spares n x.bads m) x.causes ≡ converted i
+  pub to_form_b : has_magic i ≡ false → image_b 0 (lent x.spares n x.bads m) x.causes ≡ converted i
   unfolding converted causes_of
-  to-form-b b = ap (λ (k : Noted). image_b 0 k.table k.causes) same-notes ∙ rw b
+  to_form_b b = ap (λ (k : Noted). image_b 0 k.table k.causes) same_notes ∙ rw b
 
 -- What was found wrong is what is wrong.
 abbrev fault_found : Found → Fault

@@ -40,19 +40,19 @@ refused_kind answer.Finished = refl
 refused_kind (answer.Refused r) = refl
 
 module _ (a : Answer) {r : Reply} (is : r ≡ reply_of a) where
-  kind-so : (t : Bool) → eqb r.kind 6 ≡ t → (of_answer a).refused ≡ t
-  kind-so t e = sym (refused_kind a) ∙ ap (λ (r : Reply). eqb r.kind 6) (sym is) ∙ e
+  kind_so : (t : Bool) → eqb r.kind 6 ≡ t → (of_answer a).refused ≡ t
+  kind_so t e = sym (refused_kind a) ∙ ap (λ (r : Reply). eqb r.kind 6) (sym is) ∙ e
 
   -- Where it was 6 the words stay, whatever else would be written,
-  pub left-where-refused : (w v : List ℕ) → eqb r.kind 6 ≡ true → w ≡ kept a w v
-  left-where-refused w v e = rw (kind-so true e)
+  pub left_where_refused : (w v : List ℕ) → eqb r.kind 6 ≡ true → w ≡ kept a w v
+  left_where_refused w v e = rw (kind_so true e)
 
-  pub same-where-refused : (w v v' : List ℕ) → eqb r.kind 6 ≡ true → kept a w v ≡ kept a w v'
-  same-where-refused w v v' e = sym (left-where-refused w v e) ∙ left-where-refused w v' e
+  pub same_where_refused : (w v v' : List ℕ) → eqb r.kind 6 ≡ true → kept a w v ≡ kept a w v'
+  same_where_refused w v v' e = sym (left_where_refused w v e) ∙ left_where_refused w v' e
 
   -- and else they are written.
-  pub written-where-not : (w v : List ℕ) → eqb r.kind 6 ≡ false → v ≡ kept a w v
-  written-where-not w v e = rw (kind-so false e)
+  pub written_where_not : (w v : List ℕ) → eqb r.kind 6 ≡ false → v ≡ kept a w v
+  written_where_not w v e = rw (kind_so false e)
 
 -- Its parts make what C is shown of a result.
 pub shows : (w v u : List ℕ) (x : Out) (s : Step) (r : Reply) → Returns x s u → r ≡ reply_of s.answer → v ≡ kept s.answer w (pack_of s.drive) → shown r v u ≡ crossed w x
@@ -61,9 +61,9 @@ shows w v u x s r g e k = (λ i. shown (e i) (k i) (g.1 i)) ∙ ap (λ (s : Step
 -- THE WORDS
 module _ (w : List ℕ) (h : length w ≡ 189) (a : get_or w 23 0 ≤ 65535) (b : get_or w 24 0 ≤ 65535) where
   -- A state written into the words is packed beside their table and its causes,
-  pub state-packed : (l : State) → pack_state l ++ drop 23 w ≡ pack_of (record_of (table_at w) (causes_at w) l)
+  pub state_packed : (l : State) → pack_state l ++ drop 23 w ≡ pack_of (record_of (table_at w) (causes_at w) l)
   unfolding pack_of
-  state-packed l = ap (λ (r : List ℕ). pack_state l ++ r) (sym (table_words w h a b))
+  state_packed l = ap (λ (r : List ℕ). pack_state l ++ r) (sym (table_words w h a b))
 
   -- and a table that is packed again with its causes changes nothing.
   pub table_kept : w ≡ take 23 w ++ note_words (notes_of (unpack_of w))

@@ -33,10 +33,10 @@ use Rattle.demands.proofs.Parts.{Cmd}
 use Rattle.records.proofs.Ladders.{finish_cases, OnBlock, acted_cases}
 use Rattle.demands.proofs.Numbers.{on_block}
 use Rattle.demands.proofs.Endings.{latched_reports}
-use Rattle.demands.proofs.Statuses.{is_move, good-is, moves-is}
-use Rattle.demands.proofs.Sim.{state_of, world_of, history_of, Blocky, place_of, Books, Quiet, Ground, Sound, resting, rereads, writing, trying, nothing, at_rest, at-work, at_store, books_apart, entry_of, Good, ev}
-use Rattle.demands.proofs.Books.{books-weaken}
-use Rattle.demands.proofs.Entries.{fits-silent, fits-failed, fits-first, entry-none, ground-failed, ground-none}
+use Rattle.demands.proofs.Statuses.{is_move, good_is, moves_is}
+use Rattle.demands.proofs.Sim.{state_of, world_of, history_of, Blocky, place_of, Books, Quiet, Ground, Sound, resting, rereads, writing, trying, nothing, at_rest, at_work, at_store, books_apart, entry_of, Good, ev}
+use Rattle.demands.proofs.Books.{books_weaken}
+use Rattle.demands.proofs.Entries.{fits_silent, fits_failed, fits_first, entry_none, ground_failed, ground_none}
 
 module _ (start σ : Sectors) (t : Table) (cs : Bytes) (mk : Marks) (pl : Block → Where) (ca : Block → List Bytes) (u c : Bytes) (n f rn : ℕ) (q : Offer) (h fd : Bytes) (to' wr : Bool) (lr : Where) (ln fn : Bool)
     (lc : length c ≡ 6) (so : Sound mk) (gr : Ground start mk.known mk.moved t σ pl ca ln fn) (tk : table_ok t ≡ true) (go : (eqb (response q) 0x02 || eqb (response q) 0x06) ≡ true) (cm : Cmd c h)
@@ -58,111 +58,111 @@ module _ (start σ : Sectors) (t : Table) (cs : Bytes) (mk : Marks) (pl : Block 
   told e unstored = report l₀ (ended mk change.Keep e) change.Keep e clean unstored false part.Kept
 
   -- It may end at once, failed,
-  end-failed : (e : Ending) (unstored : Bool) → fails e ≡ true → is_move e ≡ false → G₀ (told e unstored)
+  end_failed : (e : Ending) (unstored : Bool) → fails e ≡ true → is_move e ≡ false → G₀ (told e unstored)
   unfolding part_left status_left next heard learns acts underway touches touches_first has_written
-  end-failed e unstored ef em =
-      let g : good (o₀ (told e unstored)) ≡ false = good-is (lower 0x55) answer.Finished e clean unstored false mk.fresh u ∙ rw ef in
-      let m : moves (o₀ (told e unstored)) ≡ false = moves-is (lower 0x55) answer.Finished e clean unstored false mk.fresh u ∙ em in
-      λ ok. (fits-failed _ _ g (rw go), rw go (at_rest lc so (ground-failed H₀ (o₀ (told e unstored)) start refl m g (inr (rw go)) gr) (resting refl refl)))
+  end_failed e unstored ef em =
+      let g : good (o₀ (told e unstored)) ≡ false = good_is (lower 0x55) answer.Finished e clean unstored false mk.fresh u ∙ rw ef in
+      let m : moves (o₀ (told e unstored)) ≡ false = moves_is (lower 0x55) answer.Finished e clean unstored false mk.fresh u ∙ em in
+      λ ok. (fits_failed _ _ g (rw go), rw go (at_rest lc so (ground_failed H₀ (o₀ (told e unstored)) start refl m g (inr (rw go)) gr) (resting refl refl)))
 
   -- or for a number of no block,
-  end-no-block : is_block (number_of c) ≡ false → (e : Ending) (v : Part) → G₀ (ends l₀ e v)
+  end_no_block : is_block (number_of c) ≡ false → (e : Ending) (v : Part) → G₀ (ends l₀ e v)
   unfolding part_left status_left next heard learns acts underway touches touches_first reports
-  end-no-block nb e v =
+  end_no_block nb e v =
       let z : is_block (number_of h) ≡ false = rw cm.number nb in
-      λ ok. (fits-silent _ _ (rw (go, z)) (rw go), rw go (at_rest lc so (ground-none H₀ (o₀ (ends l₀ e v)) start refl (rw (go, z)) gr) (resting refl refl)))
+      λ ok. (fits_silent _ _ (rw (go, z)) (rw go), rw go (at_rest lc so (ground_none H₀ (o₀ (ends l₀ e v)) start refl (rw (go, z)) gr) (resting refl refl)))
 
   -- or go on to the block's sector.
   module _ (kn : mk.known ≡ true) (i : Blocky (block_of (order_of c))) where
     kb : Books t σ pl ca Quiet mk.moved
     kb = gr.tabled kn
 
-    block-h : is_block (number_of h) ≡ true
-    block-h = rw cm.number i
+    block_h : is_block (number_of h) ≡ true
+    block_h = rw cm.number i
 
-    first-at : pl (block_of (order_of h)) ≡ at (place_of t (block_of (order_of c)))
-    first-at = rw cm.number (kb.where-is (block_of (order_of c)) i)
+    first_at : pl (block_of (order_of h)) ≡ at (place_of t (block_of (order_of c)))
+    first_at = rw cm.number (kb.where_is (block_of (order_of c)) i)
 
     abbrev read₁ : Turn
     read₁ = first_read (order_of c) l₀ (spare_list t)
 
-    go-read : is_read (kind_of c) ≡ true → G₀ read₁
+    go_read : is_read (kind_of c) ≡ true → G₀ read₁
     unfolding part_left status_left next heard learns acts underway touches reports
-    go-read op =
+    go_read op =
         λ ok. (
-          fits-first _ _ (rw go) block-h first-at,
-          rw go (at-work lc kn so (gr.learnt kn) (gr.found kn) i cm.number (ap is_read cm.kind ∙ op) (rereads refl refl refl refl (λ g. clash g refl) (entry-none H₀ (o₀ read₁) start refl (rw go) kb))),
+          fits_first _ _ (rw go) block_h first_at,
+          rw go (at_work lc kn so (gr.learnt kn) (gr.found kn) i cm.number (ap is_read cm.kind ∙ op) (rereads refl refl refl refl (λ g. clash g refl) (entry_none H₀ (o₀ read₁) start refl (rw go) kb))),
         )
 
     abbrev write₁ : Turn
     write₁ = first_write (order_of c) l₀ (spare_list t)
 
-    go-write : is_read (kind_of c) ≡ false → G₀ write₁
+    go_write : is_read (kind_of c) ≡ false → G₀ write₁
     unfolding part_left status_left next heard learns acts underway touches reports
-    go-write op =
+    go_write op =
         λ ok. (
-          fits-first _ _ (rw go) block-h first-at,
-          rw go (at-work lc kn so (gr.learnt kn) (gr.found kn) i cm.number (ap is_read cm.kind ∙ op) (writing refl refl refl refl refl (dw op) (entry-none H₀ (o₀ write₁) start refl (rw go) kb))),
+          fits_first _ _ (rw go) block_h first_at,
+          rw go (at_work lc kn so (gr.learnt kn) (gr.found kn) i cm.number (ap is_read cm.kind ∙ op) (writing refl refl refl refl refl (dw op) (entry_none H₀ (o₀ write₁) start refl (rw go) kb))),
         )
 
     abbrev try₁ : Turn
     try₁ = first_trial (order_of c) l₀ (spare_list t)
 
-    go-try : is_read (kind_of c) ≡ false → G₀ try₁
+    go_try : is_read (kind_of c) ≡ false → G₀ try₁
     unfolding part_left status_left next heard learns acts underway touches reports
-    go-try op =
+    go_try op =
         λ ok. (
-          fits-first _ _ (rw go) block-h first-at,
+          fits_first _ _ (rw go) block_h first_at,
           rw go
-              (at-work lc kn so (gr.learnt kn) (gr.found kn) i cm.number (ap is_read cm.kind ∙ op)
-              (trying refl refl refl (record { present = λ e. refl; aside = λ e. clash e refl }) (record { as_read = λ e. clash e refl; as-write = λ e. dw op })
-              (books-weaken (block_of (order_of c)) (data_of u) (entry-none H₀ (o₀ try₁) start refl (rw go) kb)))),
+              (at_work lc kn so (gr.learnt kn) (gr.found kn) i cm.number (ap is_read cm.kind ∙ op)
+              (trying refl refl refl (record { present = λ e. refl; aside = λ e. clash e refl }) (record { as_read = λ e. clash e refl; as_write = λ e. dw op })
+              (books_weaken (block_of (order_of c)) (data_of u) (entry_none H₀ (o₀ try₁) start refl (rw go) kb)))),
         )
 
     -- Too much data: the table may be stored first.
     abbrev store₁ : Turn
     store₁ = asks_store l₀ (ended mk change.Keep ending.Overrun) change.Keep ending.Overrun clean part.Kept
 
-    go-store : G₀ store₁
+    go_store : G₀ store₁
     unfolding part_left status_left next heard learns acts underway touches touches_first reports
-    go-store =
+    go_store =
         λ ok. (
-          fits-silent _ _ (rw go) (rw go),
+          fits_silent _ _ (rw go) (rw go),
           rw go
-              (at_store lc kn so (gr.learnt kn) (gr.found kn) i cm.number refl tk (books_apart (entry-none H₀ (o₀ store₁) start refl (rw go) kb))
-              (record { owes = nothing (inr refl) (entry-none H₀ (o₀ store₁) start refl (rw go) kb); as_read = λ e. clash refl e; as-write = λ e. clash refl e; sole = λ e. clash refl e })),
+              (at_store lc kn so (gr.learnt kn) (gr.found kn) i cm.number refl tk (books_apart (entry_none H₀ (o₀ store₁) start refl (rw go) kb))
+              (record { owes = nothing (inr refl) (entry_none H₀ (o₀ store₁) start refl (rw go) kb); as_read = λ e. clash refl e; as_write = λ e. clash refl e; sole = λ e. clash refl e })),
         )
 
-  end-overrun : is_block (number_of c) ≡ true → G₀ (finish l₀ change.Keep ending.Overrun clean part.Kept)
-  end-overrun i =
+  end_overrun : is_block (number_of c) ≡ true → G₀ (finish l₀ change.Keep ending.Overrun clean part.Kept)
+  end_overrun i =
       finish_cases G₀ l₀ change.Keep ending.Overrun clean part.Kept
       (record {
-        asks = λ e. go-store (and_left mk.known mk.changed (and_left (mk.known && mk.changed) (not mk.latch) e)) i;
-        reports = λ e. end-failed ending.Overrun (wants_store (ended mk change.Keep ending.Overrun)) refl refl;
+        asks = λ e. go_store (and_left mk.known mk.changed (and_left (mk.known && mk.changed) (not mk.latch) e)) i;
+        reports = λ e. end_failed ending.Overrun (wants_store (ended mk change.Keep ending.Overrun)) refl refl;
       })
 
   -- Under the latch nothing is stored.
-  end-latched : G₀ (finish l₀ change.Keep ending.Latched clean part.Kept)
-  end-latched = latched_reports G₀ l₀ change.Keep clean part.Kept (λ unstored. end-failed ending.Latched unstored refl refl)
+  end_latched : G₀ (finish l₀ change.Keep ending.Latched clean part.Kept)
+  end_latched = latched_reports G₀ l₀ change.Keep clean part.Kept (λ unstored. end_failed ending.Latched unstored refl refl)
 
-  not-block : (m : ℕ) → is_block m ≡ false → eqb (number_of c) m ≡ true → is_block (number_of c) ≡ false
-  not-block m e p = rw (eqb-true (number_of c) m p) e
+  not_block : (m : ℕ) → is_block m ≡ false → eqb (number_of c) m ≡ true → is_block (number_of c) ≡ false
+  not_block m e p = rw (eqb-true (number_of c) m p) e
 
   known : OnBlock (order_of c) l₀ → mk.known ≡ true
   known b = not-false mk.known b.known
 
-  pub acts-well : G₀ (acted (order_of c) l₀ t)
-  acts-well =
+  pub acts_well : G₀ (acted (order_of c) l₀ t)
+  acts_well =
       acted_cases G₀ (order_of c) l₀ t
       (record {
-        overrun = λ e. record { block = λ f. end-overrun f; no_block = λ f. end-failed ending.Overrun false refl refl };
-        no_block = λ e f. end-failed ending.NoNumber false refl refl;
-        buffer = λ e f. end-no-block (not-block 0xFFFFFE refl f) ending.Good part.Kept;
-        no_table = λ e f. end-failed (ending.NoTable (not (is_read (kind_of c)))) false refl refl;
-        table = λ e f. end-no-block (not-block 0xFFFFFF refl f) ending.Good _;
-        health = λ e f. end-no-block (not-block 0xFFFFFD refl f) ending.Good _;
-        read = λ b e. go-read (known b) (on_block b) e;
-        latched = λ b e f. end-latched;
-        listed = λ b e f g. go-try (known b) (on_block b) e;
-        write = λ b e f g. go-write (known b) (on_block b) e;
+        overrun = λ e. record { block = λ f. end_overrun f; no_block = λ f. end_failed ending.Overrun false refl refl };
+        no_block = λ e f. end_failed ending.NoNumber false refl refl;
+        buffer = λ e f. end_no_block (not_block 0xFFFFFE refl f) ending.Good part.Kept;
+        no_table = λ e f. end_failed (ending.NoTable (not (is_read (kind_of c)))) false refl refl;
+        table = λ e f. end_no_block (not_block 0xFFFFFF refl f) ending.Good _;
+        health = λ e f. end_no_block (not_block 0xFFFFFD refl f) ending.Good _;
+        read = λ b e. go_read (known b) (on_block b) e;
+        latched = λ b e f. end_latched;
+        listed = λ b e f g. go_try (known b) (on_block b) e;
+        write = λ b e f g. go_write (known b) (on_block b) e;
       })

@@ -55,13 +55,13 @@ module _ (d : Drive) (u : List ℕ) (a : ℕ) (bs : List ℕ) where
   abbrev If : Turn → Type 0
   If y = surface_of d u a bs ≡ out_of d.table d.causes bs u y → (of_answer y.answer).refused ≡ false → Accepted d u a bs
 
-  by-phase : record_ok d ≡ true → eqb (length u) 536 ≡ true → (p : Phase) → d.state.phase ≡ p → If (answered p d.state d.table a bs (verifies p a && same bs (data_of u)))
+  by_phase : record_ok d ≡ true → eqb (length u) 536 ≡ true → (p : Phase) → d.state.phase ≡ p → If (answered p d.state d.table a bs (verifies p a && same bs (data_of u)))
   unfolding answered
-  by-phase k h phase.Idle e = λ g r. clash refl r
-  by-phase k h (phase.Offered o) e = λ g r. clash refl r
-  by-phase k h phase.Command e = λ g r. clash refl r
-  by-phase k h phase.Data e = λ g r. clash refl r
-  by-phase k h (phase.Awaiting x) e =
+  by_phase k h phase.Idle e = λ g r. clash refl r
+  by_phase k h (phase.Offered o) e = λ g r. clash refl r
+  by_phase k h phase.Command e = λ g r. clash refl r
+  by_phase k h phase.Data e = λ g r. clash refl r
+  by_phase k h (phase.Awaiting x) e =
       fitting_cases If (asks_read x) d.state a (length bs) _
       (record {
         answer = λ f g r. clash refl r;
@@ -73,7 +73,7 @@ module _ (d : Drive) (u : List ℕ) (a : ℕ) (bs : List ℕ) where
   unfolding surface_of
   accepted =
       guarded_cases If (record_ok d) (length u) d.state _
-      (record { damaged = λ k g r. clash refl r; length = λ k h g r. clash refl r; passes = λ k h. by-phase k h d.state.phase refl })
+      (record { damaged = λ k g r. clash refl r; length = λ k h g r. clash refl r; passes = λ k h. by_phase k h d.state.phase refl })
       refl
 
 -- Every other call is out of place.
@@ -88,10 +88,10 @@ module _ (d : Drive) (u : List ℕ) (f : Access → Bool) (e : awaits f d.state.
   in_phase_lem g h = awaited (λ (p : Phase). Declines (g p)) f (λ x i. h x) d.state.phase e
 
   -- Proves a property of a call, given it of those that are refused and of surface calls.
-  pub by-surface : (P : Call → Type 0) → ((c : Call) → (of_answer (step_of c d u).step.answer).refused ≡ true → P c) → ((a : ℕ) (bs : List ℕ) → P (surface a bs)) → (c : Call) → P c
+  pub by_surface : (P : Call → Type 0) → ((c : Call) → (of_answer (step_of c d u).step.answer).refused ≡ true → P c) → ((a : ℕ) (bs : List ℕ) → P (surface a bs)) → (c : Call) → P c
   unfolding step_of raise_of lower_of feed_of reset_of raised lowered fed_to rested
-  by-surface P none own raise = none raise (declines _ (in_phase_lem (λ p. raised p d.state) (λ x. refl)))
-  by-surface P none own (lower b) = none (lower b) (declines _ (in_phase_lem (λ p. lowered p d.state d.table b) (λ x. refl)))
-  by-surface P none own (feed bs) = none (feed bs) (declines _ (in_phase_lem (λ p. fed_to p d.state bs) (λ x. refl)))
-  by-surface P none own (surface a bs) = own a bs
-  by-surface P none own reset = none reset (declines _ (in_phase_lem (λ p. rested p d.state) (λ x. refl)))
+  by_surface P none own raise = none raise (declines _ (in_phase_lem (λ p. raised p d.state) (λ x. refl)))
+  by_surface P none own (lower b) = none (lower b) (declines _ (in_phase_lem (λ p. lowered p d.state d.table b) (λ x. refl)))
+  by_surface P none own (feed bs) = none (feed bs) (declines _ (in_phase_lem (λ p. fed_to p d.state bs) (λ x. refl)))
+  by_surface P none own (surface a bs) = own a bs
+  by_surface P none own reset = none reset (declines _ (in_phase_lem (λ p. rested p d.state) (λ x. refl)))

@@ -69,7 +69,7 @@ module _ (l : State) (t : Table) where
 
   module _ (free : l.marks.latch ≡ false) where
     nexts : (n : ℕ) (c : Change) (b : Block) (s : Seen) {x y : Cause} → NextSpare Leaves n l c b s x y
-    nexts n c b s = record { spare = λ e. rw free; no-spare = λ e. ends c _ _ _ }
+    nexts n c b s = record { spare = λ e. rw free; no_spare = λ e. ends c _ _ _ }
 
     misses : (r : Trial) (s : Seen) {x : Cause} → Missed Leaves l t r s x
     misses r s = record { dead = λ e. nexts (t.nspares + 1) _ r.block s; left = λ e. nexts t.nspares change.Keep r.block s }
@@ -80,37 +80,37 @@ module _ (l : State) (t : Table) where
   passes : (r : Trial) → Verified Leaves l t r
   passes r = record { moved = λ e. ends _ _ _ _; listed = λ e f. ends _ _ _ _; stays = λ e f. ends _ _ _ _ }
 
-  reads-leave : (o : Outcome) (p : Part) → Leaves (reads o l t p)
+  reads_leave : (o : Outcome) (p : Part) → Leaves (reads o l t p)
   unfolding reads
-  reads-leave (outcome.Done r) p = ends _ _ _ p
-  reads-leave (outcome.Again r) p = refl
-  reads-leave (outcome.Settle r) p = settled_cases Leaves l r p (record { below = λ e. ends _ _ _ p; latched = λ e f. ends _ _ _ p; tries = λ e f. rw f })
-  reads-leave (outcome.Lost r) p = lost_cases Leaves l t r p (record { listed = λ e. ends _ _ _ p; entered = λ e f. ends _ _ _ p; full = λ e f. ends _ _ _ p })
-  reads-leave (outcome.Stop r) p = ends _ _ _ p
+  reads_leave (outcome.Done r) p = ends _ _ _ p
+  reads_leave (outcome.Again r) p = refl
+  reads_leave (outcome.Settle r) p = settled_cases Leaves l r p (record { below = λ e. ends _ _ _ p; latched = λ e f. ends _ _ _ p; tries = λ e f. rw f })
+  reads_leave (outcome.Lost r) p = lost_cases Leaves l t r p (record { listed = λ e. ends _ _ _ p; entered = λ e f. ends _ _ _ p; full = λ e f. ends _ _ _ p })
+  reads_leave (outcome.Stop r) p = ends _ _ _ p
 
   -- An access of the present state leads to such a one.
-  follows-leave : (x : Access) (a : ℕ) (bs : List ℕ) (q : Bool) → is_fresh l.marks.latch x ≡ true → Leaves (follows x l t a bs q)
+  follows_leave : (x : Access) (a : ℕ) (bs : List ℕ) (q : Bool) → is_fresh l.marks.latch x ≡ true → Leaves (follows x l t a bs q)
   unfolding follows store_answered
-  follows-leave (access.Start k) a bs q h =
+  follows_leave (access.Start k) a bs q h =
       start_cases Leaves k l a bs (record { table = λ e. refl; stops = λ e f. refl; again = λ e f. refl; gives_up = λ e f. refl })
-  follows-leave (access.Store k) a bs q h = refl
-  follows-leave (access.Read r) a bs q h = reads-leave (after_read r a) (kept_part r a)
-  follows-leave (access.Write w) a bs q h =
+  follows_leave (access.Store k) a bs q h = refl
+  follows_leave (access.Read r) a bs q h = reads_leave (after_read r a) (kept_part r a)
+  follows_leave (access.Write w) a bs q h =
       let free = not-true l.marks.latch h in
       write_cases Leaves l t w a (record { verifies = λ e f. h; done = λ e f. ends _ _ _ _; stops = λ e f. ends _ _ _ _; moves = λ e f. nexts free t.nspares change.Keep w.block _ })
-  follows-leave (access.Verify w) a bs q h = verify_cases Leaves l w a q (record { stops = λ e. ends _ _ _ _; done = λ e f. ends _ _ _ _; fails = λ e f. rw (not-true l.marks.latch h) })
-  follows-leave (access.TrialWrite r) a bs q h =
+  follows_leave (access.Verify w) a bs q h = verify_cases Leaves l w a q (record { stops = λ e. ends _ _ _ _; done = λ e f. ends _ _ _ _; fails = λ e f. rw (not-true l.marks.latch h) })
+  follows_leave (access.TrialWrite r) a bs q h =
       let free = and_left (not l.marks.latch) (eqb r.rereads 0 && eqb r.failures 0) h in
       tried_cases Leaves l t r a (record { done = λ e. free; stops = λ e. stops r; fails = λ e f. misses (not-true l.marks.latch free) r _ })
-  follows-leave (access.TrialRead r) a bs q h =
+  follows_leave (access.TrialRead r) a bs q h =
       checked_cases Leaves l t r a q
       (record {
         stops = λ e. stops r;
         counts = λ e. record { again = λ f. h; passes = λ f g. passes (counted r a q); fails = λ f g. misses (not-true l.marks.latch h) (counted r a q) _ };
       })
 
-  acted-leaves : (o : Order) → Leaves (acted o l t)
-  acted-leaves o =
+  acted_leaves : (o : Order) → Leaves (acted o l t)
+  acted_leaves o =
       acted_cases Leaves o l t
       (record {
         overrun = λ e. record { block = λ i. ends _ _ _ _; no_block = λ i. refl };
@@ -125,71 +125,71 @@ module _ (l : State) (t : Table) where
         write = λ b e f g. rw f;
       })
 
-  goes-on-leaves : (o : Offer) → Leaves (goes_on o l t)
+  goes_on_leaves : (o : Offer) → Leaves (goes_on o l t)
   unfolding goes_on
-  goes-on-leaves offer.Command = refl
-  goes-on-leaves offer.Read = acted-leaves _
-  goes-on-leaves offer.Write = refl
-  goes-on-leaves offer.Verify = refl
-  goes-on-leaves offer.Act = acted-leaves _
+  goes_on_leaves offer.Command = refl
+  goes_on_leaves offer.Read = acted_leaves _
+  goes_on_leaves offer.Write = refl
+  goes_on_leaves offer.Verify = refl
+  goes_on_leaves offer.Act = acted_leaves _
 
   -- A refusal leaves the state.
   module _ (h : fresh l ≡ true) where
-    raised-leaves : (p : Phase) → Leaves (raised p l)
+    raised_leaves : (p : Phase) → Leaves (raised p l)
     unfolding raised
-    raised-leaves phase.Idle = refl
-    raised-leaves (phase.Offered o) = h
-    raised-leaves phase.Command = refl
-    raised-leaves phase.Data = refl
-    raised-leaves (phase.Awaiting x) = h
+    raised_leaves phase.Idle = refl
+    raised_leaves (phase.Offered o) = h
+    raised_leaves phase.Command = refl
+    raised_leaves phase.Data = refl
+    raised_leaves (phase.Awaiting x) = h
 
-    lowered-leaves : (p : Phase) (b : ℕ) → Leaves (lowered p l t b)
+    lowered_leaves : (p : Phase) (b : ℕ) → Leaves (lowered p l t b)
     unfolding lowered
-    lowered-leaves phase.Idle b = h
-    lowered-leaves (phase.Offered o) b = lowered_cases Leaves o l t b (record { goes = λ e. goes-on-leaves o; breaks = λ e. refl })
-    lowered-leaves phase.Command b = h
-    lowered-leaves phase.Data b = h
-    lowered-leaves (phase.Awaiting x) b = h
+    lowered_leaves phase.Idle b = h
+    lowered_leaves (phase.Offered o) b = lowered_cases Leaves o l t b (record { goes = λ e. goes_on_leaves o; breaks = λ e. refl })
+    lowered_leaves phase.Command b = h
+    lowered_leaves phase.Data b = h
+    lowered_leaves (phase.Awaiting x) b = h
 
-    fed-leaves : (p : Phase) (bs : List ℕ) → Leaves (fed_to p l bs)
+    fed_leaves : (p : Phase) (bs : List ℕ) → Leaves (fed_to p l bs)
     unfolding fed_to
-    fed-leaves phase.Idle bs = h
-    fed-leaves (phase.Offered o) bs = h
-    fed-leaves phase.Command bs = refl
-    fed-leaves phase.Data bs = refl
-    fed-leaves (phase.Awaiting x) bs = h
+    fed_leaves phase.Idle bs = h
+    fed_leaves (phase.Offered o) bs = h
+    fed_leaves phase.Command bs = refl
+    fed_leaves phase.Data bs = refl
+    fed_leaves (phase.Awaiting x) bs = h
 
-    rested-leaves : (p : Phase) → Leaves (rested p l)
+    rested_leaves : (p : Phase) → Leaves (rested p l)
     unfolding rested
-    rested-leaves phase.Idle = refl
-    rested-leaves (phase.Offered o) = refl
-    rested-leaves phase.Command = refl
-    rested-leaves phase.Data = refl
-    rested-leaves (phase.Awaiting x) = h
+    rested_leaves phase.Idle = refl
+    rested_leaves (phase.Offered o) = refl
+    rested_leaves phase.Command = refl
+    rested_leaves phase.Data = refl
+    rested_leaves (phase.Awaiting x) = h
 
-    answered-leaves : (p : Phase) (a : ℕ) (bs : List ℕ) (q : Bool) → of_phase true (is_fresh l.marks.latch) p ≡ true → Leaves (answered p l t a bs q)
+    answered_leaves : (p : Phase) (a : ℕ) (bs : List ℕ) (q : Bool) → of_phase true (is_fresh l.marks.latch) p ≡ true → Leaves (answered p l t a bs q)
     unfolding answered
-    answered-leaves phase.Idle a bs q e = h
-    answered-leaves (phase.Offered o) a bs q e = h
-    answered-leaves phase.Command a bs q e = h
-    answered-leaves phase.Data a bs q e = h
-    answered-leaves (phase.Awaiting x) a bs q e =
-        fitting_cases Leaves (asks_read x) l a (length bs) (follows x l t a bs q) (record { answer = λ z. h; bytes = λ z f. h; fits = λ z f. follows-leave x a bs q e })
+    answered_leaves phase.Idle a bs q e = h
+    answered_leaves (phase.Offered o) a bs q e = h
+    answered_leaves phase.Command a bs q e = h
+    answered_leaves phase.Data a bs q e = h
+    answered_leaves (phase.Awaiting x) a bs q e =
+        fitting_cases Leaves (asks_read x) l a (length bs) (follows x l t a bs q) (record { answer = λ z. h; bytes = λ z f. h; fits = λ z f. follows_leave x a bs q e })
 
 -- EACH CALL keeps it.
 module _ (d : Drive) (u : List ℕ) (h : fresh d.state ≡ true) where
-  called-leaves : (bs : List ℕ) (x : Turn) → Leaves x → fresh (called d u bs x).step.drive.state ≡ true
-  called-leaves bs x k = guarded_cases Leaves (record_ok d) (length u) d.state x (record { damaged = λ e. h; length = λ e f. h; passes = λ e f. k })
+  called_leaves : (bs : List ℕ) (x : Turn) → Leaves x → fresh (called d u bs x).step.drive.state ≡ true
+  called_leaves bs x k = guarded_cases Leaves (record_ok d) (length u) d.state x (record { damaged = λ e. h; length = λ e f. h; passes = λ e f. k })
 
-  pub trials-begin : (c : Call) → fresh (step_of c d u).step.drive.state ≡ true
+  pub trials_begin : (c : Call) → fresh (step_of c d u).step.drive.state ≡ true
   unfolding step_of raise_of lower_of feed_of surface_of reset_of
-  trials-begin raise = called-leaves [] (raised d.state.phase d.state) (raised-leaves d.state d.table h d.state.phase)
-  trials-begin (lower b) = called-leaves [] (lowered d.state.phase d.state d.table b) (lowered-leaves d.state d.table h d.state.phase b)
-  trials-begin (feed bs) = called-leaves bs (fed_to d.state.phase d.state bs) (fed-leaves d.state d.table h d.state.phase bs)
-  trials-begin (surface a bs) =
+  trials_begin raise = called_leaves [] (raised d.state.phase d.state) (raised_leaves d.state d.table h d.state.phase)
+  trials_begin (lower b) = called_leaves [] (lowered d.state.phase d.state d.table b) (lowered_leaves d.state d.table h d.state.phase b)
+  trials_begin (feed bs) = called_leaves bs (fed_to d.state.phase d.state bs) (fed_leaves d.state d.table h d.state.phase bs)
+  trials_begin (surface a bs) =
       let q = verifies d.state.phase a && same bs (data_of u) in
-      called-leaves bs (answered d.state.phase d.state d.table a bs q) (answered-leaves d.state d.table h d.state.phase a bs q h)
-  trials-begin reset = called-leaves [] (rested d.state.phase d.state) (rested-leaves d.state d.table h d.state.phase)
+      called_leaves bs (answered d.state.phase d.state d.table a bs q) (answered_leaves d.state d.table h d.state.phase a bs q h)
+  trials_begin reset = called_leaves [] (rested d.state.phase d.state) (rested_leaves d.state d.table h d.state.phase)
 
 -- Says so after each call of a list.
 abbrev pub AllFresh : Drive → List ℕ → List Call → Type 0
@@ -198,7 +198,7 @@ AllFresh d u (c ∷ cs) = (fresh d.state ≡ true) × AllFresh (step_of c d u).s
 
 all_fresh : (d : Drive) (u : List ℕ) (cs : List Call) → fresh d.state ≡ true → AllFresh d u cs
 all_fresh d u [] h = h
-all_fresh d u (c ∷ cs) h = (h, all_fresh (step_of c d u).step.drive (step_of c d u).bytes cs (trials-begin d u h c))
+all_fresh d u (c ∷ cs) h = (h, all_fresh (step_of c d u).step.drive (step_of c d u).bytes cs (trials_begin d u h c))
 
 pub trials_begin_fresh : (old : Drive) (lent : List ℕ) (cs : List Call) → length lent ≡ 536 → AllFresh (start_of old lent).step.drive (start_of old lent).bytes cs
 unfolding start_of

@@ -21,11 +21,11 @@ use Rattle.drive.specs.Run.{Event, World, Moment, call, power, sectors_after, af
 use Rattle.drive.specs.Told.{none, Right, reports_of}
 use Rattle.drive.specs.Cuts.{Cut, world_at, history_at, start_at, world_then, history_then, CutKeeps, good_report, NoneGood, UnreadableTable, UnreadableAtFirst}
 use Rattle.drive.specs.Views.{Bytes, Where, nowhere, at, of_answer}
-use Rattle.demands.proofs.Sim.{Shake, resting, offer1, heads, offer2, offer3, offer4, takes, offer6, Sim, at-start, at_rest, at-work, at_store, Kept, entry_of}
+use Rattle.demands.proofs.Sim.{Shake, resting, offer1, heads, offer2, offer3, offer4, takes, offer6, Sim, at_start, at_rest, at_work, at_store, Kept, entry_of}
 use Rattle.demands.proofs.Entries.{no_learn}
 use Rattle.demands.proofs.Steps.{step}
 use Rattle.demands.proofs.Restart.{still, began}
-use Rattle.demands.proofs.Demand3.{sim_begins, sim-after, all, all-tabled}
+use Rattle.demands.proofs.Demand3.{sim_begins, sim_after, all, all_tabled}
 use Rattle.demands.proofs.Told.{Agrees, fresh, all_right}
 
 -- THE START AFTER A CUT is accepted: it keeps the invariant, the candidates are those of the cut, and no table is read yet.
@@ -35,29 +35,29 @@ module _ (c : Cut) where
   accepted = rw (eq-eqb (length c.buffer) 536 c.full)
 
   sim_then : Sim c.sectors (world_then c) (history_then c)
-  sim_then = began (sim-after (sim_begins c.given c.lent c.whole c.sectors) c.before c.lawful) c.drive c.buffer c.fate
+  sim_then = began (sim_after (sim_begins c.given c.lent c.whole c.sectors) c.before c.lawful) c.drive c.buffer c.fate
 
-  candidates-then : (history_then c).candidates ≡ candidates_then (history_at c)
+  candidates_then_lem : (history_then c).candidates ≡ candidates_then (history_at c)
   unfolding begun
-  candidates-then = rw accepted
+  candidates_then_lem = rw accepted
 
-  not-found-then : (history_then c).found ≡ false
+  not_found_then : (history_then c).found ≡ false
   unfolding begun
-  not-found-then = rw accepted
+  not_found_then = rw accepted
 
 -- AFTER A CUT a good read gives a candidate.
 pub cut_keeps : CutKeeps
 cut_keeps c ms ok b =
     let s = sim_then c in
-    let a : Agrees ((history_then c).candidates b) (candidates_then (history_at c) b) none = subst (λ (f : Block → List Bytes). Agrees (f b) (candidates_then (history_at c) b) none) (sym (candidates-then c)) (fresh (candidates_then (history_at c) b)) in
-    all_right b c.sectors (history_then c) (lines (world_then c) ms) (candidates_then (history_at c) b) none false (all s ms ok) (all-tabled s ms ok) a (not-found-then c)
+    let a : Agrees ((history_then c).candidates b) (candidates_then (history_at c) b) none = subst (λ (f : Block → List Bytes). Agrees (f b) (candidates_then (history_at c) b) none) (sym (candidates_then_lem c)) (fresh (candidates_then (history_at c) b)) in
+    all_right b c.sectors (history_then c) (lines (world_then c) ms) (candidates_then (history_at c) b) none false (all s ms ok) (all_tabled s ms ok) a (not_found_then c)
 
 -- WITH THE TABLE UNREADABLE no image can be read, and nothing is written any more.
 never_held : {x : Bytes} {A : Type 0} → unreadable ≡ held x → A
-never_held e = let z : ◌≡◌ {A = ℕ} 0 1 = cc in absurd (not-zero z)
+never_held e = let z : ◌≡◌ {A = ℕ} 0 1 = cc in absurd (not_zero z)
   where
-    not-zero : ◌≡◌ {A = ℕ} 0 1 → ⊥
-    not-zero z = omega arith
+    not_zero : ◌≡◌ {A = ℕ} 0 1 → ⊥
+    not_zero z = omega arith
 
 -- Says that the table's sector is unreadable, and that no image was read since the last start.
 record Dark (w : World) (H : History) : Type 0 where
@@ -66,9 +66,9 @@ record Dark (w : World) (H : History) : Type 0 where
 
 -- No write is pending,
 no_write : {start : Sectors} {w : World} {H : History} → Sim start w H → H.found ≡ false → target w.asked ≡ nowhere
-no_write (at-start lc kn em un) n = refl
+no_write (at_start lc kn em un) n = refl
 no_write (at_rest lc so gr sh) n = still sh
-no_write (at-work lc kn so el ef i num isr wk) n = clash ef n
+no_write (at_work lc kn so el ef i num isr wk) n = clash ef n
 no_write (at_store lc kn so el ef i num isr ok pa cl) n = clash ef n
 
 -- and no image comes.
@@ -84,17 +84,17 @@ no_read (offer6 c o e) = refl
 
 no_image_lem : {start : Sectors} {w : World} {H : History} → Sim start w H → Dark w H → (c : Call) (x : Answer) (v : Bytes) → Rule w c → learns H (record { call = c; answer = x; buffer = v }) ≡ false
 unfolding learns
-no_image_lem (at-start lc kn em un) k raise x v r = refl
-no_image_lem (at-start lc kn em un) k (lower b) x v r = refl
-no_image_lem (at-start lc kn em un) k (feed bs) x v r = refl
-no_image_lem (at-start {σ = σ} lc kn em un) k (surface a bs) x v r = go (eqb a 0) r
+no_image_lem (at_start lc kn em un) k raise x v r = refl
+no_image_lem (at_start lc kn em un) k (lower b) x v r = refl
+no_image_lem (at_start lc kn em un) k (feed bs) x v r = refl
+no_image_lem (at_start {σ = σ} lc kn em un) k (surface a bs) x v r = go (eqb a 0) r
   where
     go : (q : Bool) → Brings (at table_sector) q bs σ → (q && (is_table_sector (at table_sector) && well_formed bs)) ≡ false
     go true z = never_held (sym k.lost ∙ z)
     go false z = refl
-no_image_lem (at-start lc kn em un) k reset x v r = refl
+no_image_lem (at_start lc kn em un) k reset x v r = refl
 no_image_lem {H = H} (at_rest lc so gr sh) k c x v r = no_learn H (record { call = c; answer = x; buffer = v }) (ap is_table_sector (no_read sh))
-no_image_lem (at-work lc kn so el ef i num isr wk) k c x v r = clash ef k.none
+no_image_lem (at_work lc kn so el ef i num isr wk) k c x v r = clash ef k.none
 no_image_lem (at_store lc kn so el ef i num isr ok pa cl) k c x v r = clash ef k.none
 
 -- So it stays, with each call
@@ -141,7 +141,7 @@ none_good {w = w} m k (power d v x ∷ ms) ok =
     none_good {w = after w (power d v x) (made w (power d v x))} (began m d v x) (dark_start m k d v x) ms ok.1
 
 pub unreadable_table : UnreadableTable
-unreadable_table c e ms ok = none_good (sim_then c) (record { lost = e; none = not-found-then c }) ms ok
+unreadable_table c e ms ok = none_good (sim_then c) (record { lost = e; none = not_found_then c }) ms ok
 
 pub unreadable_at_first_lem : UnreadableAtFirst
 unreadable_at_first_lem given lent n sectors e ms ok = none_good (sim_begins given lent n sectors) (record { lost = e; none = refl }) ms ok

@@ -36,9 +36,9 @@ use Rattle.drive.specs.Bound.{of_command, is_command, accesses, most, Demand1Bou
 use Rattle.drive.specs.Views.{of_answer}
 use Rattle.records.proofs.Ladders.{finish_cases, NextSpare, Missed, Stopped, tried_cases, checked_cases, lost_cases, settled_cases, GoesOnReading, after_read_cases, write_cases, verify_cases}
 use Rattle.records.proofs.Passed.{passed as parts}
-use Rattle.demands.proofs.Awaited.{of_phase, accepted, by-surface}
+use Rattle.demands.proofs.Awaited.{of_phase, accepted, by_surface}
 use Rattle.demands.proofs.Busy.{killed_count}
-use Rattle.demands.proofs.Refusals.{refused-unchanged}
+use Rattle.demands.proofs.Refusals.{refused_unchanged}
 use Rattle.demands.proofs.Valid.{RetryFacts, retry_facts, TrialFacts, trial_facts, on_spare_lem}
 
 -- Returns how many reads a read command may still ask for, the awaited one included.
@@ -111,7 +111,7 @@ module _ (t : Table) (l : State) (bs : List ℕ) (k : ℕ) (pos : 1 < k) where
   ends c e s p = finish_cases Falls l c e s p (record { asks = λ q. pos; reports = λ q. omega (arith, pos) })
 
   nexts : (n : ℕ) (c : Change) (b : Block) (s : Seen) → (changed c t bs).nspares ≡ n → spares_left n + 1 < k → {x y : Cause} → NextSpare Falls n l c b s x y
-  nexts n c b s e h = record { spare = λ q. let p = ltb-true n 32 q in omega (arith, p, e, h); no-spare = λ q. ends c _ _ _ }
+  nexts n c b s e h = record { spare = λ q. let p = ltb-true n 32 q in omega (arith, p, e, h); no_spare = λ q. ends c _ _ _ }
 
   module _ (r : Trial) (room : r.spare ≡ true → t.nspares < 32) (low : tries_left t.nspares r + 1 < k) where
     misses : (s : Seen) {x : Cause} → Missed Falls l t r s x
@@ -218,7 +218,7 @@ module _ (d : Drive) (u : List ℕ) (cm : is_command d.state.phase ≡ true) whe
   lowers : (c : Call) → (of_answer (step_of c d u).step.answer).refused ≡ false → cost_of (step_of c d u).step.drive < cost_of d
   unfolding step_of
   lowers =
-      by-surface d u of_command cm (λ c. (of_answer (step_of c d u).step.answer).refused ≡ false → cost_of (step_of c d u).step.drive < cost_of d)
+      by_surface d u of_command cm (λ c. (of_answer (step_of c d u).step.answer).refused ≡ false → cost_of (step_of c d u).step.drive < cost_of d)
       (λ c r z. clash r z) surfaces
 
 -- THE COST IS NEVER EXCEEDED.
@@ -231,7 +231,7 @@ within (c ∷ cs) d u =
   where
     go : (p : Bool) → is_command d.state.phase ≡ p → (q : Bool) → (of_answer (step_of c d u).step.answer).refused ≡ q → accesses (step_of c d u).step.drive (step_of c d u).bytes cs ≤ cost_of (step_of c d u).step.drive
         → cond p (cond q (accesses (step_of c d u).step.drive (step_of c d u).bytes cs) (suc (accesses (step_of c d u).step.drive (step_of c d u).bytes cs))) 0 ≤ cost_of d
-    go true e true r ih = let same = ap cost_of (refused-unchanged d u c r).0 in omega (arith, same, ih)
+    go true e true r ih = let same = ap cost_of (refused_unchanged d u c r).0 in omega (arith, same, ih)
     go true e false r ih = omega (arith, lowers d u e c r, ih)
     go false e q r ih = omega arith
 

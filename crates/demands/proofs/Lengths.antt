@@ -57,9 +57,9 @@ status_long (status.Written x) u h = omega (arith, length-drop 4 u)
 
 -- Each of raise, lower, feed, surface and reset keeps it, refused or not.
 module _ (d : Drive) (u : List ℕ) where
-  called-long : (bs : List ℕ) (x : Turn) → length (called d u bs x).bytes ≡ length u
+  called_long : (bs : List ℕ) (x : Turn) → length (called d u bs x).bytes ≡ length u
   unfolding record_ok part_left status_left
-  called-long bs x =
+  called_long bs x =
       guarded_cases K (record_ok d) (length u) d.state x
       (record {
         damaged = λ k. refl;
@@ -72,10 +72,10 @@ module _ (d : Drive) (u : List ℕ) where
       K : Turn → Type 0
       K y = length (out_of d.table d.causes bs u y).bytes ≡ length u
 
-  pub step-length : (c : Call) → length (step_of c d u).bytes ≡ length u
+  pub step_length : (c : Call) → length (step_of c d u).bytes ≡ length u
   unfolding step_of raise_of lower_of feed_of surface_of reset_of
-  step-length raise = called-long _ _
-  step-length (lower b) = called-long _ _
-  step-length (feed bs) = called-long _ _
-  step-length (surface a bs) = called-long _ _
-  step-length reset = called-long _ _
+  step_length raise = called_long _ _
+  step_length (lower b) = called_long _ _
+  step_length (feed bs) = called_long _ _
+  step_length (surface a bs) = called_long _ _
+  step_length reset = called_long _ _

@@ -59,15 +59,15 @@ use Rattle.drive.specs.Made.{same_sector, Wrote, unwritten, wrote_next, good_wri
 use Rattle.drive.specs.Views.{Bytes, Where, at, of_call, of_answer}
 use Rattle.records.proofs.Ladders.{finish_cases, guarded_cases, fitting_cases, lowered_cases, tried_cases, checked_cases, start_cases, lost_cases, settled_cases, write_cases, verify_cases}
 use Rattle.demands.proofs.Awaited.{of_phase}
-use Rattle.demands.proofs.Statuses.{is_move, good-is, moves-is, data-ended}
-use Rattle.demands.proofs.Sim.{history_of, Blocky, Shake, resting, offer1, heads, offer2, offer3, offer4, takes, offer6, Work, rereads, writing, verifying, trying, checking, Sim, at-start, at_rest, at-work, at_store, entry_of, ev}
+use Rattle.demands.proofs.Statuses.{is_move, good_is, moves_is, data_ended}
+use Rattle.demands.proofs.Sim.{history_of, Blocky, Shake, resting, offer1, heads, offer2, offer3, offer4, takes, offer6, Work, rereads, writing, verifying, trying, checking, Sim, at_start, at_rest, at_work, at_store, entry_of, ev}
 use Rattle.demands.proofs.Books.{same_block}
-use Rattle.demands.proofs.Entries.{no_learn, place_kept, place-moved, places-kept}
+use Rattle.demands.proofs.Entries.{no_learn, place_kept, place_moved, places_kept}
 use Rattle.demands.proofs.Rest.{ruled, loads}
 use Rattle.demands.proofs.Steps.{off_table, not_at_table, step}
 use Rattle.demands.proofs.Restart.{began}
 use Rattle.demands.proofs.Demand3.{sim_begins}
-use Rattle.demands.proofs.ShutOut.{ends_well, unread, Bad, acts-first, Fails, ended as ends, nexts, misses, stops}
+use Rattle.demands.proofs.ShutOut.{ends_well, unread, Bad, acts_first, Fails, ended as ends, nexts, misses, stops}
 
 -- THE INVARIANT
 
@@ -167,41 +167,41 @@ Known phase.Data c u H = Unit {0}
 Known (phase.Awaiting x) c u H = KnownAccess x u H
 
 module _ (pl : Block → Where) (ca : Block → List Bytes) (wr : Bool) (lr : Where) (ln fn : Bool) where
-  shake-known : (to : Bool) {u : Bytes} {p : Phase} {c : Bytes} {n f : ℕ} {a : Answer} {h fd : Bytes} → Shake u p c n f a h fd → Known p c u (history_of pl ca a h fd false to wr lr ln fn)
-  shake-known to (resting e g) = tt
-  shake-known to offer1 = record { resting = refl; number = tt }
-  shake-known to (heads k) = tt
-  shake-known to (offer2 k o) = record { resting = refl; number = k.number }
-  shake-known to (offer3 k o) = record { resting = refl; number = tt }
-  shake-known to (offer4 k o) = record { resting = refl; number = tt }
-  shake-known to (takes k o d) = tt
-  shake-known to (offer6 k o d) = record { resting = refl; number = k.number }
+  shake_known : (to : Bool) {u : Bytes} {p : Phase} {c : Bytes} {n f : ℕ} {a : Answer} {h fd : Bytes} → Shake u p c n f a h fd → Known p c u (history_of pl ca a h fd false to wr lr ln fn)
+  shake_known to (resting e g) = tt
+  shake_known to offer1 = record { resting = refl; number = tt }
+  shake_known to (heads k) = tt
+  shake_known to (offer2 k o) = record { resting = refl; number = k.number }
+  shake_known to (offer3 k o) = record { resting = refl; number = tt }
+  shake_known to (offer4 k o) = record { resting = refl; number = tt }
+  shake_known to (takes k o d) = tt
+  shake_known to (offer6 k o d) = record { resting = refl; number = k.number }
 
-  work-known : (h fd : Bytes) {t : Table} {σ : Sectors} {mv : Bool} {b : Block} {rd : Bool} {u : Bytes} {x : Access} {a : Answer} → Blocky b → number_of h ≡ b.0 → is_read (kind_of h) ≡ rd
+  work_known : (h fd : Bytes) {t : Table} {σ : Sectors} {mv : Bool} {b : Block} {rd : Bool} {u : Bytes} {x : Access} {a : Answer} → Blocky b → number_of h ≡ b.0 → is_read (kind_of h) ≡ rd
       → Work t σ pl ca mv b rd u (padded fd) x a wr lr → KnownAccess x u (history_of pl ca a h fd true true wr lr ln fn)
-  work-known h fd i num isr (rereads eb er es op g k) = isr ∙ op
-  work-known h fd {b = b} i num isr (writing wt eb er es op ed k) =
-      record { asked = ap answer.Write (sym er); place = ap pl (same_block (block_of (order_of h)) b num) ∙ (k.where-is b i ∙ ap at (sym (er ∙ es))); bytes = ed }
-  work-known h fd {t} {b = b} i num isr (verifying {w = w} wt el eb er es op ed so k) =
+  work_known h fd i num isr (rereads eb er es op g k) = isr ∙ op
+  work_known h fd {b = b} i num isr (writing wt eb er es op ed k) =
+      record { asked = ap answer.Write (sym er); place = ap pl (same_block (block_of (order_of h)) b num) ∙ (k.where_is b i ∙ ap at (sym (er ∙ es))); bytes = ed }
+  work_known h fd {t} {b = b} i num isr (verifying {w = w} wt el eb er es op ed so k) =
       record {
         asked = ap answer.Read (sym er);
         sector = off_table w.sector (λ y. not_table (spare_list t) b k.short (sym (er ∙ es) ∙ y));
-        place = ap pl (same_block (block_of (order_of h)) b num) ∙ (k.where-is b i ∙ ap at (sym (er ∙ es)));
+        place = ap pl (same_block (block_of (order_of h)) b num) ∙ (k.where_is b i ∙ ap at (sym (er ∙ es)));
       }
-  work-known h fd i num isr (trying wt eb er st bd k) = record { asked = ap answer.Write (sym er); bytes = λ z. bd.as-write (sym isr ∙ z) }
-  work-known h fd {t} {b = b} i num isr (checking {r = r} wt el eb er st bd so k) =
+  work_known h fd i num isr (trying wt eb er st bd k) = record { asked = ap answer.Write (sym er); bytes = λ z. bd.as_write (sym isr ∙ z) }
+  work_known h fd {t} {b = b} i num isr (checking {r = r} wt el eb er st bd so k) =
       record {
         asked = ap answer.Read (sym er);
         sector = not_at_table t b r k.short st;
         read = el ∙ ap at (sym er);
-        place = λ z. ap pl (same_block (block_of (order_of h)) b num) ∙ (k.where-is b i ∙ ap at (sym (st.present z)));
-        bytes = λ z. bd.as-write (sym isr ∙ z);
+        place = λ z. ap pl (same_block (block_of (order_of h)) b num) ∙ (k.where_is b i ∙ ap at (sym (st.present z)));
+        bytes = λ z. bd.as_write (sym isr ∙ z);
       }
 
 sim_known : {start : Sectors} {w : World} {H : History} → Sim start w H → Known w.drive.state.phase w.drive.state.command w.buffer H
-sim_known (at-start l k e h) = tt
-sim_known (at_rest {pl = pl} {ca = ca} {to = to} {wr = wr} {lr = lr} {ln = ln} {fn = fn} l so g m) = shake-known pl ca wr lr ln fn to m
-sim_known (at-work {pl = pl} {ca = ca} {h = h} {fd = fd} {wr = wr} {lr = lr} {ln = ln} {fn = fn} l k so el ef i num isr m) = work-known pl ca wr lr ln fn h fd i num isr m
+sim_known (at_start l k e h) = tt
+sim_known (at_rest {pl = pl} {ca = ca} {to = to} {wr = wr} {lr = lr} {ln = ln} {fn = fn} l so g m) = shake_known pl ca wr lr ln fn to m
+sim_known (at_work {pl = pl} {ca = ca} {h = h} {fd = fd} {wr = wr} {lr = lr} {ln = ln} {fn = fn} l k so el ef i num isr m) = work_known pl ca wr lr ln fn h fd i num isr m
 sim_known (at_store l k so el ef i num isr ok pa cl) = refl
 
 -- WHAT A REPORT OF A GOOD WRITE SAYS
@@ -256,20 +256,20 @@ module _ (start : Sectors) (H : History) (wrote : Wrote) (c : Call) (sp : Bool) 
   unfinished : (x : Turn) → (of_answer x.answer).finished ≡ false → unread x.state.phase ≡ true → P x
   unfinished x f q = record { written = λ h. clash (report H (entry c sp t bs u x) h).finished f; ready = still_ready x.state.phase _ _ q }
 
-  ends-well : (x : Turn) → (of_answer x.answer).finished ≡ true → good (entry c sp t bs u x) ≡ true → ends_well (out_of t [] bs u x) ≡ true
+  ends_well_lem : (x : Turn) → (of_answer x.answer).finished ≡ true → good (entry c sp t bs u x) ≡ true → ends_well (out_of t [] bs u x) ≡ true
   unfolding good
-  ends-well x f g = rw f g
+  ends_well_lem x f g = rw f g
 
   unfine : (x : Turn) → (is_block (order H).number ≡ true → Bad t [] bs u x) → unread x.state.phase ≡ true → P x
   unfolding good
   unfine x f q =
       record {
-        written = λ h. let r = report H (entry c sp t bs u x) h in absurd (f r.block (ends-well x r.finished r.good));
+        written = λ h. let r = report H (entry c sp t bs u x) h in absurd (f r.block (ends_well_lem x r.finished r.good));
         ready = still_ready x.state.phase _ _ q;
       }
 
-  of-a-read : (x : Turn) → is_read (order H).kind ≡ true → Ready x.state.phase (next start H (entry c sp t bs u x)) (wrote_next H wrote (entry c sp t bs u x)) → P x
-  of-a-read x e q = record { written = λ h. clash e (report H (entry c sp t bs u x) h).write; ready = q }
+  of_a_read : (x : Turn) → is_read (order H).kind ≡ true → Ready x.state.phase (next start H (entry c sp t bs u x)) (wrote_next H wrote (entry c sp t bs u x)) → P x
+  of_a_read x e q = record { written = λ h. clash e (report H (entry c sp t bs u x) h).write; ready = q }
 
   module _ (l : State) (k : Ready l.phase H wrote) where
     raises : (p : Phase) → P (raised p l)
@@ -297,18 +297,18 @@ module _ (start : Sectors) (H : History) (wrote : Wrote) (c : Call) (sp : Bool) 
     rests (phase.Awaiting x) = refuses l _ k
 
     -- Acting on a command asks for a first access, or ends it.
-    acts-owes : (order H).number ≡ number_of l.command → P (acted (order_of l.command) l t)
-    acts-owes n =
-        let z = acts-first t [] bs u (order_of l.command) l in
+    acts_owes : (order H).number ≡ number_of l.command → P (acted (order_of l.command) l t)
+    acts_owes n =
+        let z = acts_first t [] bs u (order_of l.command) l in
         unfine _ (λ i. z.0 (ap is_block (sym n) ∙ i)) z.1
 
     goes : (o : Offer) → KnownOffer o l.command H → P (goes_on o l t)
     unfolding goes_on
     goes offer.Command n = unfinished _ refl refl
-    goes offer.Read n = acts-owes n
+    goes offer.Read n = acts_owes n
     goes offer.Write n = unfinished _ refl refl
     goes offer.Verify n = unfinished _ refl refl
-    goes offer.Act n = acts-owes n
+    goes offer.Act n = acts_owes n
 
     -- Another byte reports nothing.
     breaks : (of_call c).goes ≡ false → H.acting ≡ false → P (broken_off l)
@@ -331,8 +331,8 @@ module _ (start : Sectors) (H : History) (wrote : Wrote) (a : ℕ) (bs : Bytes) 
   abbrev at_entry : Turn → Entry
   at_entry x = entry (surface a bs) sp t bs u x
 
-  abbrev next-wrote : Turn → Wrote
-  next-wrote x = wrote_next H wrote (at_entry x)
+  abbrev next_wrote : Turn → Wrote
+  next_wrote x = wrote_next H wrote (at_entry x)
 
   -- Says whether a verify or a reread brought the data part.
   abbrev equal : Bool
@@ -351,26 +351,26 @@ module _ (start : Sectors) (H : History) (wrote : Wrote) (a : ℕ) (bs : Bytes) 
       (record { table = λ e. goes_on_lem _ refl refl; stops = λ e f. goes_on_lem _ refl refl; again = λ e f. goes_on_lem _ refl refl; gives_up = λ e f. goes_on_lem _ refl refl })
 
   -- A read owes nothing more: it is no write.
-  reads-owe : (x : Outcome) (p : Part) → is_read (order H).kind ≡ true → S (reads x l t p)
+  reads_owe : (x : Outcome) (p : Part) → is_read (order H).kind ≡ true → S (reads x l t p)
   unfolding reads next heard
-  reads-owe x p e = go x
+  reads_owe x p e = go x
     where
-      owes-none : (y : Turn) → Ready y.state.phase (next start H (at_entry y)) (next-wrote y) → S y
-      owes-none y q = of-a-read start H wrote (surface a bs) sp t bs u y e q
+      owes_none : (y : Turn) → Ready y.state.phase (next start H (at_entry y)) (next_wrote y) → S y
+      owes_none y q = of_a_read start H wrote (surface a bs) sp t bs u y e q
 
       ended : (c : Change) (n : Ending) (s : Seen) → S (finish l c n s p)
-      ended c n s = finish_cases S l c n s p (record { asks = λ q. owes-none _ (λ f i. clash e i); reports = λ q. owes-none _ tt })
+      ended c n s = finish_cases S l c n s p (record { asks = λ q. owes_none _ (λ f i. clash e i); reports = λ q. owes_none _ tt })
 
       go : (x : Outcome) → S (reads x l t p)
       go (outcome.Done r) = ended _ _ _
-      go (outcome.Again r) = owes-none _ tt
-      go (outcome.Settle r) = settled_cases S l r p (record { below = λ z. ended _ _ _; latched = λ z y. ended _ _ _; tries = λ z y. owes-none _ (refl, refl) })
+      go (outcome.Again r) = owes_none _ tt
+      go (outcome.Settle r) = settled_cases S l r p (record { below = λ z. ended _ _ _; latched = λ z y. ended _ _ _; tries = λ z y. owes_none _ (refl, refl) })
       go (outcome.Lost r) = lost_cases S l t r p (record { listed = λ z. ended _ _ _; entered = λ z y. ended _ _ _; full = λ z y. ended _ _ _ })
       go (outcome.Stop r) = ended _ _ _
 
   -- THE LAST WRITE: answer 0 to a write s of the command's bytes is one,
   landed : (s : Sector) (x : Turn) → (of_answer x.answer).refused ≡ false → eqb a 0 ≡ true → H.last ≡ answer.Write s → data_of (at_entry x).buffer ≡ padded H.fed
-      → next-wrote x ≡ record { went = at s; same = 0 }
+      → next_wrote x ≡ record { went = at s; same = 0 }
   unfolding wrote_next acts
   landed s x f e w d = rw (f, e, w, d, same_refl (padded H.fed))
 
@@ -381,12 +381,12 @@ module _ (start : Sectors) (H : History) (wrote : Wrote) (a : ℕ) (bs : Bytes) 
   abbrev reread : Bool → Bool → Wrote
   reread p q = cond p (cond q (record { went = wrote.went; same = suc wrote.same }) wrote) wrote
 
-  after_read_lem : (s : Sector) (x : Turn) → (of_answer x.answer).refused ≡ false → H.last ≡ answer.Read s → next-wrote x ≡ reread (eqb a 0) (same_bytes s)
+  after_read_lem : (s : Sector) (x : Turn) → (of_answer x.answer).refused ≡ false → H.last ≡ answer.Read s → next_wrote x ≡ reread (eqb a 0) (same_bytes s)
   unfolding wrote_next acts
   after_read_lem s x f w = rw (f, w)
 
-  stays-there : (s : Sector) (x : Turn) → (of_answer x.answer).refused ≡ false → H.last ≡ answer.Read s → (next-wrote x).went ≡ wrote.went
-  stays-there s x f w = ap (λ (z : Wrote). z.went) (after_read_lem s x f w) ∙ either (eqb a 0) (same_bytes s)
+  stays_there : (s : Sector) (x : Turn) → (of_answer x.answer).refused ≡ false → H.last ≡ answer.Read s → (next_wrote x).went ≡ wrote.went
+  stays_there s x f w = ap (λ (z : Wrote). z.went) (after_read_lem s x f w) ∙ either (eqb a 0) (same_bytes s)
     where
       either : (p q : Bool) → (reread p q).went ≡ wrote.went
       either true true = refl
@@ -394,9 +394,9 @@ module _ (start : Sectors) (H : History) (wrote : Wrote) (a : ℕ) (bs : Bytes) 
       either false q = refl
 
   -- and one with the command's bytes counts as a reread of it.
-  counts-there : (s : Sector) (x : Turn) → (of_answer x.answer).refused ≡ false → H.last ≡ answer.Read s → wrote.went ≡ at s → data_of u ≡ padded H.fed
-      → (next-wrote x).same ≡ wrote.same + cond equal 1 0
-  counts-there s x f w e d =
+  counts_there : (s : Sector) (x : Turn) → (of_answer x.answer).refused ≡ false → H.last ≡ answer.Read s → wrote.went ≡ at s → data_of u ≡ padded H.fed
+      → (next_wrote x).same ≡ wrote.same + cond equal 1 0
+  counts_there s x f w e d =
       let tested : same_bytes s ≡ same bs (data_of u) = rw (e, eq-eqb s.0 s.0 refl, d) in
       ap (λ (z : Wrote). z.same) (after_read_lem s x f w) ∙ (ap (λ (q : Bool). (reread (eqb a 0) q).same) tested ∙ either (eqb a 0) (same bs (data_of u)))
     where
@@ -406,7 +406,7 @@ module _ (start : Sectors) (H : History) (wrote : Wrote) (a : ℕ) (bs : Bytes) 
       either false q = omega arith
 
   -- A store's answer leaves it too.
-  after_store : (x : Turn) → (of_answer x.answer).refused ≡ false → H.last ≡ answer.Store → next-wrote x ≡ wrote
+  after_store : (x : Turn) → (of_answer x.answer).refused ≡ false → H.last ≡ answer.Store → next_wrote x ≡ wrote
   unfolding wrote_next acts
   after_store x f w = rw (f, w) (branch (λ (z : Wrote). z ≡ wrote) (eqb a 0) (λ e. refl) (λ e. refl))
 
@@ -414,14 +414,14 @@ module _ (start : Sectors) (H : History) (wrote : Wrote) (a : ℕ) (bs : Bytes) 
   abbrev told : Marks → Change → Ending → Seen → Bool → Bool → Turn
   told m ch e s v w = tells l m ch e s v w part.Kept
 
-  moves-told : (m : Marks) (ch : Change) (e : Ending) (s : Seen) (v w : Bool) → moves (at_entry (told m ch e s v w)) ≡ is_move e
+  moves_told : (m : Marks) (ch : Change) (e : Ending) (s : Seen) (v w : Bool) → moves (at_entry (told m ch e s v w)) ≡ is_move e
   unfolding part_left status_left
-  moves-told m ch e s v w = moves-is (surface a bs) answer.Finished e s v w m.fresh u
+  moves_told m ch e s v w = moves_is (surface a bs) answer.Finished e s v w m.fresh u
 
-  place-told : (m : Marks) (ch : Change) (e : Ending) (s : Seen) (v w : Bool) → is_table_sector (of_answer H.last).read ≡ false → reports H (at_entry (told m ch e s v w)) ≡ true
+  place_told : (m : Marks) (ch : Change) (e : Ending) (s : Seen) (v w : Bool) → is_table_sector (of_answer H.last).read ≡ false → reports H (at_entry (told m ch e s v w)) ≡ true
       → (next start H (at_entry (told m ch e s v w))).place (block_of (order H)) ≡ place_then (is_move e) H
   unfolding next heard
-  place-told m ch e s v w n r = go (is_move e) refl
+  place_told m ch e s v w n r = go (is_move e) refl
     where
       o : Entry
       o = at_entry (told m ch e s v w)
@@ -430,21 +430,21 @@ module _ (start : Sectors) (H : History) (wrote : Wrote) (a : ℕ) (bs : Bytes) 
       b = block_of (order H)
 
       go : (q : Bool) → is_move e ≡ q → (next start H (at_entry (told m ch e s v w))).place (block_of (order H)) ≡ place_then q H
-      go true q = ap (λ (f : Block → Where). f b) (place-moved H o (no_learn H o n) (and_true (reports H o) (moves o) r (moves-told m ch e s v w ∙ q))) ∙ rw (eq-eqb b.0 b.0 refl)
-      go false q = ap (λ (f : Block → Where). f b) (place_kept H o (no_learn H o n) (and_false (reports H o) (moves o) (moves-told m ch e s v w ∙ q)))
+      go true q = ap (λ (f : Block → Where). f b) (place_moved H o (no_learn H o n) (and_true (reports H o) (moves o) r (moves_told m ch e s v w ∙ q))) ∙ rw (eq-eqb b.0 b.0 refl)
+      go false q = ap (λ (f : Block → Where). f b) (place_kept H o (no_learn H o n) (and_false (reports H o) (moves o) (moves_told m ch e s v w ∙ q)))
 
   -- Asking for the store leaves it to be there.
-  place-asked : (m : Marks) (ch : Change) (e : Ending) (s : Seen) (q : Bool) → is_table_sector (of_answer H.last).read ≡ false
+  place_asked : (m : Marks) (ch : Change) (e : Ending) (s : Seen) (q : Bool) → is_table_sector (of_answer H.last).read ≡ false
       → place_then q (next start H (at_entry (asks_store l m ch e s part.Kept))) ≡ place_then q H
   unfolding next heard acts reports
-  place-asked m ch e s true n = refl
-  place-asked m ch e s false n =
+  place_asked m ch e s true n = refl
+  place_asked m ch e s false n =
       let o = at_entry (asks_store l m ch e s part.Kept) in
-      ap (λ (f : Block → Where). f (block_of (order H))) (places-kept H o (no_learn H o n) (rw (and_false (underway H o) false refl)))
+      ap (λ (f : Block → Where). f (block_of (order H))) (places_kept H o (no_learn H o n) (rw (and_false (underway H o) false refl)))
 
   -- Says that a command's write is at the sector s, whatever turn is taken that leaves the data part.
   abbrev Went : Sector → ℕ → Type 0
-  Went s n = (x : Turn) → (of_answer x.answer).refused ≡ false → data_of (at_entry x).buffer ≡ data_of u → is_read (order H).kind ≡ false → ((next-wrote x).went ≡ at s) × (n ≤ (next-wrote x).same)
+  Went s n = (x : Turn) → (of_answer x.answer).refused ≡ false → data_of (at_entry x).buffer ≡ data_of u → is_read (order H).kind ≡ false → ((next_wrote x).went ≡ at s) × (n ≤ (next_wrote x).same)
 
   -- A command that ends well owes that its write went where its block then is: at its finish, or while its store is awaited.
   settles : (s : Sector) (n : ℕ) (ch : Change) (e : Ending) (x : Seen) → is_table_sector (of_answer H.last).read ≡ false → place_then (is_move e) H ≡ at s → (is_move e ≡ true → 70 ≤ n) → Went s n → S (finish l ch e x part.Kept)
@@ -454,13 +454,13 @@ module _ (start : Sectors) (H : History) (wrote : Wrote) (a : ℕ) (bs : Bytes) 
       (record {
         asks = λ q. record {
           written = λ h. clash (report H (at_entry first) h).finished refl;
-          ready = λ f i. let z = w first refl refl i in record { sector = s; there = z.0; place = place-asked m₁ ch e x (is_move e) off ∙ p; reread = λ m. let y = many m in omega (arith, y, z.1) };
+          ready = λ f i. let z = w first refl refl i in record { sector = s; there = z.0; place = place_asked m₁ ch e x (is_move e) off ∙ p; reread = λ m. let y = many m in omega (arith, y, z.1) };
         };
         reports = λ q. record {
           written = λ h.
               let y = report H (at_entry last) h in
-              let z = w last refl (data-ended (surface a bs) answer.Finished e x (wants_store m₁) false m₁.fresh u) y.write in
-              record { sector = s; written = z.0; place = place-told m₁ ch e x (wants_store m₁) false off y.reported ∙ p; reread = λ m. let y' = many (sym (moves-told m₁ ch e x (wants_store m₁) false) ∙ m) in omega (arith, y', z.1) };
+              let z = w last refl (data_ended (surface a bs) answer.Finished e x (wants_store m₁) false m₁.fresh u) y.write in
+              record { sector = s; written = z.0; place = place_told m₁ ch e x (wants_store m₁) false off y.reported ∙ p; reread = λ m. let y' = many (sym (moves_told m₁ ch e x (wants_store m₁) false) ∙ m) in omega (arith, y', z.1) };
           ready = tt;
         };
       })
@@ -486,7 +486,7 @@ module _ (start : Sectors) (H : History) (wrote : Wrote) (a : ℕ) (bs : Bytes) 
       x = told m₁ change.Keep k.ending (met a k.seen) (is_undone a) (eqb a 3)
 
       sound : good (at_entry x) ≡ true → fails k.ending ≡ false
-      sound g = both (fails k.ending) (is_undone a) (sym (good-is (surface a bs) answer.Finished k.ending (met a k.seen) (is_undone a) (eqb a 3) m₁.fresh u) ∙ g)
+      sound g = both (fails k.ending) (is_undone a) (sym (good_is (surface a bs) answer.Finished k.ending (met a k.seen) (is_undone a) (eqb a 3) m₁.fresh u) ∙ g)
         where
           both : (p q : Bool) → not (p || q) ≡ true → p ≡ false
           both true q z = clash z refl
@@ -500,8 +500,8 @@ module _ (start : Sectors) (H : History) (wrote : Wrote) (a : ℕ) (bs : Bytes) 
           record {
             sector = z.sector;
             written = ap (λ (v : Wrote). v.went) e ∙ z.there;
-            place = place-told m₁ change.Keep k.ending (met a k.seen) (is_undone a) (eqb a 3) off y.reported ∙ z.place;
-            reread = λ m. let n = z.reread (sym (moves-told m₁ change.Keep k.ending (met a k.seen) (is_undone a) (eqb a 3)) ∙ m) in let c = ap (λ (v : Wrote). v.same) e in omega arith;
+            place = place_told m₁ change.Keep k.ending (met a k.seen) (is_undone a) (eqb a 3) off y.reported ∙ z.place;
+            reread = λ m. let n = z.reread (sym (moves_told m₁ change.Keep k.ending (met a k.seen) (is_undone a) (eqb a 3)) ∙ m) in let c = ap (λ (v : Wrote). v.same) e in omega arith;
           }
 
   -- A plain write pays by its one write, and a write/verify
@@ -521,13 +521,13 @@ module _ (start : Sectors) (H : History) (wrote : Wrote) (a : ℕ) (bs : Bytes) 
       back = say (in_phase l (phase.Awaiting (access.Verify x))) (answer.Read x.sector)
 
   -- by what its verify leaves where it went;
-  verifies-owe : (x : Target) → Verifying x H → wrote.went ≡ at x.sector → (q : Bool) → S (verify_answered l x a q)
-  verifies-owe x n there q =
+  verifies_owe : (x : Target) → Verifying x H → wrote.went ≡ at x.sector → (q : Bool) → S (verify_answered l x a q)
+  verifies_owe x n there q =
       verify_cases S l x a q
       (record {
         stops = λ e. ends t [] bs u S failing l change.Keep _ _ refl;
         done = λ e f. settles x.sector 0 change.Keep ending.Good clean (ap (λ (y : Answer). is_table_sector (of_answer y).read) n.asked ∙ n.sector) n.place (λ m. clash m refl)
-            (λ y q d i. (stays-there x.sector y q n.asked ∙ there, omega arith));
+            (λ y q d i. (stays_there x.sector y q n.asked ∙ there, omega arith));
         fails = λ e f. goes_on_lem _ refl refl;
       })
 
@@ -545,7 +545,7 @@ module _ (start : Sectors) (H : History) (wrote : Wrote) (a : ℕ) (bs : Bytes) 
       back : Turn
       back = say (in_phase l (phase.Awaiting (access.TrialRead r))) (answer.Read r.sector)
 
-      first : eqb a 0 ≡ true → is_read (order H).kind ≡ false → Confirmed r (next-wrote back)
+      first : eqb a 0 ≡ true → is_read (order H).kind ≡ false → Confirmed r (next_wrote back)
       first e i =
           let w = landed r.sector back refl e n.asked (n.bytes i) in
           record { there = ap (λ (x : Wrote). x.went) w; count = let c = ap (λ (x : Wrote). x.same) w in omega arith }
@@ -562,12 +562,12 @@ module _ (start : Sectors) (H : History) (wrote : Wrote) (a : ℕ) (bs : Bytes) 
     one true = refl
     one false = refl
 
-    confirmed : is_read (order H).kind ≡ false → (x : Turn) → (of_answer x.answer).refused ≡ false → Confirmed r' (next-wrote x)
+    confirmed : is_read (order H).kind ≡ false → (x : Turn) → (of_answer x.answer).refused ≡ false → Confirmed r' (next_wrote x)
     confirmed i x f =
         let c = k i in
         record {
-          there = stays-there r.sector x f n.asked ∙ c.there;
-          count = omega (arith, counts-there r.sector x f n.asked c.there (n.bytes i), one equal, c.count);
+          there = stays_there r.sector x f n.asked ∙ c.there;
+          count = omega (arith, counts_there r.sector x f n.asked c.there (n.bytes i), one equal, c.count);
         }
 
     again : S (say (in_phase l (phase.Awaiting (access.TrialRead r'))) (answer.Read r.sector))
@@ -602,9 +602,9 @@ module _ (start : Sectors) (H : History) (wrote : Wrote) (a : ℕ) (bs : Bytes) 
   unfolding follows
   follow (access.Start j) q n = starts j
   follow (access.Store k) q n = stores k n q
-  follow (access.Read r) q n = reads-owe (after_read r a) _ n
+  follow (access.Read r) q n = reads_owe (after_read r a) _ n
   follow (access.Write x) q n = writes x n
-  follow (access.Verify x) q n = verifies-owe x n q _
+  follow (access.Verify x) q n = verifies_owe x n q _
   follow (access.TrialWrite r) q n = tries r n q.0 q.1
   follow (access.TrialRead r) q n = checks r n q
 
@@ -668,12 +668,12 @@ all wrote m k [] ok = tt
 all {start} {w} {H} wrote m k (call e ∷ ms) ok =
     let r = owes start H wrote e.spoils w k (sim_known m) e.call in
     (r.0, all {w = after w (call e) (made w (call e))} _ (step m e.call e.spoils ok.0).1 r.1 ms ok.1)
-all {start} {w} {H} wrote m k (power d v x ∷ ms) ok = 
+all {start} {w} {H} wrote m k (power d v x ∷ ms) ok =
     all {w = after w (power d v x) (made w (power d v x))} wrote (began m d v x) (restarted w H wrote k d v x) ms ok.1
 
 pub writes_made : WritesMade
 unfolding start_of
-writes_made given lent h sectors ms ok = all unwritten (sim_begins given lent h sectors) (first-ready given lent h) ms ok
+writes_made given lent h sectors ms ok = all unwritten (sim_begins given lent h sectors) (first_ready given lent h) ms ok
   where
-    first-ready : (d : Drive) (v : Bytes) → length v ≡ 536 → Ready (start_of d v).step.drive.state.phase blank unwritten
-    first-ready d v h = rw (eq-eqb (length v) 536 h) tt
+    first_ready : (d : Drive) (v : Bytes) → length v ≡ 536 → Ready (start_of d v).step.drive.state.phase blank unwritten
+    first_ready d v h = rw (eq-eqb (length v) 536 h) tt

@@ -27,11 +27,11 @@ use Rattle.drive.specs.Bound.{of_command, is_command, accesses, most}
 use Rattle.drive.specs.Over.{Reply, replied, suits, of_start, of_store, Task, command, start, store, Ends, GoesOn, Completes, AllSuit, SuitsExactly, OverByFinished, Demand1Over, StartOver, StoreOver}
 use Rattle.drive.specs.Views.{of_answer}
 use Rattle.records.proofs.Ladders.{fitting_cases, start_cases}
-use Rattle.records.proofs.Shapes.{follows-shape}
-use Rattle.demands.proofs.Awaited.{awaited, followed, accepted, by-surface}
-use Rattle.demands.proofs.Refusals.{refused-unchanged}
+use Rattle.records.proofs.Shapes.{follows_shape}
+use Rattle.demands.proofs.Awaited.{awaited, followed, accepted, by_surface}
+use Rattle.demands.proofs.Refusals.{refused_unchanged}
 use Rattle.demands.proofs.Valid.{Fine, fine_of, fine_ok, surface_fine, started_fine}
-use Rattle.demands.proofs.Lengths.{step-length}
+use Rattle.demands.proofs.Lengths.{step_length}
 use Rattle.demands.proofs.Demand1.{demand_1}
 use Rattle.demands.proofs.Status4.{Owes, step_counts}
 
@@ -44,25 +44,25 @@ NextRead k x =
     ⊎ ((k < 10) × (x.answer ≡ answer.Read table_sector) × (x.state.phase ≡ phase.Awaiting (access.Start (k + 1))))
 
 module _ (l : State) (t : Table) (a : ℕ) (bs : List ℕ) (equal : Bool) where
-  start-next : (k : ℕ) → NextRead k (start_answered k l a bs)
-  start-next k =
+  start_next : (k : ℕ) → NextRead k (start_answered k l a bs)
+  start_next k =
       start_cases (NextRead k) k l a bs
       (record { table = λ e. inl (refl, refl); stops = λ e f. inl (refl, refl); again = λ e f. inr (ltb-true k 10 f, refl, refl); gives_up = λ e f. inl (refl, refl) })
 
-  store-next : (x : Access) (cs u : List ℕ) → of_store x ≡ true → Ends store (out_of t cs bs u (follows x l t a bs equal))
+  store_next : (x : Access) (cs u : List ℕ) → of_store x ≡ true → Ends store (out_of t cs bs u (follows x l t a bs equal))
   unfolding follows store_answered
-  store-next (access.Start k) cs u c = clash c refl
-  store-next (access.Store k) cs u c = record { answer = refl; phase = refl }
-  store-next (access.Read r) cs u c = clash c refl
-  store-next (access.Write w) cs u c = clash c refl
-  store-next (access.Verify w) cs u c = clash c refl
-  store-next (access.TrialWrite r) cs u c = clash c refl
-  store-next (access.TrialRead r) cs u c = clash c refl
+  store_next (access.Start k) cs u c = clash c refl
+  store_next (access.Store k) cs u c = record { answer = refl; phase = refl }
+  store_next (access.Read r) cs u c = clash c refl
+  store_next (access.Write w) cs u c = clash c refl
+  store_next (access.Verify w) cs u c = clash c refl
+  store_next (access.TrialWrite r) cs u c = clash c refl
+  store_next (access.TrialRead r) cs u c = clash c refl
 
   -- No access is followed by a refusal.
-  not-refused : (x : Access) → (of_answer (follows x l t a bs equal).answer).refused ≡ false
-  not-refused x =
-      follows-shape (λ (y : Turn). (of_answer y.answer).refused ≡ false) l (record { reports = λ m c e s v w p k. refl; asks = λ m c e s p k. refl; tries = λ c r p k. refl; says = λ k b p n w. n }) t x a bs equal (λ e. refl)
+  not_refused : (x : Access) → (of_answer (follows x l t a bs equal).answer).refused ≡ false
+  not_refused x =
+      follows_shape (λ (y : Turn). (of_answer y.answer).refused ≡ false) l (record { reports = λ m c e s v w p k. refl; asks = λ m c e s p k. refl; tries = λ c r p k. refl; says = λ k b p n w. n }) t x a bs equal (λ e. refl)
 
 -- THE CODES 4 AND 5 refuse exactly what does not suit.
 exactly : (x : Turn) (l : State) (read : Bool) (a n : ℕ) → (of_answer x.answer).refused ≡ false
@@ -77,7 +77,7 @@ answered_exactly phase.Idle l t x equal = refl
 answered_exactly (phase.Offered o) l t x equal = refl
 answered_exactly phase.Command l t x equal = refl
 answered_exactly phase.Data l t x equal = refl
-answered_exactly (phase.Awaiting y) l t x equal = exactly _ l (asks_read y) x.number (length x.bytes) (not-refused l t x.number x.bytes equal y)
+answered_exactly (phase.Awaiting y) l t x equal = exactly _ l (asks_read y) x.number (length x.bytes) (not_refused l t x.number x.bytes equal y)
 
 pub suits_exactly : SuitsExactly
 unfolding surface_of
@@ -112,27 +112,27 @@ not_finished answer.Finished e = clash e refl
 not_finished (answer.Refused r) e = refl
 
 module _ (d : Drive) (u : List ℕ) (c : is_command d.state.phase ≡ true) where
-  if-refused : (x : Call) → (of_answer (step_of x d u).step.answer).refused ≡ true → ByFinished (step_of x d u)
-  if-refused x e =
-      ap (λ (y : Drive). is_command y.state.phase) (refused-unchanged d u x e).0 ∙ (c ∙ sym (ap not (not_finished (step_of x d u).step.answer e)))
+  if_refused : (x : Call) → (of_answer (step_of x d u).step.answer).refused ≡ true → ByFinished (step_of x d u)
+  if_refused x e =
+      ap (λ (y : Drive). is_command y.state.phase) (refused_unchanged d u x e).0 ∙ (c ∙ sym (ap not (not_finished (step_of x d u).step.answer e)))
 
-  if-accepted : (x : Reply) → (of_answer (replied d u x).step.answer).refused ≡ false → ByFinished (replied d u x)
-  if-accepted x e = go (command_step d u x c e)
+  if_accepted : (x : Reply) → (of_answer (replied d u x).step.answer).refused ≡ false → ByFinished (replied d u x)
+  if_accepted x e = go (command_step d u x c e)
     where
       go : Steps (replied d u x) → ByFinished (replied d u x)
       go (inl z) = rw (z.answer, z.phase)
       go (inr z) = z.0.awaited ∙ sym (ap not z.1)
 
-  by-reply : (a : ℕ) (bs : List ℕ) → ByFinished (step_of (surface a bs) d u)
+  by_reply : (a : ℕ) (bs : List ℕ) → ByFinished (step_of (surface a bs) d u)
   unfolding step_of
-  by-reply a bs = go (of_answer (surface_of d u a bs).step.answer).refused refl
+  by_reply a bs = go (of_answer (surface_of d u a bs).step.answer).refused refl
     where
       go : (q : Bool) → (of_answer (surface_of d u a bs).step.answer).refused ≡ q → ByFinished (surface_of d u a bs)
-      go true e = if-refused (surface a bs) e
-      go false e = if-accepted (record { number = a; bytes = bs }) e
+      go true e = if_refused (surface a bs) e
+      go false e = if_accepted (record { number = a; bytes = bs }) e
 
 pub over_by_finished : OverByFinished
-over_by_finished x d u c = by-surface d u of_command c (λ y. ByFinished (step_of y d u)) (if-refused d u c) (by-reply d u c) x
+over_by_finished x d u c = by_surface d u of_command c (λ y. ByFinished (step_of y d u)) (if_refused d u c) (by_reply d u c) x
 
 -- The next record is fine again, and the next buffer as long.
 reply_fine : (d : Drive) (u : List ℕ) (x : Reply) → Fine d.table d.causes d.state → Fine (replied d u x).step.drive.table (replied d u x).step.drive.causes (replied d u x).step.drive.state
@@ -140,7 +140,7 @@ reply_fine d u x f = surface_fine d u x.number x.bytes f
 
 reply_long : (d : Drive) (u : List ℕ) (x : Reply) → length u ≡ 536 → length (replied d u x).bytes ≡ 536
 unfolding step_of
-reply_long d u x h = step-length d u (surface x.number x.bytes) ∙ h
+reply_long d u x h = step_length d u (surface x.number x.bytes) ∙ h
 
 -- One answer that leaves the task under way, and then those that complete it, complete it.
 goes_then : (k : Task) (d : Drive) (u : List ℕ) (x : Reply) (ys : List Reply) → GoesOn k (replied d u x) → Completes k (replied d u x).step.drive (replied d u x).bytes ys → Completes k d u (x ∷ ys)
@@ -216,7 +216,7 @@ start_step : (d : Drive) (u : List ℕ) (x : Reply) (k : ℕ) → d.state.phase 
 unfolding follows
 start_step d u x k e r =
     let w = accepted d u x.number x.bytes r in
-    subst (StepsTo k) (sym w.gives) (subst (λ (y : Access). Then y) (same_access (sym e ∙ w.phase)) (go (start-next d.state d.table x.number x.bytes true k)))
+    subst (StepsTo k) (sym w.gives) (subst (λ (y : Access). Then y) (same_access (sym e ∙ w.phase)) (go (start_next d.state d.table x.number x.bytes true k)))
   where
     Then : Access → Type 0
     Then y = StepsTo k (out_of d.table d.causes x.bytes u (followed y d u x.number x.bytes))
@@ -252,4 +252,4 @@ pub store_over : StoreOver
 store_over d u k h c [] le s = absurd (omega arith)
 store_over d u k h c (x ∷ xs) le s =
     let w = accepted d u x.number x.bytes (suited d u x k h (s.0 c)) in
-    (1, omega arith, subst (Ends store) (sym w.gives) (store-next d.state d.table x.number x.bytes _ w.access d.causes u (sym (ap (awaits of_store) w.phase) ∙ c)))
+    (1, omega arith, subst (Ends store) (sym w.gives) (store_next d.state d.table x.number x.bytes _ w.access d.causes u (sym (ap (awaits of_store) w.phase) ∙ c)))

@@ -28,7 +28,7 @@ use Rattle.drive.specs.Calls.{Call, raise, lower, feed, surface, reset, raise_of
 use Rattle.drive.specs.Values.{Code1If, Code1Exactly}
 use Rattle.drive.specs.Views.{of_answer}
 use Rattle.records.proofs.Ladders.{guarded_cases, fitting_cases, lowered_cases, image_cases}
-use Rattle.records.proofs.Shapes.{Shapes, follows-shape, acted-shape}
+use Rattle.records.proofs.Shapes.{Shapes, follows_shape, acted_shape}
 
 -- Says whether an answer is code 1.
 abbrev pub is_code1 : Answer → Bool
@@ -60,10 +60,10 @@ module _ (l : State) where
   going : (o : Offer) (t : Table) → Is (goes_on o l t)
   unfolding goes_on
   going offer.Command t = accepts refl
-  going offer.Read t = acted-shape Is l shapes t (order_of l.command)
+  going offer.Read t = acted_shape Is l shapes t (order_of l.command)
   going offer.Write t = accepts refl
   going offer.Verify t = accepts refl
-  going offer.Act t = acted-shape Is l shapes t (order_of l.command)
+  going offer.Act t = acted_shape Is l shapes t (order_of l.command)
 
   lowers : (p : Phase) (t : Table) (b : ℕ) → Is (lowered p l t b)
   unfolding lowered
@@ -96,7 +96,7 @@ module _ (l : State) where
   surfaces phase.Command t a bs q = no
   surfaces phase.Data t a bs q = no
   surfaces (phase.Awaiting x) t a bs q =
-      fitting_cases Is (asks_read x) l a (length bs) _ (record { answer = λ e. refuses refusal.Answer refl; bytes = λ e f. refuses refusal.Bytes refl; fits = λ e f. follows-shape Is l shapes t x a bs q (λ z. accepts refl) })
+      fitting_cases Is (asks_read x) l a (length bs) _ (record { answer = λ e. refuses refusal.Answer refl; bytes = λ e f. refuses refusal.Bytes refl; fits = λ e f. follows_shape Is l shapes t x a bs q (λ z. accepts refl) })
 
 module _ (d : Drive) (u : List ℕ) where
   -- Says what a whole call owes: if it refuses, all stays; it is code 1 exactly with a record that is not valid.
@@ -140,17 +140,17 @@ module _ (d : Drive) (u : List ℕ) where
   owes reset = whole [] _ (resets d.state d.state.phase)
 
   -- Refused, each of raise, lower, feed, surface and reset leaves record and buffer,
-  pub refused-unchanged : (x : Call) → Same (step_of x d u)
-  refused-unchanged x = (owes x).same
+  pub refused_unchanged : (x : Call) → Same (step_of x d u)
+  refused_unchanged x = (owes x).same
 
   -- so does start,
-  pub refused-start : Same (start_of d u)
+  pub refused_start_lem : Same (start_of d u)
   unfolding start_of
-  refused-start = branch Same (eqb (length u) 536) (λ q. λ e. clash e refl) (λ q. λ e. (refl, refl))
+  refused_start_lem = branch Same (eqb (length u) 536) (λ q. λ e. clash e refl) (λ q. λ e. (refl, refl))
 
   -- and so does image.
-  pub refused-image : Same (image_out_of d u)
-  refused-image = image_cases Same d u (record { damaged = λ o. λ e. (refl, refl); length = λ o q. λ e. (refl, refl); no_table = λ o k. λ e. (refl, refl); given = λ o k. λ e. clash e refl })
+  pub refused_image : Same (image_out_of d u)
+  refused_image = image_cases Same d u (record { damaged = λ o. λ e. (refl, refl); length = λ o q. λ e. (refl, refl); no_table = λ o k. λ e. (refl, refl); given = λ o k. λ e. clash e refl })
 
   image_code : Code1If d u (image_out_of d u)
   image_code =

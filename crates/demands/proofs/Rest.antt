@@ -36,8 +36,8 @@ use Rattle.drive.specs.Views.{Bytes, Where}
 use Rattle.records.proofs.Ladders.{fitting_cases, offer_for_cases, lowered_cases}
 use Rattle.demands.proofs.Parts.{data_length, Prefix, prefix_none, prefix_more, data_fed, data_padded, Cmd, cmd_of, cmd_more}
 use Rattle.demands.proofs.Sim.{state_of, world_of, history_of, Ground, Sound, Shake, resting, offer1, heads, offer2, offer3, offer4, takes, offer6, Sim, at_rest, Good, ev, declined}
-use Rattle.demands.proofs.Entries.{fits-silent}
-use Rattle.demands.proofs.Acting.{acts-well}
+use Rattle.demands.proofs.Entries.{fits_silent}
+use Rattle.demands.proofs.Acting.{acts_well}
 
 -- Returns what a call's own rule says, after the codes 1 and 2.
 abbrev pub ruled : Call → Table → State → Bytes → Turn
@@ -91,34 +91,34 @@ module _ (start σ : Sectors) (t : Table) (cs : Bytes) (pl : Block → Where) (c
   Sm p mk c n f rn u a h fd to wr lr = Sim start (world_of t cs (state_of p mk c n f rn) u σ a) (history_of pl ca a h fd false to wr lr ln fn)
 
   -- Every call in idle keeps the invariant.
-  rest-idle : {mk : Marks} {u c : Bytes} {n f rn : ℕ} {h fd : Bytes} {to' wr : Bool} {lr : Where} {a : Answer} → length c ≡ 6 → Sound mk → Ground start mk.known mk.moved t σ pl ca ln fn
+  rest_idle : {mk : Marks} {u c : Bytes} {n f rn : ℕ} {h fd : Bytes} {to' wr : Bool} {lr : Where} {a : Answer} → length c ≡ 6 → Sound mk → Ground start mk.known mk.moved t σ pl ca ln fn
       → Sm phase.Idle mk c n f rn u a h fd to' wr lr → (x : Call) (sp : Bool) → Kp phase.Idle mk c n f rn u a h fd to' wr lr x sp
   unfolding part_left status_left raised lowered fed_to rested answered next heard learns acts underway touches touches_first reports place_next candidates_next
-  rest-idle lc so gr m raise sp = λ ok. (fits-silent _ _ refl refl, at_rest lc so gr offer1)
-  rest-idle lc so gr m (lower b) sp = declined (lower b) sp refusal.Place [] m
-  rest-idle lc so gr m (feed bs) sp = declined (feed bs) sp refusal.Place bs m
-  rest-idle lc so gr m (surface b bs) sp = declined (surface b bs) sp refusal.Place bs m
-  rest-idle lc so gr m reset sp = λ ok. (fits-silent _ _ refl refl, at_rest lc so gr (resting refl refl))
+  rest_idle lc so gr m raise sp = λ ok. (fits_silent _ _ refl refl, at_rest lc so gr offer1)
+  rest_idle lc so gr m (lower b) sp = declined (lower b) sp refusal.Place [] m
+  rest_idle lc so gr m (feed bs) sp = declined (feed bs) sp refusal.Place bs m
+  rest_idle lc so gr m (surface b bs) sp = declined (surface b bs) sp refusal.Place bs m
+  rest_idle lc so gr m reset sp = λ ok. (fits_silent _ _ refl refl, at_rest lc so gr (resting refl refl))
 
   -- So does another handshake byte: the command, if any, is neither good nor failed.
-  breaks-off : {mk : Marks} {u c : Bytes} {n f rn : ℕ} {q : Offer} {h fd : Bytes} {to' wr : Bool} {lr : Where} → length c ≡ 6 → Sound mk → Ground start mk.known mk.moved t σ pl ca ln fn
+  breaks_off : {mk : Marks} {u c : Bytes} {n f rn : ℕ} {q : Offer} {h fd : Bytes} {to' wr : Bool} {lr : Where} → length c ≡ 6 → Sound mk → Ground start mk.known mk.moved t σ pl ca ln fn
       → Sm (phase.Offered q) mk c n f rn u (answer.Offer q) h fd to' wr lr → (b : ℕ) (sp : Bool) → eqb b 0x55 ≡ false
       → Good start (world_of t cs (state_of (phase.Offered q) mk c n f rn) u σ (answer.Offer q)) (history_of pl ca (answer.Offer q) h fd false to' wr lr ln fn) (ev (lower b) sp) (out_of t cs [] u (broken_off (state_of (phase.Offered q) mk c n f rn)))
   unfolding part_left status_left next heard learns acts underway touches touches_first reports place_next candidates_next
-  breaks-off lc so gr m b sp e = λ ok. (fits-silent _ _ (rw e) (rw e), rw e (at_rest lc so gr (resting refl refl)))
+  breaks_off lc so gr m b sp e = λ ok. (fits_silent _ _ (rw e) (rw e), rw e (at_rest lc so gr (resting refl refl)))
 
   -- So does every call while an offer is made, if the lower with 55 does,
-  rest-offered : {mk : Marks} {u c : Bytes} {n f rn : ℕ} {q : Offer} {h fd : Bytes} {to' wr : Bool} {lr : Where} → length c ≡ 6 → Sound mk → Ground start mk.known mk.moved t σ pl ca ln fn
+  rest_offered : {mk : Marks} {u c : Bytes} {n f rn : ℕ} {q : Offer} {h fd : Bytes} {to' wr : Bool} {lr : Where} → length c ≡ 6 → Sound mk → Ground start mk.known mk.moved t σ pl ca ln fn
       → Sm (phase.Offered q) mk c n f rn u (answer.Offer q) h fd to' wr lr
       → ((sp : Bool) → Good start (world_of t cs (state_of (phase.Offered q) mk c n f rn) u σ (answer.Offer q)) (history_of pl ca (answer.Offer q) h fd false to' wr lr ln fn) (ev (lower 0x55) sp) (out_of t cs [] u (goes_on q (state_of (phase.Offered q) mk c n f rn) t)))
       → (x : Call) (sp : Bool) → Kp (phase.Offered q) mk c n f rn u (answer.Offer q) h fd to' wr lr x sp
   unfolding part_left status_left raised lowered fed_to rested answered next heard learns acts underway touches touches_first reports place_next candidates_next
-  rest-offered lc so gr m g raise sp = declined raise sp refusal.Place [] m
-  rest-offered {mk} {u} {c} {n} {f} {rn} {q} {h} {fd} {to'} {wr} {lr} lc so gr m g (lower b) sp =
+  rest_offered lc so gr m g raise sp = declined raise sp refusal.Place [] m
+  rest_offered {mk} {u} {c} {n} {f} {rn} {q} {h} {fd} {to'} {wr} {lr} lc so gr m g (lower b) sp =
       lowered_cases (λ (y : Turn). Good start w H (ev (lower b) sp) (out_of t cs [] u y)) q (state_of (phase.Offered q) mk c n f rn) t b
       (record {
         goes = λ e. subst (λ (i : ℕ). Good start w H (ev (lower i) sp) (out_of t cs [] u (goes_on q (state_of (phase.Offered q) mk c n f rn) t))) (sym (eqb-true b 0x55 e)) (g sp);
-        breaks = λ e. breaks-off lc so gr m b sp e;
+        breaks = λ e. breaks_off lc so gr m b sp e;
       })
     where
       w : World
@@ -126,21 +126,21 @@ module _ (start σ : Sectors) (t : Table) (cs : Bytes) (pl : Block → Where) (c
 
       H : History
       H = history_of pl ca (answer.Offer q) h fd false to' wr lr ln fn
-  rest-offered lc so gr m g (feed bs) sp = declined (feed bs) sp refusal.Place bs m
-  rest-offered lc so gr m g (surface b bs) sp = declined (surface b bs) sp refusal.Place bs m
-  rest-offered lc so gr m g reset sp = λ ok. (fits-silent _ _ refl refl, at_rest lc so gr (resting refl refl))
+  rest_offered lc so gr m g (feed bs) sp = declined (feed bs) sp refusal.Place bs m
+  rest_offered lc so gr m g (surface b bs) sp = declined (surface b bs) sp refusal.Place bs m
+  rest_offered lc so gr m g reset sp = λ ok. (fits_silent _ _ refl refl, at_rest lc so gr (resting refl refl))
 
   -- while command bytes are taken,
-  rest-command : {mk : Marks} {u c : Bytes} {n f rn : ℕ} {h fd : Bytes} {to' wr : Bool} {lr : Where} → length u ≡ 536 → length c ≡ 6 → Sound mk → Ground start mk.known mk.moved t σ pl ca ln fn → Prefix 6 6 c n h
+  rest_command : {mk : Marks} {u c : Bytes} {n f rn : ℕ} {h fd : Bytes} {to' wr : Bool} {lr : Where} → length u ≡ 536 → length c ≡ 6 → Sound mk → Ground start mk.known mk.moved t σ pl ca ln fn → Prefix 6 6 c n h
       → Sm phase.Command mk c n f rn u answer.Wait h fd to' wr lr → (x : Call) (sp : Bool) → Kp phase.Command mk c n f rn u answer.Wait h fd to' wr lr x sp
   unfolding part_left status_left raised lowered fed_to rested answered next heard learns acts underway touches touches_first reports place_next candidates_next
-  rest-command {mk} {u} {c} {n} {f} {rn} {h} {fd} {to'} {wr} {lr} lu lc so gr p m raise sp =
+  rest_command {mk} {u} {c} {n} {f} {rn} {h} {fd} {to'} {wr} {lr} lu lc so gr p m raise sp =
       offer_for_cases P (kind_of c) n
       (record {
-        read = λ q. λ ok. (fits-silent _ _ refl refl, at_rest lc so gr (offer2 (cmd_of c h n 6 p (and_right (is_read (kind_of c)) (leb 6 n) q) (omega arith)) (and_left (is_read (kind_of c)) (leb 6 n) q)));
-        write = λ q. λ ok. (fits-silent _ _ refl refl, at_rest lc so gr (offer3 (long (is_write (kind_of c)) q) (not_read (kind_of c) true (and_left (is_write (kind_of c)) (leb 4 n) q))));
-        verify = λ q. λ ok. (fits-silent _ _ refl refl, at_rest lc so gr (offer4 (long (is_verify (kind_of c)) q) (not_read (kind_of c) false (and_left (is_verify (kind_of c)) (leb 4 n) q))));
-        none = λ ok. (fits-silent _ _ refl refl, at_rest lc so gr offer1);
+        read = λ q. λ ok. (fits_silent _ _ refl refl, at_rest lc so gr (offer2 (cmd_of c h n 6 p (and_right (is_read (kind_of c)) (leb 6 n) q) (omega arith)) (and_left (is_read (kind_of c)) (leb 6 n) q)));
+        write = λ q. λ ok. (fits_silent _ _ refl refl, at_rest lc so gr (offer3 (long (is_write (kind_of c)) q) (not_read (kind_of c) true (and_left (is_write (kind_of c)) (leb 4 n) q))));
+        verify = λ q. λ ok. (fits_silent _ _ refl refl, at_rest lc so gr (offer4 (long (is_verify (kind_of c)) q) (not_read (kind_of c) false (and_left (is_verify (kind_of c)) (leb 4 n) q))));
+        none = λ ok. (fits_silent _ _ refl refl, at_rest lc so gr offer1);
       })
     where
       P : Offer → Type 0
@@ -148,36 +148,36 @@ module _ (start σ : Sectors) (t : Table) (cs : Bytes) (pl : Block → Where) (c
 
       long : (w : Bool) → (w && leb 4 n) ≡ true → Cmd c h
       long w q = cmd_of c h n 4 p (and_right w (leb 4 n) q) (omega arith)
-  rest-command lu lc so gr p m (lower b) sp = declined (lower b) sp refusal.Place [] m
-  rest-command {c = c} {n = n} {h = h} lu lc so gr p m (feed bs) sp =
+  rest_command lu lc so gr p m (lower b) sp = declined (lower b) sp refusal.Place [] m
+  rest_command {c = c} {n = n} {h = h} lu lc so gr p m (feed bs) sp =
       let p' = prefix_more 6 6 c h bs n (omega arith) p in
-      λ ok. (fits-silent _ _ refl refl, at_rest p'.full so gr (heads p'))
-  rest-command lu lc so gr p m (surface b bs) sp = declined (surface b bs) sp refusal.Place bs m
-  rest-command lu lc so gr p m reset sp = λ ok. (fits-silent _ _ refl refl, at_rest lc so gr (resting refl refl))
+      λ ok. (fits_silent _ _ refl refl, at_rest p'.full so gr (heads p'))
+  rest_command lu lc so gr p m (surface b bs) sp = declined (surface b bs) sp refusal.Place bs m
+  rest_command lu lc so gr p m reset sp = λ ok. (fits_silent _ _ refl refl, at_rest lc so gr (resting refl refl))
 
   -- while data bytes are taken,
-  rest-taking : {mk : Marks} {u c : Bytes} {n f rn : ℕ} {h fd : Bytes} {to' wr : Bool} {lr : Where} → length u ≡ 536 → length c ≡ 6 → Sound mk → Ground start mk.known mk.moved t σ pl ca ln fn → Cmd c h → is_read (kind_of c) ≡ false
+  rest_taking : {mk : Marks} {u c : Bytes} {n f rn : ℕ} {h fd : Bytes} {to' wr : Bool} {lr : Where} → length u ≡ 536 → length c ≡ 6 → Sound mk → Ground start mk.known mk.moved t σ pl ca ln fn → Cmd c h → is_read (kind_of c) ≡ false
       → Prefix 532 533 (data_of u) f fd
       → Sm phase.Data mk c n f rn u answer.Wait h fd to' wr lr → (x : Call) (sp : Bool) → Kp phase.Data mk c n f rn u answer.Wait h fd to' wr lr x sp
   unfolding part_left status_left raised lowered fed_to rested answered next heard learns acts underway touches touches_first reports place_next candidates_next
-  rest-taking {u = u} {f = f} {fd = fd} lu lc so gr cm op tk m raise sp = λ ok. (fits-silent _ _ refl refl, at_rest lc so gr (offer6 cm op (data_padded u fd f lu tk)))
-  rest-taking lu lc so gr cm op tk m (lower b) sp = declined (lower b) sp refusal.Place [] m
-  rest-taking {mk} {u} {c} {n} {f} {rn} {h} {fd} lu lc so gr cm op tk m (feed bs) sp =
-      λ ok. (fits-silent _ _ refl refl, at_rest lc so gr (takes (cmd_more c h bs cm) op (data_fed u bs fd f lu tk)))
-  rest-taking lu lc so gr cm op tk m (surface b bs) sp = declined (surface b bs) sp refusal.Place bs m
-  rest-taking lu lc so gr cm op tk m reset sp = λ ok. (fits-silent _ _ refl refl, at_rest lc so gr (resting refl refl))
+  rest_taking {u = u} {f = f} {fd = fd} lu lc so gr cm op tk m raise sp = λ ok. (fits_silent _ _ refl refl, at_rest lc so gr (offer6 cm op (data_padded u fd f lu tk)))
+  rest_taking lu lc so gr cm op tk m (lower b) sp = declined (lower b) sp refusal.Place [] m
+  rest_taking {mk} {u} {c} {n} {f} {rn} {h} {fd} lu lc so gr cm op tk m (feed bs) sp =
+      λ ok. (fits_silent _ _ refl refl, at_rest lc so gr (takes (cmd_more c h bs cm) op (data_fed u bs fd f lu tk)))
+  rest_taking lu lc so gr cm op tk m (surface b bs) sp = declined (surface b bs) sp refusal.Place bs m
+  rest_taking lu lc so gr cm op tk m reset sp = λ ok. (fits_silent _ _ refl refl, at_rest lc so gr (resting refl refl))
 
   -- EVERY CALL BETWEEN COMMANDS.
   pub rests : {mk : Marks} {u c : Bytes} {n f rn : ℕ} {p : Phase} {h fd : Bytes} {to' wr : Bool} {lr : Where} {a : Answer} → length u ≡ 536 → table_ok t ≡ true → length c ≡ 6 → Sound mk → Ground start mk.known mk.moved t σ pl ca ln fn → Shake u p c n f a h fd
       → Sm p mk c n f rn u a h fd to' wr lr → (x : Call) (sp : Bool) → Kp p mk c n f rn u a h fd to' wr lr x sp
   unfolding part_left status_left goes_on next heard learns acts underway touches touches_first reports place_next candidates_next
-  rests lu ok lc so gr (resting e g) m x sp = rest-idle lc so gr m x sp
-  rests {c = c} lu ok lc so gr offer1 m x sp = rest-offered lc so gr m (λ s. λ ok. (fits-silent _ _ refl refl, at_rest lc so gr (heads (prefix_none 6 6 c lc)))) x sp
-  rests lu ok lc so gr (heads p) m x sp = rest-command lu lc so gr p m x sp
+  rests lu ok lc so gr (resting e g) m x sp = rest_idle lc so gr m x sp
+  rests {c = c} lu ok lc so gr offer1 m x sp = rest_offered lc so gr m (λ s. λ ok. (fits_silent _ _ refl refl, at_rest lc so gr (heads (prefix_none 6 6 c lc)))) x sp
+  rests lu ok lc so gr (heads p) m x sp = rest_command lu lc so gr p m x sp
   rests {mk} {u} {rn = rn} {to' = to'} {wr = wr} {lr = lr} lu ok lc so gr (offer2 {c = c} {n = n} {h = h} {fd = fd} cm op) m x sp =
-      rest-offered lc so gr m (λ s. acts-well start σ t cs mk pl ca u c n 0 rn offer.Read h fd to' wr lr ln fn lc so gr ok refl cm (λ z. clash op z) s) x sp
-  rests {u = u} lu ok lc so gr (offer3 cm op) m x sp = rest-offered lc so gr m (λ s. λ ok. (fits-silent _ _ refl refl, at_rest lc so gr (takes cm op (prefix_none 532 533 (data_of u) (data_length u lu))))) x sp
-  rests {u = u} lu ok lc so gr (offer4 cm op) m x sp = rest-offered lc so gr m (λ s. λ ok. (fits-silent _ _ refl refl, at_rest lc so gr (takes cm op (prefix_none 532 533 (data_of u) (data_length u lu))))) x sp
-  rests lu ok lc so gr (takes cm op tk) m x sp = rest-taking lu lc so gr cm op tk m x sp
+      rest_offered lc so gr m (λ s. acts_well start σ t cs mk pl ca u c n 0 rn offer.Read h fd to' wr lr ln fn lc so gr ok refl cm (λ z. clash op z) s) x sp
+  rests {u = u} lu ok lc so gr (offer3 cm op) m x sp = rest_offered lc so gr m (λ s. λ ok. (fits_silent _ _ refl refl, at_rest lc so gr (takes cm op (prefix_none 532 533 (data_of u) (data_length u lu))))) x sp
+  rests {u = u} lu ok lc so gr (offer4 cm op) m x sp = rest_offered lc so gr m (λ s. λ ok. (fits_silent _ _ refl refl, at_rest lc so gr (takes cm op (prefix_none 532 533 (data_of u) (data_length u lu))))) x sp
+  rests lu ok lc so gr (takes cm op tk) m x sp = rest_taking lu lc so gr cm op tk m x sp
   rests {mk} {u} {rn = rn} {to' = to'} {wr = wr} {lr = lr} lu ok lc so gr (offer6 {c = c} {n = n} {f = f} {h = h} {fd = fd} cm op ed) m x sp =
-      rest-offered lc so gr m (λ s. acts-well start σ t cs mk pl ca u c n f rn offer.Act h fd to' wr lr ln fn lc so gr ok refl cm (λ z. ed) s) x sp
+      rest_offered lc so gr m (λ s. acts_well start σ t cs mk pl ca u c n f rn offer.Act h fd to' wr lr ln fn lc so gr ok refl cm (λ z. ed) s) x sp

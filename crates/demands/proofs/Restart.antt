@@ -27,8 +27,8 @@ use Rattle.drive.specs.Surface.{target, sent, Fate, old, new, spoiled, cut_off}
 use Rattle.drive.specs.Run.{World, power, after, sending}
 use Rattle.drive.specs.Views.{Bytes, Where, nowhere, at}
 use Rattle.demands.proofs.Statuses.{is_move}
-use Rattle.demands.proofs.Sim.{history_of, Blocky, place_of, Books, Quiet, Own, Unread, Ground, Spot, Shake, resting, offer1, heads, offer2, offer3, offer4, takes, offer6, Work, rereads, writing, verifying, trying, checking, placed, Owes, nothing, bytes, Sim, at-start, at_rest, at-work, at_store, books_apart, work_apart}
-use Rattle.demands.proofs.Books.{books-write, books-stored, books-weaken, books-more, books-safe}
+use Rattle.demands.proofs.Sim.{history_of, Blocky, place_of, Books, Quiet, Own, Unread, Ground, Spot, Shake, resting, offer1, heads, offer2, offer3, offer4, takes, offer6, Work, rereads, writing, verifying, trying, checking, placed, Owes, nothing, bytes, Sim, at_start, at_rest, at_work, at_store, books_apart, work_apart}
+use Rattle.demands.proofs.Books.{books_write, books_stored, books_weaken, books_more, books_safe}
 use Rattle.demands.proofs.Busy.{owes_own}
 use Rattle.demands.proofs.Steps.{left_is, after_try}
 
@@ -47,9 +47,9 @@ still (offer6 c o e) = refl
 -- block's sector is cut off,
 cut_write : (t : Table) (σ : Sectors) (pl : Block → Where) (ca : Block → List Bytes) (mv : Bool) (b : Block) (y : Bytes) (x : Fate) → Blocky b
     → Books t σ pl ca Quiet mv → Books t (cut_off (at (place_of t b)) x y σ) pl ca (Own b y) mv
-cut_write t σ pl ca mv b y old i k = books-weaken b y k
-cut_write t σ pl ca mv b y new i k = books-write b y (held y) i (λ z w e. absurd e) (left_is false y) k
-cut_write t σ pl ca mv b y spoiled i k = books-write b y unreadable i (λ z w e. absurd e) (left_is true y) k
+cut_write t σ pl ca mv b y old i k = books_weaken b y k
+cut_write t σ pl ca mv b y new i k = books_write b y (held y) i (λ z w e. absurd e) (left_is false y) k
+cut_write t σ pl ca mv b y spoiled i k = books_write b y unreadable i (λ z w e. absurd e) (left_is true y) k
 
 -- a trial's write,
 cut_try : (t : Table) (σ : Sectors) (pl : Block → Where) (ca : Block → List Bytes) (mv : Bool) (b : Block) (y : Bytes) (r : Trial) (x : Fate) → Blocky b → Spot t b r
@@ -62,8 +62,8 @@ cut_try t σ pl ca mv b y r spoiled i st k = after_try t σ pl ca mv b y true r 
 cut_store : {t : Table} {σ : Sectors} {pl : Block → Where} {ca : Block → List Bytes} {also : Block → Bytes → Type 0} {mv : Bool} (rn : ℕ) (cs : Bytes) (x : Fate) → table_ok t ≡ true
     → Books t σ pl ca also mv → (q : Bool) × Books t (cut_off (at table_sector) x (image_b rn t cs) σ) pl ca also q
 cut_store {mv = mv} rn cs old ok k = (mv, k)
-cut_store {t} rn cs new ok k = (false, books-stored rn cs (held (image_b rn t cs)) ok (left_is false (image_b rn t cs)) k)
-cut_store {t} rn cs spoiled ok k = (false, books-stored rn cs unreadable ok (left_is true (image_b rn t cs)) k)
+cut_store {t} rn cs new ok k = (false, books_stored rn cs (held (image_b rn t cs)) ok (left_is false (image_b rn t cs)) k)
+cut_store {t} rn cs spoiled ok k = (false, books_stored rn cs unreadable ok (left_is true (image_b rn t cs)) k)
 
 -- WHAT IS OWED by a command under way, one clause for each kind of access,
 cut_owes : {t : Table} {σ : Sectors} {pl : Block → Where} {ca : Block → List Bytes} {mv : Bool} {b : Block} {rd : Bool} {u mine : Bytes} {p : Access} {a : Answer} {wr : Bool} {lr : Where} (i : Bytes) (x : Fate) → Blocky b
@@ -88,10 +88,10 @@ cut_paid : (t : Table) (σ : Sectors) (pl pl₁ : Block → Where) (ca : Block �
 unfolding candidates_then interrupted
 cut_paid t σ pl pl₁ ca mv b rd u h fd a to' wr lr ln fn num isr i (nothing (inl q) k) = rw (isr, q, and_false wr false refl) k
 cut_paid t σ pl pl₁ ca mv b rd u h fd a to' wr lr ln fn num isr i (nothing (inr q) k) = rw q k
-cut_paid t σ pl pl₁ ca mv b rd u h fd a to' wr lr ln fn num isr i (bytes wt op ed k) = rw (num, i, wt, isr, op, ← ed) (books-more b (data_of u) k)
+cut_paid t σ pl pl₁ ca mv b rd u h fd a to' wr lr ln fn num isr i (bytes wt op ed k) = rw (num, i, wt, isr, op, ← ed) (books_more b (data_of u) k)
 
 unread : {start σ : Sectors} {t : Table} {pl pl₁ : Block → Where} {ca : Block → List Bytes} {mv ln : Bool} → Apart pl → ln ≡ true → Books t σ pl₁ ca Quiet mv → Unread start σ pl ca ln
-unread pa el k = record { apart = pa; untouched = λ q. clash el q; safe = λ q. books-safe k }
+unread pa el k = record { apart = pa; untouched = λ q. clash el q; safe = λ q. books_safe k }
 
 ground_unread : {start : Sectors} {known mv : Bool} {t : Table} {σ : Sectors} {pl : Block → Where} {ca : Block → List Bytes} {ln fn : Bool} → Ground start known mv t σ pl ca ln fn → Unread start σ pl ca ln
 ground_unread {start} {known} {σ = σ} {pl = pl} {ca = ca} {ln = ln} g = go known refl
@@ -103,9 +103,9 @@ ground_unread {start} {known} {σ = σ} {pl = pl} {ca = ca} {ln = ln} g = go kno
 -- WHICHEVER ACCESS THE POWER FAILS AT, what any table holds that the next start may read are candidates.
 cut_unread : {start : Sectors} {w : World} {H : History} (x : Fate) → Sim start w H → Unread start (cut_off (target w.asked) x (sending w) w.sectors) H.place (candidates_then H) H.learned
 unfolding candidates_then interrupted
-cut_unread x (at-start lc kn em un) = un
+cut_unread x (at_start lc kn em un) = un
 cut_unread x (at_rest lc so gr sh) = rw (still sh) (ground_unread gr)
-cut_unread x (at-work {t = t} {cs = cs} {mk = mk} {rn = rn} {u = u} {a = a} {pl = pl} {ca = ca} {h = h} {fd = fd} {wr = wr} {lr = lr} {ln = ln} {fn = fn} {b = b} {rd = rd} lc kn so el ef i num isr wk) =
+cut_unread x (at_work {t = t} {cs = cs} {mk = mk} {rn = rn} {u = u} {a = a} {pl = pl} {ca = ca} {h = h} {fd = fd} {wr = wr} {lr = lr} {ln = ln} {fn = fn} {b = b} {rd = rd} lc kn so el ef i num isr wk) =
     unread (work_apart wk) el (cut_paid t _ pl pl ca mk.moved b rd u h fd a true wr lr ln fn num isr i (cut_owes (image_b rn t cs) x i wk))
 cut_unread x (at_store {t = t} {cs = cs} {rn = rn} {k = k} {u = u} {pl = pl} {ca = ca} {h = h} {fd = fd} {to = to} {wr = wr} {lr = lr} {ln = ln} {fn = fn} {b = b} {rd = rd} lc kn so el ef i num isr ok pa cl) =
     let r = cut_end rn cs x ok cl.owes in
@@ -115,4 +115,4 @@ cut_unread x (at_store {t = t} {cs = cs} {rn = rn} {k = k} {u = u} {pl = pl} {ca
 pub began : {start : Sectors} {w : World} {H : History} → Sim start w H → (d : Drive) (v : Bytes) (x : Fate) → Sim start (after w (power d v x) (start_of d v)) (begun H (start_of d v).step.answer)
 unfolding start_of begun
 began {start} {w} {H} m d v x =
-    branch (λ (y : Out). Sim start (after w (power d v x) y) (begun H y.step.answer)) (eqb (length v) 536) (λ q. at-start refl refl refl (cut_unread x m)) (λ q. m)
+    branch (λ (y : Out). Sim start (after w (power d v x) y) (begun H y.step.answer)) (eqb (length v) 536) (λ q. at_start refl refl refl (cut_unread x m)) (λ q. m)

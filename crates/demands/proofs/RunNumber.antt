@@ -30,7 +30,7 @@ use Rattle.drive.specs.Access.{asks_read, follows, answered}
 use Rattle.drive.specs.Calls.{Call, raise, lower, feed, surface, reset, raise_of, lower_of, feed_of, surface_of, reset_of, step_of}
 use Rattle.drive.specs.Values.{Bytewise, TypedCall}
 use Rattle.records.proofs.Ladders.{guarded_cases, fitting_cases, lowered_cases}
-use Rattle.records.proofs.Shapes.{Shapes, acted-shape, follows-shape}
+use Rattle.records.proofs.Shapes.{Shapes, acted_shape, follows_shape}
 
 abbrev Small : ℕ → Type 0
 Small n = n < 4294967296
@@ -60,10 +60,10 @@ module _ (l : State) (t : Table) (h : Small l.run) where
   goes : (o : Offer) → Ok (goes_on o l t)
   unfolding goes_on
   goes offer.Command = h
-  goes offer.Read = acted-shape Ok l shapes t (order_of l.command)
+  goes offer.Read = acted_shape Ok l shapes t (order_of l.command)
   goes offer.Write = h
   goes offer.Verify = h
-  goes offer.Act = acted-shape Ok l shapes t (order_of l.command)
+  goes offer.Act = acted_shape Ok l shapes t (order_of l.command)
 
   lowers : (p : Phase) (b : ℕ) → Ok (lowered p l t b)
   unfolding lowered
@@ -97,7 +97,7 @@ module _ (l : State) (t : Table) (h : Small l.run) where
   surfaces phase.Data a bs q y = h
   surfaces (phase.Awaiting x) a bs q y =
       fitting_cases Ok (asks_read x) l a (length bs) _
-      (record { answer = λ e. h; bytes = λ e z. h; fits = λ e z. follows-shape Ok l shapes t x a bs q (λ w. image_small bs y) })
+      (record { answer = λ e. h; bytes = λ e z. h; fits = λ e z. follows_shape Ok l shapes t x a bs q (λ w. image_small bs y) })
 
   guards : (ok : Bool) (n : ℕ) (x : Turn) → Ok x → Ok (guarded ok n l x)
   guards ok n x k = guarded_cases Ok ok n l x (record { damaged = λ e. h; length = λ e q. h; passes = λ e q. k })

@@ -62,7 +62,7 @@ use Rattle.demands.proofs.Parts.{data_put, data_with}
 use Rattle.demands.proofs.Lengths.{data_long}
 use Rattle.demands.proofs.Numbers.{acts_on}
 use Rattle.demands.proofs.Awaited.{of_phase}
-use Rattle.demands.proofs.Statuses.{good-is}
+use Rattle.demands.proofs.Statuses.{good_is}
 use Rattle.demands.proofs.Sim.{state_of}
 use Rattle.demands.proofs.Valid.{step_valid}
 use Rattle.demands.proofs.Status4.{status_4}
@@ -129,46 +129,46 @@ module _ (t : Table) (cs bs u : List ℕ) where
   Bad x = ends_well (out_of t cs bs u x) ≡ true → ⊥
 
   -- A failure is one, whatever becomes of the table, reported at once or after the store.
-  pub bad-report : (l : State) (m : Marks) (c : Change) (e : Ending) (s : Seen) (unstored unsettled : Bool) (p : Part) → (fails e || unstored) ≡ true → Bad (report l m c e s unstored unsettled p)
+  pub bad_report : (l : State) (m : Marks) (c : Change) (e : Ending) (s : Seen) (unstored unsettled : Bool) (p : Part) → (fails e || unstored) ≡ true → Bad (report l m c e s unstored unsettled p)
   unfolding status_left good
-  bad-report l m c e s unstored unsettled p f h = clash h (good-is (surface 0 []) answer.Finished e s unstored unsettled m.fresh (part_left p t bs u) ∙ ap not f)
+  bad_report l m c e s unstored unsettled p f h = clash h (good_is (surface 0 []) answer.Finished e s unstored unsettled m.fresh (part_left p t bs u) ∙ ap not f)
 
-  pub bad-finish : (l : State) (c : Change) (e : Ending) (s : Seen) (p : Part) → fails e ≡ true → Bad (finish l c e s p)
-  bad-finish l c e s p f =
-      finish_cases Bad l c e s p (record { asks = λ q h. clash h (ap not f); reports = λ q. bad-report l (at_end l.marks c e) c e s _ _ p (rw f) })
+  pub bad_finish : (l : State) (c : Change) (e : Ending) (s : Seen) (p : Part) → fails e ≡ true → Bad (finish l c e s p)
+  bad_finish l c e s p f =
+      finish_cases Bad l c e s p (record { asks = λ q h. clash h (ap not f); reports = λ q. bad_report l (at_end l.marks c e) c e s _ _ p (rw f) })
 
-  bad-end : (l : State) (e : Ending) (p : Part) → fails e ≡ true → Bad (ends l e p)
-  bad-end l e p f = bad-report l (at_end l.marks change.Keep e) change.Keep e clean false false p (rw f)
+  bad_end : (l : State) (e : Ending) (p : Part) → fails e ≡ true → Bad (ends l e p)
+  bad_end l e p f = bad_report l (at_end l.marks change.Keep e) change.Keep e clean false false p (rw f)
 
   -- It asks for no verify.
-  unread-finish : (l : State) (c : Change) (e : Ending) (s : Seen) (p : Part) → fails e ≡ true → unread (finish l c e s p).state.phase ≡ true
-  unread-finish l c e s p f = finish_cases (λ (x : Turn). unread x.state.phase ≡ true) l c e s p (record { asks = λ q. f; reports = λ q. refl })
+  unread_finish : (l : State) (c : Change) (e : Ending) (s : Seen) (p : Part) → fails e ≡ true → unread (finish l c e s p).state.phase ≡ true
+  unread_finish l c e s p f = finish_cases (λ (x : Turn). unread x.state.phase ≡ true) l c e s p (record { asks = λ q. f; reports = λ q. refl })
 
   -- NO COMMAND FOR A BLOCK ENDS WELL WITHOUT AN ACCESS OF ITS OWN: acting on it does not end it well. Nor does it ask for a verify.
-  pub acts-first : (o : Order) (l : State) → (is_block o.number ≡ true → Bad (acted o l t)) × (unread (acted o l t).state.phase ≡ true)
-  acts-first o l =
+  pub acts_first : (o : Order) (l : State) → (is_block o.number ≡ true → Bad (acted o l t)) × (unread (acted o l t).state.phase ≡ true)
+  acts_first o l =
       acted_cases (λ (x : Turn). (is_block o.number ≡ true → Bad x) × (unread x.state.phase ≡ true)) o l t
       (record {
         overrun = λ e. record {
-          block = λ j. (λ i. bad-finish l _ ending.Overrun _ _ refl, unread-finish l _ ending.Overrun _ _ refl);
-          no_block = λ j. (λ i. bad-end l _ _ refl, refl);
+          block = λ j. (λ i. bad_finish l _ ending.Overrun _ _ refl, unread_finish l _ ending.Overrun _ _ refl);
+          no_block = λ j. (λ i. bad_end l _ _ refl, refl);
         };
-        no_block = λ e f. (λ i. bad-end l _ _ refl, refl);
-        buffer = λ e f. (λ i h. not-block 0xFFFFFE refl f i, refl);
-        no_table = λ e f. (λ i. bad-end l (ending.NoTable (not (is_read o.kind))) _ refl, refl);
-        table = λ e f. (λ i h. not-block 0xFFFFFF refl f i, refl);
-        health = λ e f. (λ i h. not-block 0xFFFFFD refl f i, refl);
+        no_block = λ e f. (λ i. bad_end l _ _ refl, refl);
+        buffer = λ e f. (λ i h. not_block 0xFFFFFE refl f i, refl);
+        no_table = λ e f. (λ i. bad_end l (ending.NoTable (not (is_read o.kind))) _ refl, refl);
+        table = λ e f. (λ i h. not_block 0xFFFFFF refl f i, refl);
+        health = λ e f. (λ i h. not_block 0xFFFFFD refl f i, refl);
         read = λ b e. (λ i h. clash h refl, refl);
-        latched = λ b e f. (λ i. bad-finish l _ ending.Latched _ _ refl, unread-finish l _ ending.Latched _ _ refl);
+        latched = λ b e f. (λ i. bad_finish l _ ending.Latched _ _ refl, unread_finish l _ ending.Latched _ _ refl);
         listed = λ b e f g. (λ i h. clash h refl, refl);
         write = λ b e f g. (λ i h. clash h refl, refl);
       })
     where
-      not-block : (m : ℕ) → is_block m ≡ false → eqb o.number m ≡ true → is_block o.number ≡ true → ⊥
-      not-block m e p i = clash i (ap is_block (eqb-true o.number m p) ∙ e)
+      not_block : (m : ℕ) → is_block m ≡ false → eqb o.number m ≡ true → is_block o.number ≡ true → ⊥
+      not_block m e p i = clash i (ap is_block (eqb-true o.number m p) ∙ e)
 
-  pub needs-access : (o : Order) (l : State) → is_block o.number ≡ true → Bad (acted o l t)
-  needs-access o l = (acts-first o l).0
+  pub needs_access : (o : Order) (l : State) → is_block o.number ≡ true → Bad (acted o l t)
+  needs_access o l = (acts_first o l).0
 
   -- Says that a turn neither ends well nor asks for a verify.
   pub record Fails (x : Turn) : Type 0 where
@@ -178,10 +178,10 @@ module _ (t : Table) (cs bs u : List ℕ) where
   -- A sector that failed is left by such a turn, and a trial is stopped by one.
   module _ (P : Turn → Type 0) (h : (x : Turn) → Fails x → P x) (l : State) where
     pub ended : (c : Change) (e : Ending) (s : Seen) → fails e ≡ true → P (finish l c e s part.Kept)
-    ended c e s f = h _ (record { bad = bad-finish l c e s part.Kept f; unread = unread-finish l c e s part.Kept f })
+    ended c e s f = h _ (record { bad = bad_finish l c e s part.Kept f; unread = unread_finish l c e s part.Kept f })
 
     pub nexts : (n : ℕ) (c : Change) (b : Block) (s : Seen) {x y : Cause} → NextSpare P n l c b s x y
-    nexts n c b s = record { spare = λ e. h _ (record { bad = λ z. clash z refl; unread = refl }); no-spare = λ e. ended c _ s refl }
+    nexts n c b s = record { spare = λ e. h _ (record { bad = λ z. clash z refl; unread = refl }); no_spare = λ e. ended c _ s refl }
 
     pub misses : (r : Trial) (s : Seen) {x : Cause} → Missed P l t r s x
     misses r s = record { dead = λ e. nexts _ _ r.block s; left = λ e. nexts _ _ r.block s }
@@ -191,23 +191,23 @@ module _ (t : Table) (cs bs u : List ℕ) where
 
   -- A WRITE REPORTED GOOD WAS MADE. A write command ends well by its write only if that is a plain write's, answered 0;
   module _ (l : State) (w : Target) (a : ℕ) where
-    pub write-made : ends_well (out_of t cs bs u (write_answered l t w a)) ≡ true → (a ≡ 0) × (w.verify ≡ false)
-    write-made =
+    pub write_made : ends_well (out_of t cs bs u (write_answered l t w a)) ≡ true → (a ≡ 0) × (w.verify ≡ false)
+    write_made =
         write_cases N l t w a
-        (record { verifies = λ e f h. clash h refl; done = λ e f h. (eqb-true a 0 e, f); stops = λ e f. ended N not-well l change.Keep _ _ refl; moves = λ e f. nexts N not-well l _ _ w.block _ })
+        (record { verifies = λ e f h. clash h refl; done = λ e f h. (eqb-true a 0 e, f); stops = λ e f. ended N not_well l change.Keep _ _ refl; moves = λ e f. nexts N not_well l _ _ w.block _ })
       where
         N : Turn → Type 0
         N x = ends_well (out_of t cs bs u x) ≡ true → (a ≡ 0) × (w.verify ≡ false)
 
-        not-well : (x : Turn) → Fails x → N x
-        not-well x f h = absurd (f.bad h)
+        not_well : (x : Turn) → Fails x → N x
+        not_well x f h = absurd (f.bad h)
 
     -- by its first verify only if that brought the same bytes;
-    pub verify-made : ends_well (out_of t cs bs u (verify_answered l w a (eqb a 0 && same bs (data_of u)))) ≡ true → (a ≡ 0) × (bs ≡ data_of u)
-    verify-made =
+    pub verify_made : ends_well (out_of t cs bs u (verify_answered l w a (eqb a 0 && same bs (data_of u)))) ≡ true → (a ≡ 0) × (bs ≡ data_of u)
+    verify_made =
         verify_cases N l w a (eqb a 0 && same bs (data_of u))
         (record {
-          stops = λ e h. absurd (bad-finish l _ ending.Latched _ _ refl h);
+          stops = λ e h. absurd (bad_finish l _ ending.Latched _ _ refl h);
           done = λ e f h. (eqb-true a 0 (and_left (eqb a 0) (same bs (data_of u)) f), same_equal bs (data_of u) (and_right (eqb a 0) (same bs (data_of u)) f));
           fails = λ e f h. clash h refl;
         })
@@ -216,12 +216,12 @@ module _ (t : Table) (cs bs u : List ℕ) where
         N x = ends_well (out_of t cs bs u x) ≡ true → (a ≡ 0) × (bs ≡ data_of u)
 
   -- by its store only if that is answered 0, and the ending that waits is good.
-  pub store-made : (k : Close) (l : State) (a : ℕ) → ends_well (out_of t cs bs u (store_answered k l a)) ≡ true → (a ≡ 0) × (fails k.ending ≡ false)
+  pub store_made : (k : Close) (l : State) (a : ℕ) → ends_well (out_of t cs bs u (store_answered k l a)) ≡ true → (a ≡ 0) × (fails k.ending ≡ false)
   unfolding store_answered
-  store-made k l a h = go (fails k.ending) refl (eqb a 0) refl
+  store_made k l a h = go (fails k.ending) refl (eqb a 0) refl
     where
       bad : (fails k.ending || is_undone a) ≡ true → ⊥
-      bad f = bad-report l (store_marks l.marks a) change.Keep k.ending (met a k.seen) (is_undone a) (eqb a 3) part.Kept f h
+      bad f = bad_report l (store_marks l.marks a) change.Keep k.ending (met a k.seen) (is_undone a) (eqb a 3) part.Kept f h
 
       go : (p : Bool) → fails k.ending ≡ p → (q : Bool) → eqb a 0 ≡ q → (a ≡ 0) × (fails k.ending ≡ false)
       go true p q' q = absurd (bad (rw p))
@@ -230,8 +230,8 @@ module _ (t : Table) (cs bs u : List ℕ) where
 
   module _ (l : State) (r : Trial) (a : ℕ) where
     -- A trial's first reread is asked for only after its write was answered 0,
-    pub trial-made : awaits is_compared (tried l t r a).state.phase ≡ true → a ≡ 0
-    trial-made = tried_cases N l t r a (record { done = λ e h. eqb-true a 0 e; stops = λ e. stops N not_read l r; fails = λ e f. misses N not_read l r _ })
+    pub trial_made : awaits is_compared (tried l t r a).state.phase ≡ true → a ≡ 0
+    trial_made = tried_cases N l t r a (record { done = λ e h. eqb-true a 0 e; stops = λ e. stops N not_read l r; fails = λ e f. misses N not_read l r _ })
       where
         N : Turn → Type 0
         N x = awaits is_compared x.state.phase ≡ true → a ≡ 0
@@ -240,24 +240,24 @@ module _ (t : Table) (cs bs u : List ℕ) where
         not_read x f h = clash h (not_compared x.state.phase f.unread)
 
     -- and a command ends well by a trial only with its last reread, and at most 30 failures.
-    pub trial-passed : (equal : Bool) → ends_well (out_of t cs bs u (checked l t r a equal)) ≡ true → (100 ≤ (counted r a equal).rereads) × ((counted r a equal).failures ≤ 30)
-    trial-passed equal =
+    pub trial_passed : (equal : Bool) → ends_well (out_of t cs bs u (checked l t r a equal)) ≡ true → (100 ≤ (counted r a equal).rereads) × ((counted r a equal).failures ≤ 30)
+    trial_passed equal =
         let x : Trial = counted r a equal in
         checked_cases N l t r a equal
         (record {
-          stops = λ e. stops N not-well l r;
+          stops = λ e. stops N not_well l r;
           counts = λ e. record {
             again = λ f h. clash h refl;
             passes = λ f g. let z : (100 ≤ x.rereads) × (x.failures ≤ 30) = (ltb-false x.rereads 100 f, leb-true x.failures 30 g) in record { moved = λ i h. z; listed = λ i j h. z; stays = λ i j h. z };
-            fails = λ f g. misses N not-well l x _;
+            fails = λ f g. misses N not_well l x _;
           };
         })
       where
         N : Turn → Type 0
         N x = ends_well (out_of t cs bs u x) ≡ true → (100 ≤ (counted r a equal).rereads) × ((counted r a equal).failures ≤ 30)
 
-        not-well : (x : Turn) → Fails x → N x
-        not-well x f h = absurd (f.bad h)
+        not_well : (x : Turn) → Fails x → N x
+        not_well x f h = absurd (f.bad h)
 
 -- Says whether a call finished with "no spare", or asks for the store with that ending.
 abbrev pub says_no_spare : Out → Bool
@@ -276,65 +276,65 @@ module _ (l : State) (t : Table) (cs bs u : List ℕ) where
   spent : (c : Change) (s : Seen) (p : Part) → 32 ≤ (changed c t bs).nspares → Full (finish l c ending.NoSpare s p)
   spent c s p h = finish_cases Full l c ending.NoSpare s p (record { asks = λ q z. h; reports = λ q z. h })
 
-  killed-most : 32 ≤ t.nspares + 1 → 32 ≤ (killed_next t).nspares
+  killed_most : 32 ≤ t.nspares + 1 → 32 ≤ (killed_next t).nspares
   unfolding killed_next
-  killed-most h = branch (λ (x : Table). 32 ≤ x.nspares) (ltb t.nspares 32) (λ e. h) (λ e. ltb-false t.nspares 32 e)
+  killed_most h = branch (λ (x : Table). 32 ≤ x.nspares) (ltb t.nspares 32) (λ e. h) (λ e. ltb-false t.nspares 32 e)
 
-  left-full : (b : Block) (s : Seen) {x y : Cause} → NextSpare Full t.nspares l change.Keep b s x y
-  left-full b s = record { spare = λ g z. clash z refl; no-spare = λ g. spent change.Keep s part.Kept (ltb-false t.nspares 32 g) }
+  left_full : (b : Block) (s : Seen) {x y : Cause} → NextSpare Full t.nspares l change.Keep b s x y
+  left_full b s = record { spare = λ g z. clash z refl; no_spare = λ g. spent change.Keep s part.Kept (ltb-false t.nspares 32 g) }
 
-  misses-full : (r : Trial) (s : Seen) {x : Cause} → Missed Full l t r s x
-  misses-full r s =
+  misses_full : (r : Trial) (s : Seen) {x : Cause} → Missed Full l t r s x
+  misses_full r s =
       record {
-        dead = λ e. record { spare = λ g z. clash z refl; no-spare = λ g. spent (change.Kill _) s part.Kept (killed-most (ltb-false (t.nspares + 1) 32 g)) };
-        left = λ e. left-full r.block s;
+        dead = λ e. record { spare = λ g z. clash z refl; no_spare = λ g. spent (change.Kill _) s part.Kept (killed_most (ltb-false (t.nspares + 1) 32 g)) };
+        left = λ e. left_full r.block s;
       }
 
-  stops-full : (r : Trial) → Stopped Full l r
+  stops_full : (r : Trial) → Stopped Full l r
   unfolding bit
-  stops-full r = record { dead = λ e. quiet _ ending.Latched _ _ refl; present = λ e. quiet _ ending.Latched _ _ refl }
+  stops_full r = record { dead = λ e. quiet _ ending.Latched _ _ refl; present = λ e. quiet _ ending.Latched _ _ refl }
 
-  pub no-spare-tried : (r : Trial) (a : ℕ) → Full (tried l t r a)
-  no-spare-tried r a = tried_cases Full l t r a (record { done = λ e z. clash z refl; stops = λ e. stops-full r; fails = λ e f. misses-full r _ })
+  pub no_spare_tried : (r : Trial) (a : ℕ) → Full (tried l t r a)
+  no_spare_tried r a = tried_cases Full l t r a (record { done = λ e z. clash z refl; stops = λ e. stops_full r; fails = λ e f. misses_full r _ })
 
-  pub no-spare-checked : (r : Trial) (a : ℕ) (equal : Bool) → Full (checked l t r a equal)
+  pub no_spare_checked : (r : Trial) (a : ℕ) (equal : Bool) → Full (checked l t r a equal)
   unfolding bit
-  no-spare-checked r a equal =
+  no_spare_checked r a equal =
       checked_cases Full l t r a equal
       (record {
-        stops = λ e. stops-full r;
+        stops = λ e. stops_full r;
         counts = λ e. record {
           again = λ f z. clash z refl;
           passes = λ f g. record { moved = λ i. quiet _ ending.Moved _ _ refl; listed = λ i j. quiet _ ending.Good _ _ refl; stays = λ i j. quiet _ ending.Good _ _ refl };
-          fails = λ f g. misses-full (counted r a equal) _;
+          fails = λ f g. misses_full (counted r a equal) _;
         };
       })
 
-  pub no-spare-written : (w : Target) (a : ℕ) → Full (write_answered l t w a)
+  pub no_spare_written : (w : Target) (a : ℕ) → Full (write_answered l t w a)
   unfolding bit
-  no-spare-written w a =
+  no_spare_written w a =
       write_cases Full l t w a
-      (record { verifies = λ e f z. clash z refl; done = λ e f. quiet _ ending.Good _ _ refl; stops = λ e f. quiet _ ending.Latched _ _ refl; moves = λ e f. left-full w.block _ })
+      (record { verifies = λ e f z. clash z refl; done = λ e f. quiet _ ending.Good _ _ refl; stops = λ e f. quiet _ ending.Latched _ _ refl; moves = λ e f. left_full w.block _ })
 
   -- A first verify and a read do not say so at all.
-  pub no-spare-verified : (w : Target) (a : ℕ) (equal : Bool) → Full (verify_answered l w a equal)
+  pub no_spare_verified : (w : Target) (a : ℕ) (equal : Bool) → Full (verify_answered l w a equal)
   unfolding bit
-  no-spare-verified w a equal =
+  no_spare_verified w a equal =
       verify_cases Full l w a equal (record { stops = λ e. quiet _ ending.Latched _ _ refl; done = λ e f. quiet _ ending.Good _ _ refl; fails = λ e f z. clash z refl })
 
   -- The finish after the store says what the ending that waited says.
-  pub no-spare-stored : (k : Close) (a : ℕ) → says_no_spare (out_of t cs bs u (store_answered k l a)) ≡ bit 64 (row_of k.ending).1
+  pub no_spare_stored : (k : Close) (a : ℕ) → says_no_spare (out_of t cs bs u (store_answered k l a)) ≡ bit 64 (row_of k.ending).1
   unfolding store_answered status_left status_of
-  no-spare-stored k a = refl
+  no_spare_stored k a = refl
 
-  pub no-spare-read : (x : Outcome) (p : Part) → Full (reads x l t p)
+  pub no_spare_read : (x : Outcome) (p : Part) → Full (reads x l t p)
   unfolding reads bit
-  no-spare-read (outcome.Done r) p = quiet _ ending.Good _ p refl
-  no-spare-read (outcome.Again r) p = λ z. clash z refl
-  no-spare-read (outcome.Settle r) p = settled_cases Full l r p (record { below = λ e. quiet _ ending.Good _ p refl; latched = λ e f. quiet _ ending.Latched _ p refl; tries = λ e f z. clash z refl })
-  no-spare-read (outcome.Lost r) p =
+  no_spare_read (outcome.Done r) p = quiet _ ending.Good _ p refl
+  no_spare_read (outcome.Again r) p = λ z. clash z refl
+  no_spare_read (outcome.Settle r) p = settled_cases Full l r p (record { below = λ e. quiet _ ending.Good _ p refl; latched = λ e f. quiet _ ending.Latched _ p refl; tries = λ e f z. clash z refl })
+  no_spare_read (outcome.Lost r) p =
       lost_cases Full l t r p (record { listed = λ e. quiet _ ending.Failed _ p refl; entered = λ e f. quiet _ ending.Failed _ p refl; full = λ e f. quiet _ ending.BadFull _ p refl })
-  no-spare-read (outcome.Stop r) p = quiet _ ending.Latched _ p refl
+  no_spare_read (outcome.Stop r) p = quiet _ ending.Latched _ p refl
 
 -- Returns the result of a command that ended well and finished with these bytes in the data part: good, or failed by bit 0 alone for
 -- want of a store; and of one that asks for the store first.
@@ -371,9 +371,9 @@ module _ (r : Retry) (l : State) (t : Table) (cs u bs : List ℕ) (equal : Bool)
   first_fails h = rw (eq-eqb (length bs) 532 lb, f, g, wants_none l.marks h, h, take_all 532 bs (omega arith), data_put u bs lu lb, data_with u bs lu)
 
   -- With something to store the store comes first,
-  pub first-stores : stores l.marks ≡ true → out_of t cs bs u (answered (phase.Awaiting (access.Read r)) l t 0 bs equal) ≡ stores_with t cs l r.seen u bs
+  pub first_stores : stores l.marks ≡ true → out_of t cs bs u (answered (phase.Awaiting (access.Read r)) l t 0 bs equal) ≡ stores_with t cs l r.seen u bs
   unfolding answered fitting follows after_read reads kept_part part_left status_left finish
-  first-stores e = rw (eq-eqb (length bs) 532 lb, f, g, e, take_all 532 bs (omega arith), data_put u bs lu lb)
+  first_stores e = rw (eq-eqb (length bs) 532 lb, f, g, e, take_all 532 bs (omega arith), data_put u bs lu lb)
 
 -- and if that is done, the read is good with those bytes.
 pub then_good : (s : Seen) (l : State) (t : Table) (cs u bs : List ℕ) (equal : Bool) → length u ≡ 536
@@ -390,57 +390,57 @@ module _ (v : ℕ) (d : Drive) (u bs : List ℕ) (o : OffersRead v d) (ty : Type
   abbrev asked : Out
   asked = out_of d.table d.causes [] u (first_read order d.state (spare_list d.table))
 
-  not-this : (m : ℕ) → is_block m ≡ false → eqb order.number m ≡ false
-  not-this m e = ne_eqb order.number m (λ q. clash (ap is_block (sym q ∙ o.number) ∙ i) e)
+  not_this : (m : ℕ) → is_block m ≡ false → eqb order.number m ≡ false
+  not_this m e = ne_eqb order.number m (λ q. clash (ap is_block (sym q ∙ o.number) ∙ i) e)
 
   number_is : no_number order.kind order.number ≡ false
   unfolding no_number
   number_is = rw (o.number, i)
 
-  acts-read : acted order d.state d.table ≡ first_read order d.state (spare_list d.table)
+  acts_read : acted order d.state d.table ≡ first_read order d.state (spare_list d.table)
   unfolding acted
-  acts-read = rw (le-ltb 532 d.state.fed o.few, number_is, not-this 0xFFFFFE refl, o.known, not-this 0xFFFFFF refl, not-this 0xFFFFFD refl, o.kind)
+  acts_read = rw (le-ltb 532 d.state.fed o.few, number_is, not_this 0xFFFFFE refl, o.known, not_this 0xFFFFFF refl, not_this 0xFFFFFD refl, o.kind)
 
   -- The lower asks for the block's sector,
-  pub asks-for-it : lower_of d u 0x55 ≡ asked
+  pub asks_for_it : lower_of d u 0x55 ≡ asked
   unfolding part_left status_left
-  asks-for-it = acts_on v d u _ o lu acts-read
+  asks_for_it = acts_on v d u _ o lu acts_read
 
-  asked-ok : record_ok asked.step.drive ≡ true
+  asked_ok : record_ok asked.step.drive ≡ true
   unfolding step_of
-  asked-ok = subst (λ (x : Out). record_ok x.step.drive ≡ true) asks-for-it (step_valid (lower 0x55) d u (omega arith) ty o.valid)
+  asked_ok = subst (λ (x : Out). record_ok x.step.drive ≡ true) asks_for_it (step_valid (lower 0x55) d u (omega arith) ty o.valid)
 
   -- and its answer 0 ends the command, good, with the bytes that it brought, at once
-  pub gives-it : stores d.state.marks ≡ false → wants_store d.state.marks ≡ false → surface_of asked.step.drive u 0 bs ≡ good_with d.table d.causes asked.step.drive.state d.state.marks clean bs
+  pub gives_it : stores d.state.marks ≡ false → wants_store d.state.marks ≡ false → surface_of asked.step.drive u 0 bs ≡ good_with d.table d.causes asked.step.drive.state d.state.marks clean bs
   unfolding surface_of
-  gives-it e h = rw (asked-ok, eq-eqb (length u) 536 lu) (first_good _ asked.step.drive.state d.table d.causes u bs _ refl refl lu lb e h)
+  gives_it e h = rw (asked_ok, eq-eqb (length u) 536 lu) (first_good _ asked.step.drive.state d.table d.causes u bs _ refl refl lu lb e h)
 
   -- or failed by bit 0 alone, under the latch with a place unstored;
-  pub fails-it : wants_store d.state.marks ≡ true → surface_of asked.step.drive u 0 bs ≡ fails_with d.table d.causes asked.step.drive.state d.state.marks clean bs
+  pub fails_it : wants_store d.state.marks ≡ true → surface_of asked.step.drive u 0 bs ≡ fails_with d.table d.causes asked.step.drive.state d.state.marks clean bs
   unfolding surface_of
-  fails-it h = rw (asked-ok, eq-eqb (length u) 536 lu) (first_fails _ asked.step.drive.state d.table d.causes u bs _ refl refl lu lb h)
+  fails_it h = rw (asked_ok, eq-eqb (length u) 536 lu) (first_fails _ asked.step.drive.state d.table d.causes u bs _ refl refl lu lb h)
 
   -- or it asks for the store,
   abbrev storing : Out
   storing = stores_with d.table d.causes asked.step.drive.state clean u bs
 
-  pub stores-it : stores d.state.marks ≡ true → surface_of asked.step.drive u 0 bs ≡ storing
+  pub stores_it : stores d.state.marks ≡ true → surface_of asked.step.drive u 0 bs ≡ storing
   unfolding surface_of
-  stores-it e = rw (asked-ok, eq-eqb (length u) 536 lu) (first-stores _ asked.step.drive.state d.table d.causes u bs _ refl refl lu lb e)
+  stores_it e = rw (asked_ok, eq-eqb (length u) 536 lu) (first_stores _ asked.step.drive.state d.table d.causes u bs _ refl refl lu lb e)
 
-  storing-ok : record_ok storing.step.drive ≡ true
+  storing_ok : record_ok storing.step.drive ≡ true
   unfolding record_ok state_ok
-  storing-ok = rw o.known (rw o.offered at o.valid)
+  storing_ok = rw o.known (rw o.offered at o.valid)
 
   -- and that store's answer 0 ends it, good, with those bytes.
-  pub then-gives-it : surface_of storing.step.drive storing.bytes 0 [] ≡ good_with d.table d.causes storing.step.drive.state (store_marks d.state.marks 0) clean bs
+  pub then_gives_it : surface_of storing.step.drive storing.bytes 0 [] ≡ good_with d.table d.causes storing.step.drive.state (store_marks d.state.marks 0) clean bs
   unfolding surface_of
-  then-gives-it = rw (storing-ok, eq-eqb (length (with_data u bs)) 536 (data_long u bs lu lb)) (then_good clean storing.step.drive.state d.table d.causes u bs _ lu)
+  then_gives_it = rw (storing_ok, eq-eqb (length (with_data u bs)) 536 (data_long u bs lu lb)) (then_good clean storing.step.drive.state d.table d.causes u bs _ lu)
 
   -- However it ends, its status 4 is the number of the R rereads answered 1 or 2, R being the fifth byte of the command.
-  pub status-4-of-it : (x : Reply) (xs : List Reply) → Completes command asked.step.drive u (x ∷ xs)
+  pub status_4_of_it : (x : Reply) (xs : List Reply) → Completes command asked.step.drive u (x ∷ xs)
       → get_or (left_by asked.step.drive u (x ∷ xs)) 3 0 ≡ cond (eqb x.number 0) 0 (failures (take (get_or d.state.command 4 0) (numbers xs)))
-  status-4-of-it x xs h = status_4 asked.step.drive u _ x xs (record { phase = refl; first = refl; clean = refl }) h
+  status_4_of_it x xs h = status_4 asked.step.drive u _ x xs (record { phase = refl; first = refl; clean = refl }) h
 
 -- Says that two turns agree in all but the command bytes and counts that they keep.
 pub record Alike (x y : Turn) : Type 0 where

@@ -73,7 +73,7 @@ pub record Older (l' l : List ℕ) (σ : Sectors) (ca : Block → List Bytes) (a
 pub record Books (t : Table) (σ : Sectors) (pl : Block → Where) (ca : Block → List Bytes) (also : Block → Bytes → Type 0) (mv : Bool) : Type 0 where
   pub shaped : Shaped t
   pub short : length (spare_list t) ≤ 32
-  pub where-is : (b : Block) → Blocky b → pl b ≡ at (place_of t b)
+  pub where_is : (b : Block) → Blocky b → pl b ≡ at (place_of t b)
   pub kept : (b : Block) (y : Bytes) → Blocky b → σ (place_of t b) ≡ held y → In y (ca b) ⊎ also b y
   pub older : (i : Bytes) → σ table_sector ≡ held i → well_formed i ≡ true → Older (spare_list (table_of i)) (spare_list t) σ ca also mv
 
@@ -118,7 +118,7 @@ pub data Shake (u : Bytes) : Phase → Bytes → ℕ → ℕ → Answer → Byte
 -- Says that what the history will take for the command's bytes is the data part. rd: the command is a read.
 pub record Bound (ca : Block → List Bytes) (b : Block) (rd : Bool) (u mine : Bytes) : Type 0 where
   pub as_read : rd ≡ true → In (data_of u) (ca b)
-  pub as-write : rd ≡ false → data_of u ≡ mine
+  pub as_write : rd ≡ false → data_of u ≡ mine
 
 -- Says that a trial is on the block's present sector, or on the next unused spare.
 pub record Spot (t : Table) (b : Block) (r : Trial) : Type 0 where
@@ -156,17 +156,17 @@ pub data Owes (t : Table) (σ : Sectors) (pl : Block → Where) (ca : Block → 
 pub record Closing (t : Table) (σ : Sectors) (pl : Block → Where) (ca : Block → List Bytes) (mv : Bool) (b : Block) (rd : Bool) (u mine : Bytes) (e : Ending) (wr : Bool) (lr : Where) : Type 0 where
   pub owes : Owes t σ (placed (is_move e) b lr pl) ca mv b rd u mine wr
   pub as_read : fails e ≡ false → rd ≡ true → In (data_of u) (ca b)
-  pub as-write : fails e ≡ false → rd ≡ false → data_of u ≡ mine
+  pub as_write : fails e ≡ false → rd ≡ false → data_of u ≡ mine
   pub sole : fails e ≡ false → Sole σ (place_of t b) u
 
 -- THE INVARIANT: lists what record, buffer, sectors and history may be together.
 pub data Sim (start : Sectors) : World → History → Type 0 where
-  at-start : {t : Table} {cs : Bytes} {mk : Marks} {c : Bytes} {n f k rn : ℕ} {u : Bytes} {σ : Sectors} {pl : Block → Where} {ca : Block → List Bytes} {h fd : Bytes} {to wr : Bool} {lr : Where} {ln fn : Bool}
+  at_start : {t : Table} {cs : Bytes} {mk : Marks} {c : Bytes} {n f k rn : ℕ} {u : Bytes} {σ : Sectors} {pl : Block → Where} {ca : Block → List Bytes} {h fd : Bytes} {to wr : Bool} {lr : Where} {ln fn : Bool}
       → length c ≡ 6 → mk.known ≡ false → mk.moved ≡ false → Unread start σ pl ca ln
       → Sim start (world_of t cs (state_of (phase.Awaiting (access.Start k)) mk c n f rn) u σ (answer.Read table_sector)) (history_of pl ca (answer.Read table_sector) h fd false to wr lr ln fn)
   at_rest : {t : Table} {cs : Bytes} {mk : Marks} {c : Bytes} {n f rn : ℕ} {p : Phase} {u : Bytes} {σ : Sectors} {a : Answer} {pl : Block → Where} {ca : Block → List Bytes} {h fd : Bytes} {to wr : Bool} {lr : Where} {ln fn : Bool}
       → length c ≡ 6 → Sound mk → Ground start mk.known mk.moved t σ pl ca ln fn → Shake u p c n f a h fd → Sim start (world_of t cs (state_of p mk c n f rn) u σ a) (history_of pl ca a h fd false to wr lr ln fn)
-  at-work : {t : Table} {cs : Bytes} {mk : Marks} {c : Bytes} {n f rn : ℕ} {x : Access} {u : Bytes} {σ : Sectors} {a : Answer} {pl : Block → Where} {ca : Block → List Bytes} {h fd : Bytes} {wr : Bool} {lr : Where} {ln fn : Bool} {b : Block} {rd : Bool}
+  at_work : {t : Table} {cs : Bytes} {mk : Marks} {c : Bytes} {n f rn : ℕ} {x : Access} {u : Bytes} {σ : Sectors} {a : Answer} {pl : Block → Where} {ca : Block → List Bytes} {h fd : Bytes} {wr : Bool} {lr : Where} {ln fn : Bool} {b : Block} {rd : Bool}
       → length c ≡ 6 → mk.known ≡ true → Sound mk → ln ≡ true → fn ≡ true → Blocky b → number_of h ≡ b.0 → is_read (kind_of h) ≡ rd → Work t σ pl ca mk.moved b rd u (padded fd) x a wr lr
       → Sim start (world_of t cs (state_of (phase.Awaiting x) mk c n f rn) u σ a) (history_of pl ca a h fd true true wr lr ln fn)
   at_store : {t : Table} {cs : Bytes} {mk : Marks} {c : Bytes} {n f rn : ℕ} {k : Close} {u : Bytes} {σ : Sectors} {pl : Block → Where} {ca : Block → List Bytes} {h fd : Bytes} {to wr : Bool} {lr : Where} {ln fn : Bool} {b : Block} {rd : Bool}
@@ -193,7 +193,7 @@ ev c sp = record { call = c; spoils = sp }
 pub declined : {start : Sectors} {t : Table} {cs : Bytes} {l : State} {u : Bytes} {σ : Sectors} {a : Answer} {H : History} (c : Call) (sp : Bool) (r : Refusal) (bs : Bytes)
     → Sim start (world_of t cs l u σ a) H → Good start (world_of t cs l u σ a) H (ev c sp) (out_of t cs bs u (refuse r l))
 unfolding next part_left status_left
-declined c sp r bs m = λ ok. (record { fits = record { read-rule = λ x. clash x refl; first-rule = λ x. clash x refl }; tabled = λ x. clash x refl }, m)
+declined c sp r bs m = λ ok. (record { fits = record { read_rule = λ x. clash x refl; first_rule = λ x. clash x refl }; tabled = λ x. clash x refl }, m)
 
 -- NO TWO BLOCKS ARE AT ONE SECTOR, by the invariant.
 pub at_inj : {a b : Sector} → at a ≡ at b → a ≡ b
@@ -203,7 +203,7 @@ not_at : {s : Sector} → nowhere ≡ at s → ⊥
 not_at e = let z : ◌≡◌ {A = ℕ} 0 1 = cc in omega arith
 
 pub books_apart : {t : Table} {σ : Sectors} {pl : Block → Where} {ca : Block → List Bytes} {also : Block → Bytes → Type 0} {mv : Bool} → Books t σ pl ca also mv → Apart pl
-books_apart {t} k b c s ib ic eb ec = sectors_apart (spare_list t) b c k.short (at_inj (sym (k.where-is b ib) ∙ (eb ∙ (sym ec ∙ k.where-is c ic))))
+books_apart {t} k b c s ib ic eb ec = sectors_apart (spare_list t) b c k.short (at_inj (sym (k.where_is b ib) ∙ (eb ∙ (sym ec ∙ k.where_is c ic))))
 
 pub work_apart : {t : Table} {σ : Sectors} {pl : Block → Where} {ca : Block → List Bytes} {mv : Bool} {b : Block} {rd : Bool} {u mine : Bytes} {p : Access} {a : Answer} {wr : Bool} {lr : Where}
     → Work t σ pl ca mv b rd u mine p a wr lr → Apart pl
@@ -224,7 +224,7 @@ ground_apart {known = known} {pl = pl} g = go known refl
     go false q = (g.tableless q).apart
 
 pub sim_apart : {start : Sectors} {w : World} {H : History} → Sim start w H → Apart H.place
-sim_apart (at-start l k v g) = g.apart
+sim_apart (at_start l k v g) = g.apart
 sim_apart (at_rest l v g m) = ground_apart g
-sim_apart (at-work l k v el ef i n r m) = work_apart m
+sim_apart (at_work l k v el ef i n r m) = work_apart m
 sim_apart (at_store l k v el ef i n r o a m) = a

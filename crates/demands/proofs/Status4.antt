@@ -105,7 +105,7 @@ module _ (t : Table) (l : State) (bs u : List ℕ) (F : List ℕ → ℕ) where
 
   -- sparing,
   nexts : (n : ℕ) (c : Change) (b : Block) (s : Seen) → ((ys : List ℕ) → s.errors ≡ F ys) → {x y : Cause} → NextSpare K n l c b s x y
-  nexts n c b s h = record { spare = λ e. inr (refl, refl, refl, h); no-spare = λ e. ended _ _ _ _ h }
+  nexts n c b s h = record { spare = λ e. inr (refl, refl, refl, h); no_spare = λ e. ended _ _ _ _ h }
 
   misses : (r : Trial) (s : Seen) → ((ys : List ℕ) → s.errors ≡ F ys) → {x : Cause} → Missed K l t r s x
   misses r s h = record { dead = λ e. nexts _ _ r.block s h; left = λ e. nexts _ _ r.block s h }

@@ -72,15 +72,15 @@ module _ (c : Call) (a : Answer) (e : Ending) (s : Seen) (unstored unsettled n :
   abbrev pub ended : Bytes
   ended = four (status_of e s unstored unsettled n) ++ data_of u
 
-  pub good-is : good (record { call = c; answer = a; buffer = ended }) ≡ not (fails e || unstored)
+  pub good_is : good (record { call = c; answer = a; buffer = ended }) ≡ not (fails e || unstored)
   unfolding good status_of bit
-  good-is =
+  good_is =
       ap not (ap (λ (x : ℕ). eqb x 1) (bit_0 ((row_of e).0 + cond (fails e || unstored) 1 0) (latches e || unsettled) s.crc s.timeout) ∙ failed_bit (row_of e).0 (fails e || unstored) (even_row e))
 
-  pub moves-is : moves (record { call = c; answer = a; buffer = ended }) ≡ is_move e
+  pub moves_is : moves (record { call = c; answer = a; buffer = ended }) ≡ is_move e
   unfolding moves status_of
-  moves-is = moved_bit e
+  moves_is = moved_bit e
 
-  pub data-ended : data_of ended ≡ data_of u
+  pub data_ended : data_of ended ≡ data_of u
   unfolding status_of data_of
-  data-ended = refl
+  data_ended = refl

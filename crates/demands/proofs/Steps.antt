@@ -49,19 +49,19 @@ use Rattle.drive.specs.Views.{Bytes, Where, at, of_answer}
 use Rattle.records.proofs.Ladders.{guarded_cases, after_read_cases, write_cases, verify_cases, tried_cases, checked_cases, start_cases}
 use Rattle.demands.proofs.Parts.{data_with, data_put}
 use Rattle.demands.proofs.Statuses.{is_move}
-use Rattle.demands.proofs.Sim.{state_of, world_of, history_of, Blocky, place_of, Books, Quiet, Own, Unread, Ground, Sound, resting, Bound, Spot, Sole, Work, rereads, writing, verifying, trying, checking, placed, Owes, nothing, bytes, Closing, Sim, at-start, at_rest, at-work, at_store, work_apart, Good, ev, declined}
-use Rattle.demands.proofs.Books.{same_sector_lem, held_inj, put_sector_same, put_other, books-write, books-spare, books-stored, books-weaken, books_read}
-use Rattle.demands.proofs.Entries.{fits-silent}
+use Rattle.demands.proofs.Sim.{state_of, world_of, history_of, Blocky, place_of, Books, Quiet, Own, Unread, Ground, Sound, resting, Bound, Spot, Sole, Work, rereads, writing, verifying, trying, checking, placed, Owes, nothing, bytes, Closing, Sim, at_start, at_rest, at_work, at_store, work_apart, Good, ev, declined}
+use Rattle.demands.proofs.Books.{same_sector_lem, held_inj, put_sector_same, put_other, books_write, books_spare, books_stored, books_weaken, books_read}
+use Rattle.demands.proofs.Entries.{fits_silent}
 use Rattle.records.proofs.Passed.{passed as parts}
 use Rattle.demands.proofs.Rest.{ruled, loads, Keeps, awaiting, rests}
-use Rattle.demands.proofs.Busy.{Job, l₂, G₂, D, σ₂, R₂, closing-own, reports-end, closes, ends-failed, goes-trying, goes-verifying, goes-checking, next-spare, misses, stops, passes, Gr, goes_on, reads-stopped, reads-fine}
+use Rattle.demands.proofs.Busy.{Job, l₂, G₂, D, σ₂, R₂, closing_own, reports_end, closes, ends_failed, goes_trying, goes_verifying, goes_checking, next_spare_lem, misses, stops, passes, Gr, goes_on, reads_stopped, reads_fine}
 
 -- A write done leaves its bytes, or nothing that can be read.
 not_unreadable : {y x : Bytes} → unreadable ≡ held y → y ≡ x
-not_unreadable e = let z : ◌≡◌ {A = ℕ} 0 1 = cc in absurd (not-zero z)
+not_unreadable e = let z : ◌≡◌ {A = ℕ} 0 1 = cc in absurd (not_zero z)
   where
-    not-zero : ◌≡◌ {A = ℕ} 0 1 → ⊥
-    not-zero z = omega arith
+    not_zero : ◌≡◌ {A = ℕ} 0 1 → ⊥
+    not_zero z = omega arith
 
 pub left_is : (sp : Bool) (x y : Bytes) → cond sp unreadable (held x) ≡ held y → y ≡ x
 left_is true x y e = not_unreadable e
@@ -88,10 +88,10 @@ pub after_try : (t : Table) (σ : Sectors) (pl : Block → Where) (ca : Block �
 after_try t σ pl ca mv b x sp r i st k = go r.spare refl
   where
     go : (q : Bool) → r.spare ≡ q → Books t (put_sector σ r.sector (cond sp unreadable (held x))) pl ca (Own b x) mv
-    go false q = rw (st.present q) (books-write b x (cond sp unreadable (held x)) i (λ z y e. e) (left_is sp x) k)
+    go false q = rw (st.present q) (books_write b x (cond sp unreadable (held x)) i (λ z y e. e) (left_is sp x) k)
     go true q =
         rw (st.aside q).1
-        (books-spare t.nspares (cond sp unreadable (held x)) (omega (arith, length-take t.nspares t.spares)) (st.aside q).0 k)
+        (books_spare t.nspares (cond sp unreadable (held x)) (omega (arith, length-take t.nspares t.spares)) (st.aside q).0 k)
 
 -- A READ ANSWERED.
 module _ {s : Sector} (j : Job (answer.Read s)) (r : Retry) (eb : r.block ≡ j.block) (er : r.sector ≡ s) (es : s ≡ place_of j.table j.block) (op : j.reads ≡ true)
@@ -108,26 +108,26 @@ module _ {s : Sector} (j : Job (answer.Read s)) (r : Retry) (eb : r.block ≡ j.
       let n : length bs ≡ 532 = rw q at lb in
       rw (take_all 532 bs (omega (arith, n)), data_put u bs lu n) (data_with u bs lu)
 
-  after-good : eqb a 0 ≡ true → R₂ j → σ (place_of t b) ≡ held (D j v)
+  after_good : eqb a 0 ≡ true → R₂ j → σ (place_of t b) ≡ held (D j v)
   unfolding kept_part part_left
-  after-good q ok =
+  after_good q ok =
       let e = eqb-true a 0 q in
       let one : leb a 1 ≡ true = rw e in
       branch (λ (x : Part). σ (place_of t b) ≡ held (D j x)) (leb a 1 && not r.good) (λ y. rw (← es, filled one) (rw q at ok)) (λ y. rw (← es) (g (not-false r.good (rw one at y))))
 
-  after-bad : R₂ j → r.good ≡ true → σ (place_of t b) ≡ held (D j v)
+  after_bad : R₂ j → r.good ≡ true → σ (place_of t b) ≡ held (D j v)
   unfolding kept_part part_left
-  after-bad ok w = rw (w, and_false (leb a 1) false refl) (rw (← es) (g w))
+  after_bad ok w = rw (w, and_false (leb a 1) false refl) (rw (← es) (g w))
 
-  read-answered : G₂ j (reads (after_read r a) (l₂ j) t v)
+  read_answered : G₂ j (reads (after_read r a) (l₂ j) t v)
   unfolding reads failed
-  read-answered =
+  read_answered =
       after_read_cases (Gr j et op k v) r a
       (record {
-        done = λ q z. reads-fine j et op k v r.seen (after-good q);
-        passes = λ q z. goes_on j et op k v (passed r) eb (er ∙ es) (λ ok y. after-good q ok);
-        stops = λ q z. reads-stopped j et op k v r.seen;
-        fails = λ q z. goes_on j et op k v (failed r a) eb (er ∙ es) after-bad;
+        done = λ q z. reads_fine j et op k v r.seen (after_good q);
+        passes = λ q z. goes_on j et op k v (passed r) eb (er ∙ es) (λ ok y. after_good q ok);
+        stops = λ q z. reads_stopped j et op k v r.seen;
+        fails = λ q z. goes_on j et op k v (failed r a) eb (er ∙ es) after_bad;
       })
 
 -- What was written to a sector is all that it can hold.
@@ -138,30 +138,30 @@ landed_sole σ s sp u y e = left_is sp (data_of u) y (rw put_sector_same at e)
 module _ {s : Sector} (j : Job (answer.Write s)) (et : j.touched ≡ true) where
   open j use {sectors as σ, table as t, marks as mk, buffer as u, place as pl, candidates as ca, given as fd, wrote as wr, block as b, reads as rd, number as a, spoils as sp, blocky as i, valid as tk}
 
-  write-answered : (w : Target) → w.block ≡ b → w.sector ≡ s → s ≡ place_of t b → wr ≡ true → rd ≡ false → data_of u ≡ padded fd → Books t σ pl ca Quiet mk.moved → G₂ j (write_answered (l₂ j) t w a)
+  write_answered_lem : (w : Target) → w.block ≡ b → w.sector ≡ s → s ≡ place_of t b → wr ≡ true → rd ≡ false → data_of u ≡ padded fd → Books t σ pl ca Quiet mk.moved → G₂ j (write_answered (l₂ j) t w a)
   unfolding part_left
-  write-answered w eb er es wt op ed k =
+  write_answered_lem w eb er es wt op ed k =
       write_cases (G₂ j) (l₂ j) t w a
       (record {
-        verifies = λ q z. goes-verifying j et wt w part.Kept eb (er ∙ es) op ed (rw (q, er) (landed_sole σ s sp u)) (rw (q, es) own);
-        done = λ q z. closes j change.Keep ending.Good clean part.Kept (λ ok. tk) (λ ok. rw (q, es) (closing-own wt bd own (λ x. landed_sole σ (place_of t b) sp u)));
-        stops = λ q z. ends-failed j wt change.Keep ending.Latched clean part.Kept refl refl (λ ok. tk) bd (λ ok. rw q (books-weaken b (data_of u) k));
-        moves = λ q z. next-spare j et wt change.Keep t.nspares w.block (met a clean) eb (λ ok. tk) bd refl (λ ok. rw q (books-weaken b (data_of u) k));
+        verifies = λ q z. goes_verifying j et wt w part.Kept eb (er ∙ es) op ed (rw (q, er) (landed_sole σ s sp u)) (rw (q, es) own);
+        done = λ q z. closes j change.Keep ending.Good clean part.Kept (λ ok. tk) (λ ok. rw (q, es) (closing_own wt bd own (λ x. landed_sole σ (place_of t b) sp u)));
+        stops = λ q z. ends_failed j wt change.Keep ending.Latched clean part.Kept refl refl (λ ok. tk) bd (λ ok. rw q (books_weaken b (data_of u) k));
+        moves = λ q z. next_spare_lem j et wt change.Keep t.nspares w.block (met a clean) eb (λ ok. tk) bd refl (λ ok. rw q (books_weaken b (data_of u) k));
       })
     where
       own : Books t (put_sector σ (place_of t b) (cond sp unreadable (held (data_of u)))) pl ca (Own b (data_of u)) mk.moved
-      own = books-write b (data_of u) (cond sp unreadable (held (data_of u))) i (λ x y e. absurd e) (left_is sp (data_of u)) k
+      own = books_write b (data_of u) (cond sp unreadable (held (data_of u))) i (λ x y e. absurd e) (left_is sp (data_of u)) k
 
       bd : Bound ca b rd u (padded fd)
-      bd = record { as_read = λ z. clash z op; as-write = λ z. ed }
+      bd = record { as_read = λ z. clash z op; as_write = λ z. ed }
 
   -- and a trial's.
-  try-answered : (r : Trial) → r.block ≡ b → r.sector ≡ s → wr ≡ true → Spot t b r → Bound ca b rd u (padded fd) → Books t σ pl ca (Own b (data_of u)) mk.moved → G₂ j (tried (l₂ j) t r a)
+  try_answered : (r : Trial) → r.block ≡ b → r.sector ≡ s → wr ≡ true → Spot t b r → Bound ca b rd u (padded fd) → Books t σ pl ca (Own b (data_of u)) mk.moved → G₂ j (tried (l₂ j) t r a)
   unfolding part_left
-  try-answered r eb er wt st bd k =
+  try_answered r eb er wt st bd k =
       tried_cases (G₂ j) (l₂ j) t r a
       (record {
-        done = λ q. goes-checking j et wt r part.Kept eb st bd (rw (q, er) (landed_sole σ s sp u)) (rw (q, ← er) (after_try t σ pl ca mk.moved b (data_of u) sp r i st k));
+        done = λ q. goes_checking j et wt r part.Kept eb st bd (rw (q, er) (landed_sole σ s sp u)) (rw (q, ← er) (after_try t σ pl ca mk.moved b (data_of u) sp r i st k));
         stops = λ z. let q : eqb a 0 ≡ false = rw (eqb-true a 3 z) in stops j et wt r eb st bd (λ ok. rw q k);
         fails = λ q z. misses j et wt r eb st bd (λ ok. rw q k) (met a r.seen);
       })
@@ -170,24 +170,24 @@ module _ {s : Sector} (j : Job (answer.Write s)) (et : j.touched ≡ true) where
 module _ {s : Sector} (j : Job (answer.Read s)) (et : j.touched ≡ true) where
   open j use {sectors as σ, table as t, marks as mk, buffer as u, place as pl, candidates as ca, given as fd, wrote as wr, last_read as lr, block as b, reads as rd, number as a, blocky as i, valid as tk}
 
-  verify-answered : (w : Target) → w.block ≡ b → w.sector ≡ s → s ≡ place_of t b → wr ≡ true → rd ≡ false → data_of u ≡ padded fd → Sole σ s u → Books t σ pl ca (Own b (data_of u)) mk.moved
+  verify_answered_lem : (w : Target) → w.block ≡ b → w.sector ≡ s → s ≡ place_of t b → wr ≡ true → rd ≡ false → data_of u ≡ padded fd → Sole σ s u → Books t σ pl ca (Own b (data_of u)) mk.moved
       → (equal : Bool) → G₂ j (verify_answered (l₂ j) w a equal)
   unfolding part_left
-  verify-answered w eb er es wt op ed so k equal =
+  verify_answered_lem w eb er es wt op ed so k equal =
       verify_cases (G₂ j) (l₂ j) w a equal
       (record {
-        stops = λ q. ends-failed j wt change.Keep ending.Latched clean part.Kept refl refl (λ ok. tk) bd (λ ok. k);
-        done = λ q z. closes j change.Keep ending.Good clean part.Kept (λ ok. tk) (λ ok. closing-own wt bd k (λ x y e. so y (rw es e)));
-        fails = λ q z. goes-trying j et change.Keep (on_present w.block w.sector _) part.Kept eb (record { present = λ x. er ∙ es; aside = λ x. clash x refl }) (λ ok. bd) (λ ok. k);
+        stops = λ q. ends_failed j wt change.Keep ending.Latched clean part.Kept refl refl (λ ok. tk) bd (λ ok. k);
+        done = λ q z. closes j change.Keep ending.Good clean part.Kept (λ ok. tk) (λ ok. closing_own wt bd k (λ x y e. so y (rw es e)));
+        fails = λ q z. goes_trying j et change.Keep (on_present w.block w.sector _) part.Kept eb (record { present = λ x. er ∙ es; aside = λ x. clash x refl }) (λ ok. bd) (λ ok. k);
       })
     where
       bd : Bound ca b rd u (padded fd)
-      bd = record { as_read = λ z. clash z op; as-write = λ z. ed }
+      bd = record { as_read = λ z. clash z op; as_write = λ z. ed }
 
-  check-answered : (r : Trial) → r.block ≡ b → r.sector ≡ s → wr ≡ true → lr ≡ at s → Spot t b r → Bound ca b rd u (padded fd) → Sole σ s u → Books t σ pl ca (Own b (data_of u)) mk.moved
+  check_answered : (r : Trial) → r.block ≡ b → r.sector ≡ s → wr ≡ true → lr ≡ at s → Spot t b r → Bound ca b rd u (padded fd) → Sole σ s u → Books t σ pl ca (Own b (data_of u)) mk.moved
       → (equal : Bool) → G₂ j (checked (l₂ j) t r a equal)
   unfolding part_left
-  check-answered r eb er wt el st bd so k equal =
+  check_answered r eb er wt el st bd so k equal =
       let r' : Trial = counted r a equal in
       let st' : Spot t b r' = record { present = st.present; aside = st.aside } in
       let so' : Sole σ r.sector u = rw er so in
@@ -195,7 +195,7 @@ module _ {s : Sector} (j : Job (answer.Read s)) (et : j.touched ≡ true) where
       (record {
         stops = λ q. stops j et wt r eb st bd (λ ok. k);
         counts = λ q. record {
-          again = λ z. goes-checking j et wt r' part.Kept eb st' bd so' k;
+          again = λ z. goes_checking j et wt r' part.Kept eb st' bd so' k;
           passes = λ z y. passes j et wt r' eb st' bd (λ ok. k) (el ∙ ap at (sym er)) so';
           fails = λ z y. misses j et wt r' eb st' bd (λ ok. k) _;
         };
@@ -256,28 +256,28 @@ module _ (start σ : Sectors) (t : Table) (cs : Bytes) (mk : Marks) (pl : Block 
   unfolding follows
   works et (rereads {r = r} {s = s} eb er es op g k) m =
       let nl = off_table s (λ y. not_table (spare_list t) b k.short (sym es ∙ y)) in
-      awaiting m (λ a bs sp z. read-answered (job (access.Read r) (answer.Read s) nl a bs sp) r eb er es op g k et (eqb-true (length bs) (cond (leb a 1) 532 0) z))
-  works et (writing {w = w} {s = s} wt eb er es op ed k) m = awaiting m (λ a bs sp z. write-answered (job (access.Write w) (answer.Write s) refl a bs sp) et w eb er es wt op ed k)
+      awaiting m (λ a bs sp z. read_answered (job (access.Read r) (answer.Read s) nl a bs sp) r eb er es op g k et (eqb-true (length bs) (cond (leb a 1) 532 0) z))
+  works et (writing {w = w} {s = s} wt eb er es op ed k) m = awaiting m (λ a bs sp z. write_answered_lem (job (access.Write w) (answer.Write s) refl a bs sp) et w eb er es wt op ed k)
   works et (verifying {w = w} {s = s} wt elr eb er es op ed only k) m =
       let nl = off_table s (λ y. not_table (spare_list t) b k.short (sym es ∙ y)) in
-      awaiting m (λ a bs sp z. verify-answered (job (access.Verify w) (answer.Read s) nl a bs sp) et w eb er es wt op ed only k _)
-  works et (trying {r = r} {s = s} wt eb er st bd k) m = awaiting m (λ a bs sp z. try-answered (job (access.TrialWrite r) (answer.Write s) refl a bs sp) et r eb er wt st bd k)
+      awaiting m (λ a bs sp z. verify_answered_lem (job (access.Verify w) (answer.Read s) nl a bs sp) et w eb er es wt op ed only k _)
+  works et (trying {r = r} {s = s} wt eb er st bd k) m = awaiting m (λ a bs sp z. try_answered (job (access.TrialWrite r) (answer.Write s) refl a bs sp) et r eb er wt st bd k)
   works et (checking {r = r} {s = s} wt elr eb er st bd only k) m =
       let nl = rw er at (not_at_table t b r k.short st) in
-      awaiting m (λ a bs sp z. check-answered (job (access.TrialRead r) (answer.Read s) nl a bs sp) et r eb er wt elr st bd only k _)
+      awaiting m (λ a bs sp z. check_answered (job (access.TrialRead r) (answer.Read s) nl a bs sp) et r eb er wt elr st bd only k _)
 
   -- THE STORE ANSWERED.
   module _ (cl : Close) (k : Closing t σ pl ca mk.moved b rd u (padded fd) cl.ending wr lr) where
     -- Done, the stored table is the record's.
     done : (sp : Bool) → Closing t (put_sector σ table_sector (cond sp unreadable (held (image_b rn t cs)))) pl ca false b rd u (padded fd) cl.ending wr lr
-    done sp = record { owes = go k.owes; as_read = k.as_read; as-write = k.as-write; sole = λ x y e. k.sole x y (sym (elsewhere k.owes) ∙ e) }
+    done sp = record { owes = go k.owes; as_read = k.as_read; as_write = k.as_write; sole = λ x y e. k.sole x y (sym (elsewhere k.owes) ∙ e) }
       where
         v : Content
         v = cond sp unreadable (held (image_b rn t cs))
 
         go : Owes t σ (placed (is_move cl.ending) b lr pl) ca mk.moved b rd u (padded fd) wr → Owes t (put_sector σ table_sector v) (placed (is_move cl.ending) b lr pl) ca false b rd u (padded fd) wr
-        go (nothing x q) = nothing x (books-stored rn cs v tk (left_is sp (image_b rn t cs)) q)
-        go (bytes w y d q) = bytes w y d (books-stored rn cs v tk (left_is sp (image_b rn t cs)) q)
+        go (nothing x q) = nothing x (books_stored rn cs v tk (left_is sp (image_b rn t cs)) q)
+        go (bytes w y d q) = bytes w y d (books_stored rn cs v tk (left_is sp (image_b rn t cs)) q)
 
         elsewhere : Owes t σ (placed (is_move cl.ending) b lr pl) ca mk.moved b rd u (padded fd) wr → put_sector σ table_sector v (place_of t b) ≡ σ (place_of t b)
         elsewhere (nothing x q) = put_other σ table_sector (place_of t b) v (λ z. not_table (spare_list t) b q.short z)
@@ -286,9 +286,9 @@ module _ (start σ : Sectors) (t : Table) (cs : Bytes) (mk : Marks) (pl : Block 
     abbrev jobs : ℕ → Bytes → Bool → Job answer.Store
     jobs a bs sp = job (access.Store cl) answer.Store refl a bs sp
 
-    store-answered : (a : ℕ) (bs : Bytes) (sp : Bool) → G₂ (jobs a bs sp) (store_answered cl (l₂ (jobs a bs sp)) a)
+    store_answered_lem : (a : ℕ) (bs : Bytes) (sp : Bool) → G₂ (jobs a bs sp) (store_answered cl (l₂ (jobs a bs sp)) a)
     unfolding store_answered part_left
-    store-answered a bs sp = reports-end (jobs a bs sp) (store_marks mk a) change.Keep cl.ending (met a cl.seen) (is_undone a) (eqb a 3) part.Kept kn sound (λ z. and_false mk.moved (is_undone a) z) (λ ok. go (eqb a 0) refl)
+    store_answered_lem a bs sp = reports_end (jobs a bs sp) (store_marks mk a) change.Keep cl.ending (met a cl.seen) (is_undone a) (eqb a 3) part.Kept kn sound (λ z. and_false mk.moved (is_undone a) z) (λ ok. go (eqb a 0) refl)
       where
         sound : Sound (store_marks mk a)
         sound x = and_true mk.changed (is_undone a) (so (and_left mk.moved (is_undone a) x)) (and_right mk.moved (is_undone a) x)
@@ -299,7 +299,7 @@ module _ (start σ : Sectors) (t : Table) (cs : Bytes) (mk : Marks) (pl : Block 
 
     stored : Sim start (Wx (access.Store cl) answer.Store) (Hx answer.Store) → (x : Call) (sp : Bool) → Keeps start (Wx (access.Store cl) answer.Store) (Hx answer.Store) x sp
     unfolding follows
-    stored m = awaiting m (λ a bs sp z. store-answered a bs sp)
+    stored m = awaiting m (λ a bs sp z. store_answered_lem a bs sp)
 
 -- THE START'S READS.
 module _ (start σ : Sectors) (t : Table) (cs : Bytes) (mk : Marks) (c : Bytes) (n f j rn : ℕ) (u : Bytes) (pl : Block → Where) (ca : Block → List Bytes) (h fd : Bytes) (to' wr : Bool) (lr : Where) (ln fn : Bool)
@@ -323,47 +323,47 @@ module _ (start σ : Sectors) (t : Table) (cs : Bytes) (mk : Marks) (c : Bytes) 
   abbrev ca₁ : Bytes → Block → List Bytes
   ca₁ bs = cond ln ca (λ b. contents (start (place_of (table_of bs) b)))
 
-  learns-well : (bs : Bytes) → well_formed bs ≡ true → σ table_sector ≡ held bs → (b : Block) (y : Bytes) → Blocky b → σ (place_of (table_of bs) b) ≡ held y → In y (ca₁ bs b)
-  learns-well bs wf here b y ib e = go ln refl
+  learns_well : (bs : Bytes) → well_formed bs ≡ true → σ table_sector ≡ held bs → (b : Block) (y : Bytes) → Blocky b → σ (place_of (table_of bs) b) ≡ held y → In y (ca₁ bs b)
+  learns_well bs wf here b y ib e = go ln refl
     where
       go : (q : Bool) → ln ≡ q → In y (cond q ca (λ z. contents (start (place_of (table_of bs) z))) b)
       go true q = un.safe q bs here wf b y ib e
       go false q = rw (ap (λ (z : Sectors). z (place_of (table_of bs) b)) (sym (un.untouched q)) ∙ e) (inl refl)
 
-  books-now : (bs : Bytes) → well_formed bs ≡ true → σ table_sector ≡ held bs → Books (table_of bs) σ (λ b. at (place_of (table_of bs) b)) (ca₁ bs) Quiet mk.moved
-  books-now bs wf here = rw em (books_read bs wf here (learns-well bs wf here))
+  books_now : (bs : Bytes) → well_formed bs ≡ true → σ table_sector ≡ held bs → Books (table_of bs) σ (λ b. at (place_of (table_of bs) b)) (ca₁ bs) Quiet mk.moved
+  books_now bs wf here = rw em (books_read bs wf here (learns_well bs wf here))
 
-  start-read : (a : ℕ) (bs : Bytes) (sp : Bool) → Gs a bs sp (start_answered j (state_of (phase.Awaiting (access.Start j)) mk c n f rn) a bs)
+  start_read : (a : ℕ) (bs : Bytes) (sp : Bool) → Gs a bs sp (start_answered j (state_of (phase.Awaiting (access.Start j)) mk c n f rn) a bs)
   unfolding part_left status_left next heard learns acts underway touches touches_first reports place_next candidates_next
-  start-read a bs sp =
+  start_read a bs sp =
       start_cases (Gs a bs sp) j (state_of (phase.Awaiting (access.Start j)) mk c n f rn) a bs
       (record {
         table = λ q. λ ok. (
-          fits-silent _ _ refl refl,
+          fits_silent _ _ refl refl,
           rw q (at_rest lc sound (record {
-            tabled = λ z. books-now bs (and_right (eqb a 0) (well_formed bs) q) (rw (and_left (eqb a 0) (well_formed bs) q) at ok);
+            tabled = λ z. books_now bs (and_right (eqb a 0) (well_formed bs) q) (rw (and_left (eqb a 0) (well_formed bs) q) at ok);
             tableless = λ z. clash refl z;
             learnt = λ z. refl;
             found = λ z. refl;
           }) (resting refl refl)),
         );
-        stops = λ q z. λ ok. (fits-silent _ _ refl refl, rw q (at_rest lc sound bare (resting refl refl)));
-        again = λ q y. λ ok. (fits-silent _ _ refl refl, rw q (at-start lc kn em un));
-        gives_up = λ q y. λ ok. (fits-silent _ _ refl refl, rw q (at_rest lc sound bare (resting refl refl)));
+        stops = λ q z. λ ok. (fits_silent _ _ refl refl, rw q (at_rest lc sound bare (resting refl refl)));
+        again = λ q y. λ ok. (fits_silent _ _ refl refl, rw q (at_start lc kn em un));
+        gives_up = λ q y. λ ok. (fits_silent _ _ refl refl, rw q (at_rest lc sound bare (resting refl refl)));
       })
 
   starts : Sim start Ws Hb → (x : Call) (sp : Bool) → Keeps start Ws Hb x sp
   unfolding follows
-  starts m = awaiting m (λ a bs sp z. start-read a bs sp)
+  starts m = awaiting m (λ a bs sp z. start_read a bs sp)
 
 -- ONE CALL, past the codes 1 and 2.
 kept_by_rule : {start : Sectors} {w : World} {H : History} → Sim start w H → length w.buffer ≡ 536 → table_ok w.drive.table ≡ true → (x : Call) (sp : Bool)
     → Keeps start w H x sp
-kept_by_rule {start} (at-start {t = t} {cs = cs} {mk = mk} {c = c} {n = n} {f = f} {k = k} {rn = rn} {u = u} {σ = σ} {pl = pl} {ca = ca} {h = h} {fd = fd} {to = to} {wr = wr} {lr = lr} {ln = ln} {fn = fn} lc kn em un) lu tk x sp =
-    starts start σ t cs mk c n f k rn u pl ca h fd to wr lr ln fn lc kn em un (at-start lc kn em un) x sp
+kept_by_rule {start} (at_start {t = t} {cs = cs} {mk = mk} {c = c} {n = n} {f = f} {k = k} {rn = rn} {u = u} {σ = σ} {pl = pl} {ca = ca} {h = h} {fd = fd} {to = to} {wr = wr} {lr = lr} {ln = ln} {fn = fn} lc kn em un) lu tk x sp =
+    starts start σ t cs mk c n f k rn u pl ca h fd to wr lr ln fn lc kn em un (at_start lc kn em un) x sp
 kept_by_rule {start} (at_rest {t = t} {cs = cs} {σ = σ} {pl = pl} {ca = ca} {ln = ln} {fn = fn} lc so gr sh) lu tk x sp = rests start σ t cs pl ca ln fn lu tk lc so gr sh (at_rest lc so gr sh) x sp
-kept_by_rule {start} (at-work {t = t} {cs = cs} {mk = mk} {c = c} {n = n} {f = f} {rn = rn} {u = u} {σ = σ} {pl = pl} {ca = ca} {h = h} {fd = fd} {wr = wr} {lr = lr} {ln = ln} {fn = fn} {b = b} {rd = rd} lc kn so el ef i num isr wk) lu tk x sp =
-    works start σ t cs mk pl ca u c n f rn h fd true wr lr ln fn b rd lu tk lc kn so el ef i num isr (work_apart wk) refl wk (at-work lc kn so el ef i num isr wk) x sp
+kept_by_rule {start} (at_work {t = t} {cs = cs} {mk = mk} {c = c} {n = n} {f = f} {rn = rn} {u = u} {σ = σ} {pl = pl} {ca = ca} {h = h} {fd = fd} {wr = wr} {lr = lr} {ln = ln} {fn = fn} {b = b} {rd = rd} lc kn so el ef i num isr wk) lu tk x sp =
+    works start σ t cs mk pl ca u c n f rn h fd true wr lr ln fn b rd lu tk lc kn so el ef i num isr (work_apart wk) refl wk (at_work lc kn so el ef i num isr wk) x sp
 kept_by_rule {start} (at_store {t = t} {cs = cs} {mk = mk} {c = c} {n = n} {f = f} {rn = rn} {k = k} {u = u} {σ = σ} {pl = pl} {ca = ca} {h = h} {fd = fd} {to = to} {wr = wr} {lr = lr} {ln = ln} {fn = fn} {b = b} {rd = rd} lc kn so el ef i num isr ok pa cl) lu tk x sp =
     stored start σ t cs mk pl ca u c n f rn h fd to wr lr ln fn b rd lu ok lc kn so el ef i num isr pa k cl (at_store lc kn so el ef i num isr ok pa cl) x sp
 

@@ -59,13 +59,13 @@ again y (gave x) a m = one (subst (λ (c : List Bytes). In y c) (a.sole x refl) 
 
 -- The candidates after an entry, as maps.
 module _ (start : Sectors) (H : History) (o : Entry) where
-  nothing-heard : (of_answer o.answer).refused ≡ true → next start H o ≡ H
+  nothing_heard : (of_answer o.answer).refused ≡ true → next start H o ≡ H
   unfolding next
-  nothing-heard e = rw e
+  nothing_heard e = rw e
 
-  something-heard : (of_answer o.answer).refused ≡ false → next start H o ≡ heard start H o
+  something_heard : (of_answer o.answer).refused ≡ false → next start H o ≡ heard start H o
   unfolding next
-  something-heard e = rw e
+  something_heard e = rw e
 
   learned : learns H o ≡ true → H.learned ≡ false → candidates_next start H o ≡ (λ b. contents (start (sector_of (spare_list (table_of (of_call o.call).brought)) b)))
   unfolding candidates_next
@@ -75,9 +75,9 @@ module _ (start : Sectors) (H : History) (o : Entry) where
   unfolding candidates_next
   relearned e f = rw (e, f)
 
-  found-next : (of_answer o.answer).refused ≡ false → (next start H o).found ≡ (learns H o || H.found)
+  found_next : (of_answer o.answer).refused ≡ false → (next start H o).found ≡ (learns H o || H.found)
   unfolding heard
-  found-next e = ap (λ (X : History). X.found) (something-heard e)
+  found_next e = ap (λ (X : History). X.found) (something_heard e)
 
   silent : learns H o ≡ false → reports H o ≡ false → candidates_next start H o ≡ H.candidates
   unfolding candidates_next
@@ -119,51 +119,51 @@ module _ (b : Block) (start : Sectors) (H : History) (o : Entry) where
   same_block e = ap (λ (n : ℕ). let x : Block = record { 0 = n } in x) (sym (eqb-true b.0 (order H).number e))
 
   -- The block's candidates after the entry, case by case.
-  if-refused : (of_answer o.answer).refused ≡ true → later ≡ now
-  if-refused e = ap (λ (X : History). X.candidates b) (nothing-heard start H o e)
+  if_refused : (of_answer o.answer).refused ≡ true → later ≡ now
+  if_refused e = ap (λ (X : History). X.candidates b) (nothing_heard start H o e)
 
   module _ (acc : (of_answer o.answer).refused ≡ false) where
     via : {f : Block → List Bytes} → candidates_next start H o ≡ f → later ≡ f b
     unfolding heard
-    via e = ap (λ (X : History). X.candidates b) (something-heard start H o acc) ∙ ap (λ (g : Block → List Bytes). g b) e
+    via e = ap (λ (X : History). X.candidates b) (something_heard start H o acc) ∙ ap (λ (g : Block → List Bytes). g b) e
 
-    if-learned : learns H o ≡ true → H.learned ≡ false → later ≡ contents (start (sector_of (spare_list (table_of (of_call o.call).brought)) b))
-    if-learned e f = via (learned start H o e f)
+    if_learned : learns H o ≡ true → H.learned ≡ false → later ≡ contents (start (sector_of (spare_list (table_of (of_call o.call).brought)) b))
+    if_learned e f = via (learned start H o e f)
 
-    if-relearned : learns H o ≡ true → H.learned ≡ true → later ≡ now
-    if-relearned e f = via (relearned start H o e f)
+    if_relearned : learns H o ≡ true → H.learned ≡ true → later ≡ now
+    if_relearned e f = via (relearned start H o e f)
 
-    found-now : learns H o ≡ true → (next start H o).found ≡ true
-    found-now e = found-next start H o acc ∙ rw e
+    found_now : learns H o ≡ true → (next start H o).found ≡ true
+    found_now e = found_next start H o acc ∙ rw e
 
-    found-then : learns H o ≡ false → (next start H o).found ≡ H.found
-    found-then e = found-next start H o acc ∙ rw e
+    found_then : learns H o ≡ false → (next start H o).found ≡ H.found
+    found_then e = found_next start H o acc ∙ rw e
 
-    if-silent : learns H o ≡ false → reports H o ≡ false → later ≡ now
-    if-silent e f = via (silent start H o e f)
+    if_silent : learns H o ≡ false → reports H o ≡ false → later ≡ now
+    if_silent e f = via (silent start H o e f)
 
-    if-good : learns H o ≡ false → reports H o ≡ true → good o ≡ true → later ≡ cond mine (bytes_of H o ∷ []) now
-    if-good e f g = via (replaced start H o e f g)
+    if_good : learns H o ≡ false → reports H o ≡ true → good o ≡ true → later ≡ cond mine (bytes_of H o ∷ []) now
+    if_good e f g = via (replaced start H o e f g)
 
-    if-failed : learns H o ≡ false → reports H o ≡ true → good o ≡ false → (not (is_read (order H).kind) && has_written H o) ≡ false → later ≡ now
-    if-failed e f g h = via (unmoved start H o e f g h)
+    if_failed : learns H o ≡ false → reports H o ≡ true → good o ≡ false → (not (is_read (order H).kind) && has_written H o) ≡ false → later ≡ now
+    if_failed e f g h = via (unmoved start H o e f g h)
 
-    if-attempted : learns H o ≡ false → reports H o ≡ true → good o ≡ false → (not (is_read (order H).kind) && has_written H o) ≡ true → later ≡ cond mine (bytes_of H o ∷ H.candidates (block_of (order H))) now
-    if-attempted e f g h = via (extended start H o e f g h)
+    if_attempted : learns H o ≡ false → reports H o ≡ true → good o ≡ false → (not (is_read (order H).kind) && has_written H o) ≡ true → later ≡ cond mine (bytes_of H o ∷ H.candidates (block_of (order H))) now
+    if_attempted e f g h = via (extended start H o e f g h)
 
   agreed : {c : List Bytes} {latest : List Bytes} {before : Before} → later ≡ c → Agrees c latest before → Agrees later latest before
   agreed {latest = latest} {before = before} e a = subst (λ (x : List Bytes). Agrees x latest before) (sym e) a
 
-  given-right : Fits H o → (of_answer o.answer).refused ≡ false → reports H o ≡ true → good o ≡ true → is_read (order H).kind ≡ true → mine ≡ true → In (data_of o.buffer) now
-  given-right fit e1 e3 e5 e6 e4 =
+  given_right : Fits H o → (of_answer o.answer).refused ≡ false → reports H o ≡ true → good o ≡ true → is_read (order H).kind ≡ true → mine ≡ true → In (data_of o.buffer) now
+  given_right fit e1 e3 e5 e6 e4 =
       subst (λ (x : Block). In (data_of o.buffer) (H.candidates x)) (same_block e4)
-      (fit.read-rule (and_true (not (of_answer o.answer).refused && reports H o && good o) (is_read (order H).kind) (and_true (not (of_answer o.answer).refused && reports H o) (good o) (and_true (not (of_answer o.answer).refused) (reports H o) (ap not e1) e3) e5) e6))
+      (fit.read_rule (and_true (not (of_answer o.answer).refused && reports H o && good o) (is_read (order H).kind) (and_true (not (of_answer o.answer).refused && reports H o) (good o) (and_true (not (of_answer o.answer).refused) (reports H o) (ap not e1) e3) e5) e6))
 
-  given-tabled : (good_report H o ≡ true → H.found ≡ true) → (of_answer o.answer).refused ≡ false → reports H o ≡ true → good o ≡ true → H.found ≡ true
-  given-tabled tab e1 e3 e5 = tab (and_true (not (of_answer o.answer).refused && reports H o) (good o) (and_true (not (of_answer o.answer).refused) (reports H o) (ap not e1) e3) e5)
+  given_tabled : (good_report H o ≡ true → H.found ≡ true) → (of_answer o.answer).refused ≡ false → reports H o ≡ true → good o ≡ true → H.found ≡ true
+  given_tabled tab e1 e3 e5 = tab (and_true (not (of_answer o.answer).refused && reports H o) (good o) (and_true (not (of_answer o.answer).refused) (reports H o) (ap not e1) e3) e5)
 
-  found-refused : (of_answer o.answer).refused ≡ true → (next start H o).found ≡ H.found
-  found-refused e = ap (λ (X : History). X.found) (nothing-heard start H o e)
+  found_refused : (of_answer o.answer).refused ≡ true → (next start H o).found ≡ H.found
+  found_refused e = ap (λ (X : History). X.found) (nothing_heard start H o e)
 
   -- A report about another block says nothing of this one.
   other : (x : List Bytes) → mine ≡ false → cond mine x now ≡ now
@@ -179,26 +179,26 @@ module _ (b : Block) (start : Sectors) (H : History) (o : Entry) where
       go : (q1 : Bool) → (of_answer o.answer).refused ≡ q1 → (q2 : Bool) → learns H o ≡ q2 → (q8 : Bool) → H.learned ≡ q8 → (q3 : Bool) → reports H o ≡ q3 → (q4 : Bool) → mine ≡ q4
           → (q5 : Bool) → good o ≡ q5 → (q6 : Bool) → is_read (order H).kind ≡ q6 → (q7 : Bool) → (not (is_read (order H).kind) && has_written H o) ≡ q7
           → Goes (cond q1 nothing (cond q2 (cond q8 placed (found (contents (start (sector_of (spare_list (table_of (of_call o.call).brought)) b))))) (cond (q3 && q4) (cond q5 (cond q6 (given (data_of o.buffer)) (written (bytes_of H o))) (cond q7 (attempted (bytes_of H o)) nothing)) nothing)))
-      go true e1 q2 e2 q8 e8 q3 e3 q4 e4 q5 e5 q6 e6 q7 e7 latest before tabled rs a f k = k latest before tabled (agreed (if-refused e1) a) (found-refused e1 ∙ f)
-      go false e1 true e2 true e8 q3 e3 q4 e4 q5 e5 q6 e6 q7 e7 latest before tabled rs a f k = k latest before true (agreed (if-relearned e1 e2 e8) a) (found-now e1 e2)
-      go false e1 true e2 false e8 q3 e3 q4 e4 q5 e5 q6 e6 q7 e7 latest before tabled rs a f k = k _ none true (agreed (if-learned e1 e2 e8) (fresh _)) (found-now e1 e2)
-      go false e1 false e2 q8 e8 false e3 q4 e4 q5 e5 q6 e6 q7 e7 latest before tabled rs a f k = k latest before tabled (agreed (if-silent e1 e2 e3) a) (found-then e1 e2 ∙ f)
-      go false e1 false e2 q8 e8 true e3 false e4 true e5 q6 e6 q7 e7 latest before tabled rs a f k = k latest before tabled (agreed (if-good e1 e2 e3 e5 ∙ other _ e4) a) (found-then e1 e2 ∙ f)
-      go false e1 false e2 q8 e8 true e3 false e4 false e5 q6 e6 true e7 latest before tabled rs a f k = k latest before tabled (agreed (if-attempted e1 e2 e3 e5 e7 ∙ other _ e4) a) (found-then e1 e2 ∙ f)
-      go false e1 false e2 q8 e8 true e3 false e4 false e5 q6 e6 false e7 latest before tabled rs a f k = k latest before tabled (agreed (if-failed e1 e2 e3 e5 e7) a) (found-then e1 e2 ∙ f)
+      go true e1 q2 e2 q8 e8 q3 e3 q4 e4 q5 e5 q6 e6 q7 e7 latest before tabled rs a f k = k latest before tabled (agreed (if_refused e1) a) (found_refused e1 ∙ f)
+      go false e1 true e2 true e8 q3 e3 q4 e4 q5 e5 q6 e6 q7 e7 latest before tabled rs a f k = k latest before true (agreed (if_relearned e1 e2 e8) a) (found_now e1 e2)
+      go false e1 true e2 false e8 q3 e3 q4 e4 q5 e5 q6 e6 q7 e7 latest before tabled rs a f k = k _ none true (agreed (if_learned e1 e2 e8) (fresh _)) (found_now e1 e2)
+      go false e1 false e2 q8 e8 false e3 q4 e4 q5 e5 q6 e6 q7 e7 latest before tabled rs a f k = k latest before tabled (agreed (if_silent e1 e2 e3) a) (found_then e1 e2 ∙ f)
+      go false e1 false e2 q8 e8 true e3 false e4 true e5 q6 e6 q7 e7 latest before tabled rs a f k = k latest before tabled (agreed (if_good e1 e2 e3 e5 ∙ other _ e4) a) (found_then e1 e2 ∙ f)
+      go false e1 false e2 q8 e8 true e3 false e4 false e5 q6 e6 true e7 latest before tabled rs a f k = k latest before tabled (agreed (if_attempted e1 e2 e3 e5 e7 ∙ other _ e4) a) (found_then e1 e2 ∙ f)
+      go false e1 false e2 q8 e8 true e3 false e4 false e5 q6 e6 false e7 latest before tabled rs a f k = k latest before tabled (agreed (if_failed e1 e2 e3 e5 e7) a) (found_then e1 e2 ∙ f)
       go false e1 false e2 q8 e8 true e3 true e4 true e5 true e6 q7 e7 latest before tabled rs a f k =
-          let m = given-right fit e1 e3 e5 e6 e4 in
-          let e = if-good e1 e2 e3 e5 ∙ this _ e4 ∙ ap (λ (x : Bytes). x ∷ []) (read_bytes H o e6) in (
-            sym f ∙ given-tabled tab e1 e3 e5,
+          let m = given_right fit e1 e3 e5 e6 e4 in
+          let e = if_good e1 e2 e3 e5 ∙ this _ e4 ∙ ap (λ (x : Bytes). x ∷ []) (read_bytes H o e6) in (
+            sym f ∙ given_tabled tab e1 e3 e5,
             a.within (data_of o.buffer) m,
             again (data_of o.buffer) before a m,
-            k latest (gave (data_of o.buffer)) tabled (agreed e (only (data_of o.buffer) latest (a.within (data_of o.buffer) m))) (found-then e1 e2 ∙ f),
+            k latest (gave (data_of o.buffer)) tabled (agreed e (only (data_of o.buffer) latest (a.within (data_of o.buffer) m))) (found_then e1 e2 ∙ f),
           )
       go false e1 false e2 q8 e8 true e3 true e4 true e5 false e6 q7 e7 latest before tabled rs a f k =
-          (sym f ∙ given-tabled tab e1 e3 e5, k _ none tabled (agreed (if-good e1 e2 e3 e5 ∙ this _ e4) (fresh _)) (found-then e1 e2 ∙ f))
+          (sym f ∙ given_tabled tab e1 e3 e5, k _ none tabled (agreed (if_good e1 e2 e3 e5 ∙ this _ e4) (fresh _)) (found_then e1 e2 ∙ f))
       go false e1 false e2 q8 e8 true e3 true e4 false e5 q6 e6 true e7 latest before tabled rs a f k =
-          k _ none tabled (agreed (if-attempted e1 e2 e3 e5 e7 ∙ this _ e4 ∙ ap (λ (x : Block). bytes_of H o ∷ H.candidates x) (same_block e4)) (added (bytes_of H o) a)) (found-then e1 e2 ∙ f)
-      go false e1 false e2 q8 e8 true e3 true e4 false e5 q6 e6 false e7 latest before tabled rs a f k = k latest before tabled (agreed (if-failed e1 e2 e3 e5 e7) a) (found-then e1 e2 ∙ f)
+          k _ none tabled (agreed (if_attempted e1 e2 e3 e5 e7 ∙ this _ e4 ∙ ap (λ (x : Block). bytes_of H o ∷ H.candidates x) (same_block e4)) (added (bytes_of H o) a)) (found_then e1 e2 ∙ f)
+      go false e1 false e2 q8 e8 true e3 true e4 false e5 q6 e6 false e7 latest before tabled rs a f k = k latest before tabled (agreed (if_failed e1 e2 e3 e5 e7) a) (found_then e1 e2 ∙ f)
 
 -- A START: what it cut off is allowed too, and no table is read yet.
 module _ (b : Block) (H : History) (x : Answer) where

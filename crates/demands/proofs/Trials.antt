@@ -37,7 +37,7 @@ use Rattle.drive.specs.History.{good}
 use Rattle.drive.specs.Over.{Reply, replied}
 use Rattle.drive.specs.Trials.{counts, AllCount, failing, through, listed_then, finished, storing, Decided, Rereads, Trial100}
 use Rattle.records.proofs.Ladders.{finish_cases, NextSpare, judged_cases}
-use Rattle.demands.proofs.Statuses.{good-is, data-ended}
+use Rattle.demands.proofs.Statuses.{good_is, data_ended}
 
 -- WHAT THE LAST ANSWER DECIDES, with n spares listed if the sector failed, and f failures
 module _ (t : Table) (cs : List ℕ) (l : State) (u bs : List ℕ) (n f : ℕ) where
@@ -51,10 +51,10 @@ module _ (t : Table) (cs : List ℕ) (l : State) (u bs : List ℕ) (n f : ℕ) w
       (record {
         asks = λ y. record { passes = λ g. storing _ refl refl q; moves = λ g i. clash h g; ends = λ g i. clash h g; stays = refl };
         reports = λ y. record {
-          passes = λ g. finished refl (not-true _ (good-is raise answer.Finished e s _ _ l.marks.fresh u ∙ rw (q, z, free)));
+          passes = λ g. finished refl (not-true _ (good_is raise answer.Finished e s _ _ l.marks.fresh u ∙ rw (q, z, free)));
           moves = λ g i. clash h g;
           ends = λ g i. clash h g;
-          stays = data-ended raise answer.Finished e s _ _ l.marks.fresh u;
+          stays = data_ended raise answer.Finished e s _ _ l.marks.fresh u;
         };
       })
 
@@ -63,14 +63,14 @@ module _ (t : Table) (cs : List ℕ) (l : State) (u bs : List ℕ) (n f : ℕ) w
   missed h c b s =
       record {
         spare = λ q. record { passes = λ g. clash g h; moves = λ g i. refl; ends = λ g i. clash q i; stays = refl };
-        no-spare = λ q. finish_cases Decides l c ending.NoSpare s part.Kept
+        no_spare = λ q. finish_cases Decides l c ending.NoSpare s part.Kept
             (record {
               asks = λ y. record { passes = λ g. clash g h; moves = λ g i. clash i q; ends = λ g i. storing _ refl refl refl; stays = refl };
               reports = λ y. record {
                 passes = λ g. clash g h;
                 moves = λ g i. clash i q;
-                ends = λ g i. finished refl (not-false _ (good-is raise answer.Finished ending.NoSpare s _ _ l.marks.fresh u));
-                stays = data-ended raise answer.Finished ending.NoSpare s _ _ l.marks.fresh u;
+                ends = λ g i. finished refl (not-false _ (good_is raise answer.Finished ending.NoSpare s _ _ l.marks.fresh u));
+                stays = data_ended raise answer.Finished ending.NoSpare s _ _ l.marks.fresh u;
               };
             });
       }
@@ -131,9 +131,9 @@ module _ (t : Table) (cs : List ℕ) (l : State) (u : List ℕ) (long : length u
   unfolding judged part_left status_left
   asks_again r y k c h = judges r y k c ∙ rw (lt-ltb (r.rereads + 1) 100 (omega arith))
 
-  valid-again : (r : Trial) (y : Reply) → record_ok (awaiting r) ≡ true → r.failures ≤ r.rereads → r.rereads < 100 → record_ok (awaiting (after r y)) ≡ true
+  valid_again : (r : Trial) (y : Reply) → record_ok (awaiting r) ≡ true → r.failures ≤ r.rereads → r.rereads < 100 → record_ok (awaiting (after r y)) ≡ true
   unfolding record_ok state_ok trial_ok
-  valid-again r y k f h =
+  valid_again r y k f h =
       let before = rw (le-leb r.rereads 100 (omega arith), le-leb r.failures r.rereads f) at k in
       rw (le-leb (r.rereads + 1) 100 (omega arith), le-leb (r.failures + cond (is_same y) 0 1) (r.rereads + 1) (few (is_same y) f)) before
 
@@ -144,7 +144,7 @@ module _ (t : Table) (cs : List ℕ) (l : State) (u : List ℕ) (long : length u
   rereads (suc j) [] r a v f c p q h = absurd (omega arith)
   rereads (suc zero) (y ∷ ys) r a v f c p q h = subst (Rereads r u) (sym (asks_again r y v c.0 (omega arith))) (record { asks = refl; stays = refl })
   rereads (suc (suc j)) (y ∷ ys) r a v f c p q h =
-      let rest = rereads (suc j) ys (after r y) (answer.Read r.sector) (valid-again r y v f (omega arith)) (few (is_same y) f) c.1 (omega arith) (omega arith) (omega arith) in
+      let rest = rereads (suc j) ys (after r y) (answer.Read r.sector) (valid_again r y v f (omega arith)) (few (is_same y) f) c.1 (omega arith) (omega arith) (omega arith) in
       subst (λ (x : Out). Rereads r u (through x (take (suc j) ys))) (sym (asks_again r y v c.0 (omega arith))) (record { asks = rest.asks; stays = rest.stays })
 
   -- The last one decides, by the failures of all.
@@ -155,7 +155,7 @@ module _ (t : Table) (cs : List ℕ) (l : State) (u : List ℕ) (long : length u
       subst (Decided (listed_then t r) (r.failures + cond (is_same y) 0 1) (data_of u)) (sym (judges r y v c.0)) (decides t cs (awaiting r).state u y.bytes (after r y) free (omega arith))
   last free (y ∷ z ∷ zs) r a v f c h n =
       subst₂ (λ (m : ℕ) (x : Out). Decided (listed_then t r) m (data_of u) (through x (z ∷ zs))) (one_more (is_same y) r.failures (failing (data_of u) (z ∷ zs))) (sym (asks_again r y v c.0 (omega arith)))
-      (last free (z ∷ zs) (after r y) (answer.Read r.sector) (valid-again r y v f (omega arith)) (few (is_same y) f) c.1 (omega arith) (omega arith))
+      (last free (z ∷ zs) (after r y) (answer.Read r.sector) (valid_again r y v f (omega arith)) (few (is_same y) f) c.1 (omega arith) (omega arith))
 
 -- THE WHOLE TRIAL, from any valid record that awaits its first reread
 pub trial_100 : Trial100

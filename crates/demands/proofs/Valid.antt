@@ -215,8 +215,8 @@ module _ (t : Table) (cs : List ℕ) (l : State) (f : Fine t cs l) where
   onto z m p h = record { table = z.table; shaped = z.shaped; noted = z.noted; causes = z.causes; count = f.count; fed = f.fed; phase = h; full = f.full; bytes = f.bytes }
 
   -- Each change leaves a valid table with valid causes.
-  as-it-is : Beside t cs
-  as-it-is = record { table = f.table; shaped = f.shaped; noted = f.noted; causes = f.causes }
+  as_it_is : Beside t cs
+  as_it_is = record { table = f.table; shaped = f.shaped; noted = f.noted; causes = f.causes }
 
   killed : (x : Cause) → t.nspares < 32 → Beside (killed_next t) (causes_killed t (cause_number x) cs)
   killed x n =
@@ -236,11 +236,11 @@ module _ (t : Table) (cs : List ℕ) (l : State) (f : Fine t cs l) where
         causes = listed_causes_length t b (cause_number x) (cause_number y) cs ∙ f.causes;
       }
 
-  removed-from : (b : Block) → Beside (without_bad t b) cs
-  removed-from b = record { table = removed_ok t b f.shaped f.table; shaped = removed_shaped t b f.shaped; noted = rw (removed_count t b) f.noted; causes = f.causes }
+  removed_from : (b : Block) → Beside (without_bad t b) cs
+  removed_from b = record { table = removed_ok t b f.shaped f.table; shaped = removed_shaped t b f.shaped; noted = rw (removed_count t b) f.noted; causes = f.causes }
 
-  entered-in : (b : Block) → is_block b.0 ≡ true → member_of b.0 (bad_list t) ≡ false → Beside (with_bad t b) cs
-  entered-in b i q = record { table = entered_ok t b f.shaped i q f.table; shaped = entered_shaped t b f.shaped; noted = rw (entered_count t b) f.noted; causes = f.causes }
+  entered_in : (b : Block) → is_block b.0 ≡ true → member_of b.0 (bad_list t) ≡ false → Beside (with_bad t b) cs
+  entered_in b i q = record { table = entered_ok t b f.shaped i q f.table; shaped = entered_shaped t b f.shaped; noted = rw (entered_count t b) f.noted; causes = f.causes }
 
   module _ (bs : List ℕ) where
     abbrev Ok : Turn → Type 0
@@ -260,24 +260,24 @@ module _ (t : Table) (cs : List ℕ) (l : State) (f : Fine t cs l) where
     opens : (o : Offer) (n : ℕ) → n ≤ 6 → Fine t cs (record { phase = phase.Offered o; marks = l.marks; command = l.command; count = n; fed = 0; run = l.run })
     opens o n h = record { table = f.table; shaped = f.shaped; noted = f.noted; causes = f.causes; count = h; fed = omega arith; phase = refl; full = f.full; bytes = f.bytes }
 
-    kept-few : (o : Offer) → Ok (offers l o)
-    kept-few offer.Command = opens offer.Command 0 (omega arith)
-    kept-few offer.Read = opens offer.Read l.count f.count
-    kept-few offer.Write = opens offer.Write l.count f.count
-    kept-few offer.Verify = opens offer.Verify l.count f.count
-    kept-few offer.Act = opens offer.Act l.count f.count
+    kept_few : (o : Offer) → Ok (offers l o)
+    kept_few offer.Command = opens offer.Command 0 (omega arith)
+    kept_few offer.Read = opens offer.Read l.count f.count
+    kept_few offer.Write = opens offer.Write l.count f.count
+    kept_few offer.Verify = opens offer.Verify l.count f.count
+    kept_few offer.Act = opens offer.Act l.count f.count
 
     raises : (p : Phase) → Ok (raised p l)
     unfolding raised
     raises phase.Idle = opens offer.Command 0 (omega arith)
     raises (phase.Offered o) = f
-    raises phase.Command = kept-few (offer_for (kind_of l.command) l.count)
+    raises phase.Command = kept_few (offer_for (kind_of l.command) l.count)
     raises phase.Data = to l.marks (phase.Offered offer.Act) refl
     raises (phase.Awaiting x) = f
 
     -- LOWER
-    idle-again : (m : Marks) → Fine t cs (with_marks l m phase.Idle)
-    idle-again m = to m phase.Idle refl
+    idle_again : (m : Marks) → Fine t cs (with_marks l m phase.Idle)
+    idle_again m = to m phase.Idle refl
 
     -- Returns the command that the record holds.
     abbrev o : Order
@@ -286,27 +286,27 @@ module _ (t : Table) (cs : List ℕ) (l : State) (f : Fine t cs l) where
     known : OnBlock o l → l.marks.known ≡ true
     known b = not-false l.marks.known b.known
 
-    at-sector : OnBlock o l → is_sector (sector_of (spare_list t) (block_of o)).0 ≡ true
-    at-sector b = sector_in_range (spare_list t) (block_of o) (spares_few t f.table) (on_block b)
+    at_sector : OnBlock o l → is_sector (sector_of (spare_list t) (block_of o)).0 ≡ true
+    at_sector b = sector_in_range (spare_list t) (block_of o) (spares_few t f.table) (on_block b)
 
     -- The trial of a present sector passes.
-    on-present : (b : Block) (s : Sector) (x : Seen) → is_block b.0 ≡ true → is_sector s.0 ≡ true → trial_ok t.nspares (on_present b s x) ≡ true
-    on-present b s x i j = trial_ok_lem t.nspares (on_present b s x) (record { block = i; sector = j; few = omega arith; fewer = omega arith; spot = refl })
+    on_present_lem : (b : Block) (s : Sector) (x : Seen) → is_block b.0 ≡ true → is_sector s.0 ≡ true → trial_ok t.nspares (on_present b s x) ≡ true
+    on_present_lem b s x i j = trial_ok_lem t.nspares (on_present b s x) (record { block = i; sector = j; few = omega arith; fewer = omega arith; spot = refl })
 
     acts : Ok (acted o l t)
     acts =
         acted_cases Ok o l t
         (record {
-          overrun = λ e. record { block = λ i. closes change.Keep _ _ _ as-it-is; no_block = λ i. idle-again _ };
-          no_block = λ e f. idle-again _;
-          buffer = λ e f. idle-again _;
-          no_table = λ e f. idle-again _;
-          table = λ e f. idle-again _;
-          health = λ e f. idle-again _;
-          read = λ b e. to l.marks _ (and_true l.marks.known _ (known b) (retry_ok_lem _ (record { block = on_block b; sector = at-sector b; sum = omega (arith, f.bytes 4); spent = omega arith })));
-          latched = λ b e f. closes change.Keep _ _ _ as-it-is;
-          listed = λ b e f g. to _ _ (and_true l.marks.known _ (known b) (on-present _ _ _ (on_block b) (at-sector b)));
-          write = λ b e f g. to l.marks _ (and_true l.marks.known _ (known b) (and_true (is_block (block_of o).0) _ (on_block b) (at-sector b)));
+          overrun = λ e. record { block = λ i. closes change.Keep _ _ _ as_it_is; no_block = λ i. idle_again _ };
+          no_block = λ e f. idle_again _;
+          buffer = λ e f. idle_again _;
+          no_table = λ e f. idle_again _;
+          table = λ e f. idle_again _;
+          health = λ e f. idle_again _;
+          read = λ b e. to l.marks _ (and_true l.marks.known _ (known b) (retry_ok_lem _ (record { block = on_block b; sector = at_sector b; sum = omega (arith, f.bytes 4); spent = omega arith })));
+          latched = λ b e f. closes change.Keep _ _ _ as_it_is;
+          listed = λ b e f g. to _ _ (and_true l.marks.known _ (known b) (on_present_lem _ _ _ (on_block b) (at_sector b)));
+          write = λ b e f g. to l.marks _ (and_true l.marks.known _ (known b) (and_true (is_block (block_of o).0) _ (on_block b) (at_sector b)));
         })
 
     goes : (o : Offer) → Ok (goes_on o l t)
@@ -320,16 +320,16 @@ module _ (t : Table) (cs : List ℕ) (l : State) (f : Fine t cs l) where
     lowers : (p : Phase) (b : ℕ) → Ok (lowered p l t b)
     unfolding lowered
     lowers phase.Idle b = f
-    lowers (phase.Offered o) b = lowered_cases Ok o l t b (record { goes = λ e. goes o; breaks = λ e. idle-again _ })
+    lowers (phase.Offered o) b = lowered_cases Ok o l t b (record { goes = λ e. goes o; breaks = λ e. idle_again _ })
     lowers phase.Command b = f
     lowers phase.Data b = f
     lowers (phase.Awaiting x) b = f
 
     -- FEED
-    feeds-command : (xs : List ℕ) → Bytewise xs
+    feeds_command : (xs : List ℕ) → Bytewise xs
         → Fine t cs (record { phase = phase.Command; marks = l.marks; command = over l.count (take (6 - l.count) xs) l.command; count = min 6 (l.count + length xs); fed = l.fed; run = l.run })
     unfolding over
-    feeds-command xs h =
+    feeds_command xs h =
         let c = l.command in
         let n = l.count in
         let run = take (6 - n) xs in
@@ -349,17 +349,17 @@ module _ (t : Table) (cs : List ℕ) (l : State) (f : Fine t cs l) where
     unfolding fed_to
     feeds phase.Idle xs h = f
     feeds (phase.Offered o) xs h = f
-    feeds phase.Command xs h = feeds-command xs h
+    feeds phase.Command xs h = feeds_command xs h
     feeds phase.Data xs h = record { table = f.table; shaped = f.shaped; noted = f.noted; causes = f.causes; count = f.count; fed = omega arith; phase = refl; full = f.full; bytes = f.bytes }
     feeds (phase.Awaiting x) xs h = f
 
     -- RESET
     rests : (p : Phase) → Ok (rested p l)
     unfolding rested
-    rests phase.Idle = idle-again _
-    rests (phase.Offered o) = idle-again _
-    rests phase.Command = idle-again _
-    rests phase.Data = idle-again _
+    rests phase.Idle = idle_again _
+    rests (phase.Offered o) = idle_again _
+    rests phase.Command = idle_again _
+    rests phase.Data = idle_again _
     rests (phase.Awaiting x) = f
 
     -- SURFACE
@@ -368,43 +368,43 @@ module _ (t : Table) (cs : List ℕ) (l : State) (f : Fine t cs l) where
         start_cases Ok k l a bs
         (record {
           table = λ e. let w = and_right (eqb a 0) (well_formed bs) e in record { table = read_ok bs w; shaped = read_shaped bs w; noted = causes_ok_lem bs w; causes = causes_shaped bs w; count = f.count; fed = f.fed; phase = refl; full = f.full; bytes = f.bytes };
-          stops = λ e f. idle-again _;
+          stops = λ e f. idle_again _;
           again = λ e y. to l.marks _ (le-leb (k + 1) 10 (omega (arith, ltb-true k 10 y)));
-          gives_up = λ e y. idle-again _;
+          gives_up = λ e y. idle_again _;
         })
 
     store_told : (k : Close) (a : ℕ) → Ok (store_answered k l a)
     unfolding store_answered
-    store_told k a = idle-again _
+    store_told k a = idle_again _
 
     -- SPARING: a turn may try spare m of the table as it is by then.
-    next-spare : (ch : Change) (m : ℕ) (b : Block) (s : Seen) {x y : Cause} → l.marks.known ≡ true → is_block b.0 ≡ true → Beside (changed ch t bs) (noted ch t cs bs) → (changed ch t bs).nspares ≡ m
+    next_spare_lem : (ch : Change) (m : ℕ) (b : Block) (s : Seen) {x y : Cause} → l.marks.known ≡ true → is_block b.0 ≡ true → Beside (changed ch t bs) (noted ch t cs bs) → (changed ch t bs).nspares ≡ m
         → NextSpare Ok m l ch b s x y
-    next-spare ch m b s {x} {y} kn i k em =
+    next_spare_lem ch m b s {x} {y} kn i k em =
         record {
           spare = λ e. onto k _ _ (and_true l.marks.known _ kn
               (trial_ok_lem (changed ch t bs).nspares (on_spare m b s x y)
               (record { block = i; sector = spare_sector m (ltb-true m 32 e); few = omega arith; fewer = omega arith; spot = rw (em, e) (eq-eqb (spare_of m).0 (spare_of m).0 refl) })));
-          no-spare = λ e. closes ch _ _ _ k;
+          no_spare = λ e. closes ch _ _ _ k;
         }
 
     module _ (kn : l.marks.known ≡ true) (r : Trial) (i : is_block r.block.0 ≡ true) (room : r.spare ≡ true → t.nspares < 32) where
       misses : (s : Seen) {x : Cause} → Missed Ok l t r s x
       misses s {x} =
           record {
-            dead = λ z. next-spare (change.Kill x) (t.nspares + 1) r.block s kn i (killed x (room z)) (killed_count t (room z));
-            left = λ z. next-spare change.Keep t.nspares r.block s kn i as-it-is refl;
+            dead = λ z. next_spare_lem (change.Kill x) (t.nspares + 1) r.block s kn i (killed x (room z)) (killed_count t (room z));
+            left = λ z. next_spare_lem change.Keep t.nspares r.block s kn i as_it_is refl;
           }
 
       stops : Stopped Ok l r
-      stops = record { dead = λ z. closes (change.Kill cause.NoSettle) _ _ _ (killed cause.NoSettle (room z)); present = λ z. closes change.Keep _ _ _ as-it-is }
+      stops = record { dead = λ z. closes (change.Kill cause.NoSettle) _ _ _ (killed cause.NoSettle (room z)); present = λ z. closes change.Keep _ _ _ as_it_is }
 
       verifies : Verified Ok l t r
       verifies =
           record {
             moved = λ z. closes (change.Move r.block r.before r.present) _ _ _ (moved_on r.block r.before r.present i (room z));
-            listed = λ z y. closes (change.Remove r.block) _ _ _ (removed-from r.block);
-            stays = λ z y. closes change.Keep _ _ _ as-it-is;
+            listed = λ z y. closes (change.Remove r.block) _ _ _ (removed_from r.block);
+            stays = λ z y. closes change.Keep _ _ _ as_it_is;
           }
 
     module _ (kn : l.marks.known ≡ true) (r : Trial) (w : TrialFacts t.nspares r) where
@@ -438,9 +438,9 @@ module _ (t : Table) (cs : List ℕ) (l : State) (f : Fine t cs l) where
       loses : (r : Retry) → is_block r.block.0 ≡ true → Lost Ok l t r v
       loses r i =
           record {
-            listed = λ q. closes change.Keep _ _ _ as-it-is;
-            entered = λ q z. closes (change.Enter r.block) _ _ _ (entered-in r.block i q);
-            full = λ q z. closes change.Keep _ _ _ as-it-is;
+            listed = λ q. closes change.Keep _ _ _ as_it_is;
+            entered = λ q z. closes (change.Enter r.block) _ _ _ (entered_in r.block i q);
+            full = λ q z. closes change.Keep _ _ _ as_it_is;
           }
 
       -- Of a retry that goes on, its sum is left to show, and its cost where a reread is left.
@@ -451,9 +451,9 @@ module _ (t : Table) (cs : List ℕ) (l : State) (f : Fine t cs l) where
             reread = λ e. again (c (ltb-true 0 r.left e));
             settles = λ e z. settled_cases Ok l r v
                 (record {
-                  below = λ e. closes change.Keep _ _ _ as-it-is;
-                  latched = λ e z. closes change.Keep _ _ _ as-it-is;
-                  tries = λ e z. to _ _ (and_true l.marks.known _ kn (on-present _ _ _ i s));
+                  below = λ e. closes change.Keep _ _ _ as_it_is;
+                  latched = λ e z. closes change.Keep _ _ _ as_it_is;
+                  tries = λ e z. to _ _ (and_true l.marks.known _ kn (on_present_lem _ _ _ i s));
                 });
             further = λ e z y. again (omega (arith, ltb-true r.spent 90 y));
             loses = λ e z y. lost_cases Ok l t r v (loses r i);
@@ -463,17 +463,17 @@ module _ (t : Table) (cs : List ℕ) (l : State) (f : Fine t cs l) where
           again q = to l.marks (phase.Awaiting (access.Read r)) (and_true l.marks.known _ kn (retry_ok_lem r (record { block = i; sector = s; sum = h; spent = q })))
 
     -- A failure leaves the sum as it was or lower, and costs only where no reread is left.
-    fails-sum : (r : Retry) (a : ℕ) → RetryFacts r → (failed r a).seen.errors + (failed r a).left ≤ 255
+    fails_sum : (r : Retry) (a : ℕ) → RetryFacts r → (failed r a).seen.errors + (failed r a).left ≤ 255
     unfolding failed
-    fails-sum r a w = go (is_reread r) refl
+    fails_sum r a w = go (is_reread r) refl
       where
         go : (q : Bool) → (not r.first && ltb 0 r.left) ≡ q → cond q (r.seen.errors + 1) r.seen.errors + cond q (r.left - 1) r.left ≤ 255
         go true q = let p = ltb-true 0 r.left (and_right (not r.first) (ltb 0 r.left) q) in omega (arith, w.sum, p)
         go false q = w.sum
 
-    fails-cost : (r : Retry) (a : ℕ) → RetryFacts r → 0 < (failed r a).left → (failed r a).spent ≤ 89
+    fails_cost : (r : Retry) (a : ℕ) → RetryFacts r → 0 < (failed r a).left → (failed r a).spent ≤ 89
     unfolding failed
-    fails-cost r a w = go r.first (ltb 0 r.left) refl
+    fails_cost r a w = go r.first (ltb 0 r.left) refl
       where
         go : (x y : Bool) → ltb 0 r.left ≡ y → 0 < cond (not x && y) (r.left - 1) r.left → cond (x || y) r.spent (r.spent + cond (eqb a 1) 1 9) ≤ 89
         go true y q h = w.spent
@@ -485,10 +485,10 @@ module _ (t : Table) (cs : List ℕ) (l : State) (f : Fine t cs l) where
     reads_on kn r w a v =
         after_read_cases (OkRead kn v) r a
         (record {
-          done = λ e z. closes change.Keep _ _ _ as-it-is;
+          done = λ e z. closes change.Keep _ _ _ as_it_is;
           passes = λ e z. goes_on_lem kn v (passed r) w.block w.sector (omega (arith, w.sum)) (λ y. w.spent);
-          stops = λ e z. closes change.Keep _ _ _ as-it-is;
-          fails = λ e z. goes_on_lem kn v (failed r a) w.block w.sector (fails-sum r a w) (fails-cost r a w);
+          stops = λ e z. closes change.Keep _ _ _ as_it_is;
+          fails = λ e z. goes_on_lem kn v (failed r a) w.block w.sector (fails_sum r a w) (fails_cost r a w);
         })
 
     follow : (x : Access) → access_ok t.nspares l.marks.known x ≡ true → (a : ℕ) (q : Bool) → Ok (follows x l t a bs q)
@@ -502,16 +502,16 @@ module _ (t : Table) (cs : List ℕ) (l : State) (f : Fine t cs l) where
         write_cases Ok l t w a
         (record {
           verifies = λ e z. to l.marks (phase.Awaiting (access.Verify w)) h;
-          done = λ e z. closes change.Keep _ _ _ as-it-is;
-          stops = λ e z. closes change.Keep _ _ _ as-it-is;
-          moves = λ e z. next-spare change.Keep t.nspares w.block _ k (and_left (is_block w.block.0) (is_sector w.sector.0) x) as-it-is refl;
+          done = λ e z. closes change.Keep _ _ _ as_it_is;
+          stops = λ e z. closes change.Keep _ _ _ as_it_is;
+          moves = λ e z. next_spare_lem change.Keep t.nspares w.block _ k (and_left (is_block w.block.0) (is_sector w.sector.0) x) as_it_is refl;
         })
     follow (access.Verify w) h a q =
         let k = and_left l.marks.known (target_ok w) h in
         let x = and_right l.marks.known (target_ok w) h in
         let i = is_block w.block.0 in
         let j = is_sector w.sector.0 in
-        verify_cases Ok l w a q (record { stops = λ e. closes change.Keep _ _ _ as-it-is; done = λ e z. closes change.Keep _ _ _ as-it-is; fails = λ e z. to _ _ (and_true l.marks.known _ k (on-present _ _ _ (and_left i j x) (and_right i j x))) })
+        verify_cases Ok l w a q (record { stops = λ e. closes change.Keep _ _ _ as_it_is; done = λ e z. closes change.Keep _ _ _ as_it_is; fails = λ e z. to _ _ (and_true l.marks.known _ k (on_present_lem _ _ _ (and_left i j x) (and_right i j x))) })
     follow (access.TrialWrite r) h a q = tries (and_left l.marks.known (trial_ok t.nspares r) h) r (trial_facts t.nspares r (and_right l.marks.known (trial_ok t.nspares r) h)) a
     follow (access.TrialRead r) h a q = checks (and_left l.marks.known (trial_ok t.nspares r) h) r (trial_facts t.nspares r (and_right l.marks.known (trial_ok t.nspares r) h)) a q
 

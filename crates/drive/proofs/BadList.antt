@@ -113,20 +113,20 @@ abbrev Stores : Turn → Ending → Seen → Type 0
 Stores x e s = (x.answer ≡ answer.Store) × (x.leaves.status ≡ status.Kept) × (x.state.phase ≡ phase.Awaiting (access.Store (record { ending = e; seen = s })))
 
 pub record Full : Type 0 where
-  pub entered-at-99 : Marks (lost_with false (up_from 100 99) 99) (change.Enter key) true false × Stores (lost_with false (up_from 100 99) 99) ending.Failed lost_read.seen
-  pub full-at-100 : Marks (lost_with false (up_from 100 100) 100) change.Keep false false × Tells (lost_with false (up_from 100 100) 100) 0x05 0x10
-  pub listed-at-100 : Marks (lost_with false (up_from 17 100) 100) change.Keep false false × Tells (lost_with false (up_from 17 100) 100) 0x05 0x00
+  pub entered_at_99 : Marks (lost_with false (up_from 100 99) 99) (change.Enter key) true false × Stores (lost_with false (up_from 100 99) 99) ending.Failed lost_read.seen
+  pub full_at_100 : Marks (lost_with false (up_from 100 100) 100) change.Keep false false × Tells (lost_with false (up_from 100 100) 100) 0x05 0x10
+  pub listed_at_100 : Marks (lost_with false (up_from 17 100) 100) change.Keep false false × Tells (lost_with false (up_from 17 100) 100) 0x05 0x00
   -- Enters and marks under the latch all the same, and stores nothing.
-  pub entered-under-the-latch : Marks (lost_with true (up_from 100 99) 99) (change.Enter key) true true × Tells (lost_with true (up_from 100 99) 99) 0x05 0x00
+  pub entered_under_the_latch : Marks (lost_with true (up_from 100 99) 99) (change.Enter key) true true × Tells (lost_with true (up_from 100 99) 99) 0x05 0x00
 
 pub full : Full
 unfolding computed
 full =
     record {
-      entered-at-99 = ((refl, refl, refl), (refl, refl, refl));
-      full-at-100 = ((refl, refl, refl), (refl, refl));
-      listed-at-100 = ((refl, refl, refl), (refl, refl));
-      entered-under-the-latch = ((refl, refl, refl), (refl, refl));
+      entered_at_99 = ((refl, refl, refl), (refl, refl, refl));
+      full_at_100 = ((refl, refl, refl), (refl, refl));
+      listed_at_100 = ((refl, refl, refl), (refl, refl));
+      entered_under_the_latch = ((refl, refl, refl), (refl, refl));
     }
 
 -- A TRIAL THAT PASSED, computed without the calls

@@ -93,43 +93,43 @@ Fails d = record_ok d ≡ false
 
 pub record Code1 : Type 0 where
   -- "more than 6 command or 533 data bytes counted"
-  pub command-bytes : Passes (with (table [] 0 [] 0) true 6 0 phase.Command) × Fails (with (table [] 0 [] 0) true 7 0 phase.Command)
-  pub data-bytes : Passes (with (table [] 0 [] 0) true 0 533 phase.Data) × Fails (with (table [] 0 [] 0) true 0 534 phase.Data)
+  pub command_bytes : Passes (with (table [] 0 [] 0) true 6 0 phase.Command) × Fails (with (table [] 0 [] 0) true 7 0 phase.Command)
+  pub data_bytes : Passes (with (table [] 0 [] 0) true 0 533 phase.Data) × Fails (with (table [] 0 [] 0) true 0 534 phase.Data)
   -- Tests both counts where nothing is awaited.
   pub idle : Passes (at false phase.Idle) × Fails (with (table [] 0 [] 0) false 7 0 phase.Idle)
   pub offered : Passes (at false (phase.Offered offer.Act)) × Fails (with (table [] 0 [] 0) false 0 534 (phase.Offered offer.Act))
   -- "start reads above 10"; a start has no table
-  pub start-reads : Passes (awaiting false (access.Start 10)) × Fails (awaiting false (access.Start 11))
+  pub start_reads : Passes (awaiting false (access.Start 10)) × Fails (awaiting false (access.Start 11))
   -- "any access but the start's awaited with no table"
   pub store : Passes (awaiting true (access.Store close)) × Fails (awaiting false (access.Store close))
   pub read : Passes (awaiting true (retry 9727 9791 100 155 89)) × Fails (awaiting false (retry 9727 9791 100 155 89))
   pub write : Passes (awaiting true (access.Write (target 9727 9791))) × Fails (awaiting false (access.Write (target 9727 9791)))
   pub verify : Passes (awaiting true (access.Verify (target 9727 9791))) × Fails (awaiting false (access.Verify (target 9727 9791)))
-  pub trial-write : Passes (awaiting true (access.TrialWrite (trial_of 9727 9791 false 100 100))) × Fails (awaiting false (access.TrialWrite (trial_of 9727 9791 false 100 100)))
+  pub trial_write : Passes (awaiting true (access.TrialWrite (trial_of 9727 9791 false 100 100))) × Fails (awaiting false (access.TrialWrite (trial_of 9727 9791 false 100 100)))
   pub reread : Passes (awaiting true (access.TrialRead (trial_of 9727 9791 false 100 100))) × Fails (awaiting false (access.TrialRead (trial_of 9727 9791 false 100 100)))
   -- "a pending sector or block out of range"
-  pub read-block : Fails (awaiting true (retry 9728 0 0 0 0))
-  pub read-sector : Fails (awaiting true (retry 0 9792 0 0 0))
-  pub write-block : Fails (awaiting true (access.Write (target 9728 0))) × Fails (awaiting true (access.Verify (target 9728 0)))
-  pub write-sector : Fails (awaiting true (access.Write (target 0 9792))) × Fails (awaiting true (access.Verify (target 0 9792)))
-  pub trial-block : Fails (awaiting true (access.TrialWrite (trial_of 9728 0 false 0 0))) × Fails (awaiting true (access.TrialRead (trial_of 9728 0 false 0 0)))
-  pub trial-sector : Fails (awaiting true (access.TrialWrite (trial_of 0 9792 false 0 0))) × Fails (awaiting true (access.TrialRead (trial_of 0 9792 false 0 0)))
+  pub read_block : Fails (awaiting true (retry 9728 0 0 0 0))
+  pub read_sector : Fails (awaiting true (retry 0 9792 0 0 0))
+  pub write_block : Fails (awaiting true (access.Write (target 9728 0))) × Fails (awaiting true (access.Verify (target 9728 0)))
+  pub write_sector : Fails (awaiting true (access.Write (target 0 9792))) × Fails (awaiting true (access.Verify (target 0 9792)))
+  pub trial_block : Fails (awaiting true (access.TrialWrite (trial_of 9728 0 false 0 0))) × Fails (awaiting true (access.TrialRead (trial_of 9728 0 false 0 0)))
+  pub trial_sector : Fails (awaiting true (access.TrialWrite (trial_of 0 9792 false 0 0))) × Fails (awaiting true (access.TrialRead (trial_of 0 9792 false 0 0)))
   -- "E plus rereads left above 255, spent above 89 while a read is awaited"
-  pub errors-and-rereads : Fails (awaiting true (retry 0 0 100 156 0)) × Fails (awaiting true (retry 0 0 1 255 0)) × Passes (awaiting true (retry 0 0 0 255 0))
+  pub errors_and_rereads : Fails (awaiting true (retry 0 0 100 156 0)) × Fails (awaiting true (retry 0 0 1 255 0)) × Passes (awaiting true (retry 0 0 0 255 0))
   pub spent : Passes (awaiting true (retry 0 0 0 0 89)) × Fails (awaiting true (retry 0 0 0 0 90))
   -- "a trial's rereads, at most 100, and failures, at most the rereads made"
   pub rereads : Fails (awaiting true (access.TrialWrite (trial_of 0 0 false 101 0))) × Fails (awaiting true (access.TrialRead (trial_of 0 0 false 101 0)))
   pub failures : Fails (awaiting true (access.TrialWrite (trial_of 0 0 false 0 1))) × Fails (awaiting true (access.TrialRead (trial_of 0 0 false 99 100)))
   -- "a spare under trial other than the next unused"
-  pub next-spare : Passes (awaiting true (access.TrialWrite (trial_of 0 4928 true 0 0))) × Fails (awaiting true (access.TrialWrite (trial_of 0 4929 true 0 0)))
-  pub next-verified : Passes (awaiting true (access.TrialRead (trial_of 0 4928 true 0 0))) × Fails (awaiting true (access.TrialRead (trial_of 0 4929 true 0 0)))
-  pub spare-before : Fails (with (table (dead ∷ []) 1 (5 ∷ 6 ∷ []) 2) true 0 0 (phase.Awaiting (access.TrialWrite (trial_of 0 4928 true 0 0))))
-  pub last-spare : Passes (with (table (replicate 31 dead) 31 [] 0) true 0 0 (phase.Awaiting (access.TrialWrite (trial_of 0 4959 true 0 0))))
-  pub no-spare : Fails (with (table (replicate 32 dead) 32 [] 0) true 0 0 (phase.Awaiting (access.TrialWrite (trial_of 0 4960 true 0 0))))
+  pub next_spare_lem : Passes (awaiting true (access.TrialWrite (trial_of 0 4928 true 0 0))) × Fails (awaiting true (access.TrialWrite (trial_of 0 4929 true 0 0)))
+  pub next_verified : Passes (awaiting true (access.TrialRead (trial_of 0 4928 true 0 0))) × Fails (awaiting true (access.TrialRead (trial_of 0 4929 true 0 0)))
+  pub spare_before : Fails (with (table (dead ∷ []) 1 (5 ∷ 6 ∷ []) 2) true 0 0 (phase.Awaiting (access.TrialWrite (trial_of 0 4928 true 0 0))))
+  pub last_spare_lem : Passes (with (table (replicate 31 dead) 31 [] 0) true 0 0 (phase.Awaiting (access.TrialWrite (trial_of 0 4959 true 0 0))))
+  pub no_spare : Fails (with (table (replicate 32 dead) 32 [] 0) true 0 0 (phase.Awaiting (access.TrialWrite (trial_of 0 4960 true 0 0))))
   -- "record with lists not well formed", in every record
-  pub marks-and-both-lists : Passes (lists (dead ∷ 9727 ∷ dead ∷ []) 3 (9727 ∷ []) 1)
-  pub spares-33 : Passes (lists (replicate 32 dead) 32 [] 0) × Fails (lists (replicate 33 dead) 33 [] 0)
-  pub bads-101 : Passes (lists [] 0 (blocks 100) 100) × Fails (lists [] 0 (blocks 101) 101)
+  pub marks_and_both_lists : Passes (lists (dead ∷ 9727 ∷ dead ∷ []) 3 (9727 ∷ []) 1)
+  pub spares_33 : Passes (lists (replicate 32 dead) 32 [] 0) × Fails (lists (replicate 33 dead) 33 [] 0)
+  pub bads_101 : Passes (lists [] 0 (blocks 100) 100) × Fails (lists [] 0 (blocks 101) 101)
   pub twice : Fails (lists (5 ∷ 5 ∷ []) 2 [] 0) × Fails (lists [] 0 (5 ∷ 5 ∷ []) 2)
   -- "a cause above 3", of an entry in use
   pub causes : Passes (caused (3 ∷ 3 ∷ [])) × Fails (caused (4 ∷ [])) × Fails (caused (0 ∷ 4 ∷ [])) × Passes (caused (0 ∷ 0 ∷ 4 ∷ []))
@@ -139,35 +139,35 @@ pub code_1 : Code1
 unfolding computed
 code_1 =
     record {
-      command-bytes = (refl, refl);
-      data-bytes = (refl, refl);
+      command_bytes = (refl, refl);
+      data_bytes = (refl, refl);
       idle = (refl, refl);
       offered = (refl, refl);
-      start-reads = (refl, refl);
+      start_reads = (refl, refl);
       store = (refl, refl);
       read = (refl, refl);
       write = (refl, refl);
       verify = (refl, refl);
-      trial-write = (refl, refl);
+      trial_write = (refl, refl);
       reread = (refl, refl);
-      read-block = refl;
-      read-sector = refl;
-      write-block = (refl, refl);
-      write-sector = (refl, refl);
-      trial-block = (refl, refl);
-      trial-sector = (refl, refl);
-      errors-and-rereads = (refl, refl, refl);
+      read_block = refl;
+      read_sector = refl;
+      write_block = (refl, refl);
+      write_sector = (refl, refl);
+      trial_block = (refl, refl);
+      trial_sector = (refl, refl);
+      errors_and_rereads = (refl, refl, refl);
       spent = (refl, refl);
       rereads = (refl, refl);
       failures = (refl, refl);
-      next-spare = (refl, refl);
-      next-verified = (refl, refl);
-      spare-before = refl;
-      last-spare = refl;
-      no-spare = refl;
-      marks-and-both-lists = refl;
-      spares-33 = (refl, refl);
-      bads-101 = (refl, refl);
+      next_spare_lem = (refl, refl);
+      next_verified = (refl, refl);
+      spare_before = refl;
+      last_spare_lem = refl;
+      no_spare = refl;
+      marks_and_both_lists = refl;
+      spares_33 = (refl, refl);
+      bads_101 = (refl, refl);
       twice = (refl, refl);
       causes = (refl, refl, refl, refl);
       no_block = (refl, refl, refl);
@@ -201,7 +201,7 @@ unstored =
 
 pub record InOrder : Type 0 where
   -- Tests 1 before 2, and for every call.
-  pub first-1 :
+  pub first_1 :
       (code_of_call raise broken 535 ≡ 1)
       × (code_of_call (lower 0x55) broken 535 ≡ 1)
       × (code_of_call (feed []) broken 535 ≡ 1)
@@ -209,7 +209,7 @@ pub record InOrder : Type 0 where
       × (code_of_call reset broken 535 ≡ 1)
       × (code_of_image broken 536 ≡ 1)
   -- Tests 2 before 3 and 4.
-  pub then-2 :
+  pub then_2 :
       (code_of_call raise starting 535 ≡ 2)
       × (code_of_call (lower 0x55) starting 537 ≡ 2)
       × (code_of_call (feed []) starting 0 ≡ 2)
@@ -217,13 +217,13 @@ pub record InOrder : Type 0 where
       × (code_of_call reset starting 532 ≡ 2)
       × (code_of_image starting 536 ≡ 2)
   -- Tests 3 before 4 and 5.
-  pub then-3 :
+  pub then_3 :
       (code_of_call raise starting 536 ≡ 3) × (code_of_call (surface 9 (7 ∷ [])) (at true phase.Idle) 536 ≡ 3) × (code_of_image starting 532 ≡ 3)
   -- Tests 4 before 5, for a read and for a write.
-  pub then-4 :
+  pub then_4 :
       (code_of_call (surface 4 (7 ∷ [])) starting 536 ≡ 4)
       × (code_of_call (surface 1 (7 ∷ [])) (awaiting true (access.Store close)) 536 ≡ 4)
-  pub then-5 : (code_of_call (surface 3 (7 ∷ [])) starting 536 ≡ 5) × (code_of_call (surface 0 (7 ∷ [])) (awaiting true (access.Store close)) 536 ≡ 5)
+  pub then_5 : (code_of_call (surface 3 (7 ∷ [])) starting 536 ≡ 5) × (code_of_call (surface 0 (7 ∷ [])) (awaiting true (access.Store close)) 536 ≡ 5)
   -- Gives none where a call is taken, whatever it answers.
   pub none :
       (code_of_call (surface 3 []) starting 536 ≡ 0)
@@ -240,10 +240,10 @@ pub in_order : InOrder
 unfolding computed image_out_of
 in_order =
     record {
-      first-1 = (refl, refl, refl, refl, refl, refl);
-      then-2 = (refl, refl, refl, refl, refl, refl);
-      then-3 = (refl, refl, refl);
-      then-4 = (refl, refl);
-      then-5 = (refl, refl);
+      first_1 = (refl, refl, refl, refl, refl, refl);
+      then_2 = (refl, refl, refl, refl, refl, refl);
+      then_3 = (refl, refl, refl);
+      then_4 = (refl, refl);
+      then_5 = (refl, refl);
       none = (refl, refl, refl, refl, refl, refl, refl, refl, refl);
     }

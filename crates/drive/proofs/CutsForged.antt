@@ -44,7 +44,7 @@ taken_anew = found [] ++ writes_good 1 ++ starts ++ found [] ++ reads_good 7
 
 pub old_bytes_after_a_later_image : Allows sevens blank taken_anew → ⊥
 unfolding computed
-old_bytes_after_a_later_image a = not_the_one 7 1 refl ((last_asks sevens blank taken_anew a).0.read-rule refl)
+old_bytes_after_a_later_image a = not_the_one 7 1 refl ((last_asks sevens blank taken_anew a).0.read_rule refl)
 
 -- It leaves those of a block that was never touched too: the later image has it at spare 0, which holds an eight. The seven of its first
 -- place is its candidate still.
@@ -53,7 +53,7 @@ placed_elsewhere v = found [] ++ starts ++ found (17 ∷ []) ++ reads_at_spare v
 
 pub bytes_of_the_place_that_a_later_image_gives : Allows eight_at_spare blank (placed_elsewhere 8) → ⊥
 unfolding computed
-bytes_of_the_place_that_a_later_image_gives a = not_the_one 8 7 refl ((last_asks eight_at_spare blank (placed_elsewhere 8) a).0.read-rule refl)
+bytes_of_the_place_that_a_later_image_gives a = not_the_one 8 7 refl ((last_asks eight_at_spare blank (placed_elsewhere 8) a).0.read_rule refl)
 
 pub a_block_never_touched_keeps_the_candidate_of_its_first_place : AllFit eight_at_spare blank (placed_elsewhere 7)
 unfolding computed
@@ -65,7 +65,7 @@ first_image v = found_none ++ starts ++ found (17 ∷ []) ++ reads_at_spare v
 
 pub bytes_of_the_home_that_no_image_gave : Allows eight_at_spare blank (first_image 7) → ⊥
 unfolding computed
-bytes_of_the_home_that_no_image_gave a = not_the_one 7 8 refl ((last_asks eight_at_spare blank (first_image 7) a).0.read-rule refl)
+bytes_of_the_home_that_no_image_gave a = not_the_one 7 8 refl ((last_asks eight_at_spare blank (first_image 7) a).0.read_rule refl)
 
 pub the_first_image_may_come_after_a_start : AllFit eight_at_spare blank (first_image 8)
 unfolding computed
@@ -82,9 +82,9 @@ pub bytes_of_a_write_ended_before_its_write_s :
     (Allows sevens blank (ended_at [] 1) → ⊥) × (Allows sevens blank (ended_at (says go answer.Wait ∷ []) 1) → ⊥) × (Allows sevens blank (ended_at (says go (reads 17) ∷ []) 1) → ⊥)
 unfolding computed
 bytes_of_a_write_ended_before_its_write_s = (
-  λ a. not_the_one 1 7 refl ((last_asks sevens blank (ended_at [] 1) a).0.read-rule refl),
-  λ a. not_the_one 1 7 refl ((last_asks sevens blank (ended_at (says go answer.Wait ∷ []) 1) a).0.read-rule refl),
-  λ a. not_the_one 1 7 refl ((last_asks sevens blank (ended_at (says go (reads 17) ∷ []) 1) a).0.read-rule refl),
+  λ a. not_the_one 1 7 refl ((last_asks sevens blank (ended_at [] 1) a).0.read_rule refl),
+  λ a. not_the_one 1 7 refl ((last_asks sevens blank (ended_at (says go answer.Wait ∷ []) 1) a).0.read_rule refl),
+  λ a. not_the_one 1 7 refl ((last_asks sevens blank (ended_at (says go (reads 17) ∷ []) 1) a).0.read_rule refl),
 )
 
 -- It asked for one, whether that was answered or not: its bytes or the older ones may come, and no others.
@@ -96,7 +96,7 @@ answered_too = says go (writes 17) ∷ says done (reads 17) ∷ []
 
 pub bytes_never_written_after_a_cut : Allows sevens blank (ended_at asked 9) → ⊥
 unfolding computed
-bytes_never_written_after_a_cut a = not_the_two 9 1 7 refl refl ((last_asks sevens blank (ended_at asked 9) a).0.read-rule refl)
+bytes_never_written_after_a_cut a = not_the_two 9 1 7 refl refl ((last_asks sevens blank (ended_at asked 9) a).0.read_rule refl)
 
 pub bytes_of_a_write_ended_after_its_write_s_fit :
     AllFit sevens blank (ended_at asked 1) × AllFit sevens blank (ended_at asked 7) × AllFit sevens blank (ended_at answered_too 1) × AllFit sevens blank (ended_at answered_too 7)
@@ -114,7 +114,7 @@ two_reads = ended_at asked 1 ++ reads_good 7
 
 pub bytes_that_change_after_a_cut : Allows sevens blank two_reads → ⊥
 unfolding computed
-bytes_that_change_after_a_cut a = not_the_one 7 1 refl ((last_asks sevens blank two_reads a).0.read-rule refl)
+bytes_that_change_after_a_cut a = not_the_one 7 1 refl ((last_asks sevens blank two_reads a).0.read_rule refl)
 
 -- The write s was that of block 18: block 17 has no new candidate.
 abbrev beside_it : List Line
@@ -122,7 +122,7 @@ beside_it = found [] ++ asks_write_to 18 1 ++ (says go (writes 18) ∷ []) ++ st
 
 pub bytes_of_a_cut_write_to_another_block : Allows sevens blank beside_it → ⊥
 unfolding computed
-bytes_of_a_cut_write_to_another_block a = not_the_one 1 7 refl ((last_asks sevens blank beside_it a).0.read-rule refl)
+bytes_of_a_cut_write_to_another_block a = not_the_one 1 7 refl ((last_asks sevens blank beside_it a).0.read_rule refl)
 
 -- The write was reported before the start, and adds nothing to its block at the start.
 abbrev reported_before : List Line
@@ -130,7 +130,7 @@ reported_before = found [] ++ writes_good 1 ++ asks_write 2 ++ (says go (writes 
 
 pub older_bytes_after_a_good_write_and_a_start : Allows sevens blank reported_before → ⊥
 unfolding computed
-older_bytes_after_a_good_write_and_a_start a = not_the_one 1 2 refl ((last_asks sevens blank reported_before a).0.read-rule refl)
+older_bytes_after_a_good_write_and_a_start a = not_the_one 1 2 refl ((last_asks sevens blank reported_before a).0.read_rule refl)
 
 -- A reset broke it off before the start: it is neither good nor failed, and a start adds nothing of it.
 abbrev broken_off_before : List Line
@@ -138,7 +138,7 @@ broken_off_before = found [] ++ asks_write 1 ++ asked ++ (says reset answer.Wait
 
 pub bytes_of_a_write_broken_off_before_a_start : Allows sevens blank broken_off_before → ⊥
 unfolding computed
-bytes_of_a_write_broken_off_before_a_start a = not_the_one 1 7 refl ((last_asks sevens blank broken_off_before a).0.read-rule refl)
+bytes_of_a_write_broken_off_before_a_start a = not_the_one 1 7 refl ((last_asks sevens blank broken_off_before a).0.read_rule refl)
 
 -- A read writes again what it read, and a start adds nothing of it: no byte was fed, so its bytes would be zeros.
 abbrev read_ended : List Line
@@ -146,7 +146,7 @@ read_ended = found [] ++ asks_read 17 ++ (says go (reads 17) ∷ says (garbles 9
 
 pub bytes_of_a_cut_read : Allows sevens blank read_ended → ⊥
 unfolding computed
-bytes_of_a_cut_read a = not_the_one 0 7 refl ((last_asks sevens blank read_ended a).0.read-rule refl)
+bytes_of_a_cut_read a = not_the_one 0 7 refl ((last_asks sevens blank read_ended a).0.read_rule refl)
 
 -- AFTER A START THE COMMAND BEFORE IS OVER
 
@@ -164,7 +164,7 @@ late_finish_unasked = found [] ++ asks_write 1 ++ (says go answer.Wait ∷ []) +
 
 pub bytes_of_a_write_finished_after_a_start : Allows sevens blank late_finish_unasked → ⊥
 unfolding computed
-bytes_of_a_write_finished_after_a_start a = not_the_one 1 7 refl ((last_asks sevens blank late_finish_unasked a).0.read-rule refl)
+bytes_of_a_write_finished_after_a_start a = not_the_one 1 7 refl ((last_asks sevens blank late_finish_unasked a).0.read_rule refl)
 
 -- The command bytes of before the start are dropped: what is acted on without new ones is a read of block 0.
 abbrev command_of_before : List Line
@@ -172,7 +172,7 @@ command_of_before = found [] ++ asks_read 17 ++ starts ++ found [] ++ (offers of
 
 pub a_command_of_before_the_start : Allows sevens blank command_of_before → ⊥
 unfolding computed
-a_command_of_before_the_start a = not_there 0 17 refl ((last_asks sevens blank command_of_before a).0.first-rule refl).1
+a_command_of_before_the_start a = not_there 0 17 refl ((last_asks sevens blank command_of_before a).0.first_rule refl).1
 
 -- At a start itself there is no rule to keep.
 pub at_a_start_nothing_is_asked : (H : History) → FitsLine H (restart (reads 4960)) × FitsLine H (restart (answer.Refused refusal.Buffer))
@@ -189,14 +189,14 @@ refused_between = found [] ++ asks_write 1 ++ asked ++ starts_in_vain ++ (ends d
 
 pub old_bytes_after_a_refused_start : Allows sevens blank refused_between → ⊥
 unfolding computed
-old_bytes_after_a_refused_start a = not_the_one 7 1 refl ((last_asks sevens blank refused_between a).0.read-rule refl)
+old_bytes_after_a_refused_start a = not_the_one 7 1 refl ((last_asks sevens blank refused_between a).0.read_rule refl)
 
 abbrev refused_then_image : List Line
 refused_then_image = found [] ++ starts_in_vain ++ found (17 ∷ []) ++ asks_read 17 ++ (says go (reads 4928) ∷ [])
 
 pub a_table_after_a_refused_start : Allows sevens blank refused_then_image → ⊥
 unfolding computed
-a_table_after_a_refused_start a = not_there 17 4928 refl ((last_asks sevens blank refused_then_image a).0.first-rule refl).1
+a_table_after_a_refused_start a = not_there 17 4928 refl ((last_asks sevens blank refused_then_image a).0.first_rule refl).1
 
 -- Nor does it add the bytes of the write under way, which fails after it without a write s.
 abbrev refused_then_failed : List Line
@@ -204,7 +204,7 @@ refused_then_failed = found [] ++ asks_write 1 ++ (says go answer.Wait ∷ []) +
 
 pub bytes_of_a_write_that_failed_after_a_refused_start : Allows sevens blank refused_then_failed → ⊥
 unfolding computed
-bytes_of_a_write_that_failed_after_a_refused_start a = not_the_one 1 7 refl ((last_asks sevens blank refused_then_failed a).0.read-rule refl)
+bytes_of_a_write_that_failed_after_a_refused_start a = not_the_one 1 7 refl ((last_asks sevens blank refused_then_failed a).0.read_rule refl)
 
 -- SECTORS
 
@@ -214,7 +214,7 @@ moved_by_the_image = found [] ++ starts ++ found (17 ∷ []) ++ asks_read 17 ++ 
 
 pub a_first_access_at_the_old_place_after_a_later_image : Allows sevens blank moved_by_the_image → ⊥
 unfolding computed
-a_first_access_at_the_old_place_after_a_later_image a = not_there 4928 17 refl ((last_asks sevens blank moved_by_the_image a).0.first-rule refl).1
+a_first_access_at_the_old_place_after_a_later_image a = not_there 4928 17 refl ((last_asks sevens blank moved_by_the_image a).0.first_rule refl).1
 
 -- The block had moved to spare 0, and the later image has it at its home.
 abbrev moved_back : List Line
@@ -224,7 +224,7 @@ moved_back =
 
 pub a_first_access_at_a_spare_that_a_later_image_has_not : Allows sevens blank moved_back → ⊥
 unfolding computed
-a_first_access_at_a_spare_that_a_later_image_has_not a = not_there 17 4928 refl ((last_asks sevens blank moved_back a).0.first-rule refl).1
+a_first_access_at_a_spare_that_a_later_image_has_not a = not_there 17 4928 refl ((last_asks sevens blank moved_back a).0.first_rule refl).1
 
 -- Until an image is read they stay: a start that reads none leaves the block at its home.
 abbrev no_image : List Line
@@ -232,7 +232,7 @@ no_image = found [] ++ starts ++ found_none ++ asks_read 17 ++ (says go (reads 4
 
 pub a_first_access_elsewhere_after_a_start_without_an_image : Allows sevens blank no_image → ⊥
 unfolding computed
-a_first_access_elsewhere_after_a_start_without_an_image a = not_there 17 4928 refl ((last_asks sevens blank no_image a).0.first-rule refl).1
+a_first_access_elsewhere_after_a_start_without_an_image a = not_there 17 4928 refl ((last_asks sevens blank no_image a).0.first_rule refl).1
 
 -- WHY A COMMAND FAILS WHILE A PLACE IS UNSTORED. Block 17 is at spare 0 and holds the one there, by a table that was not stored.
 
@@ -248,8 +248,8 @@ good_move xs = found [] ++ moves_unstored times_out 0x04 ++ xs ++ starts ++ foun
 pub a_move_reported_good_whose_store_was_not_done : (Allows sevens blank (good_move []) → ⊥) × (Allows sevens blank (good_move (reads_at_spare 1)) → ⊥)
 unfolding computed
 a_move_reported_good_whose_store_was_not_done = (
-  λ a. not_the_one 7 1 refl ((last_asks sevens blank (good_move []) a).0.read-rule refl),
-  λ a. not_the_one 7 1 refl ((last_asks sevens blank (good_move (reads_at_spare 1)) a).0.read-rule refl),
+  λ a. not_the_one 7 1 refl ((last_asks sevens blank (good_move []) a).0.read_rule refl),
+  λ a. not_the_one 7 1 refl ((last_asks sevens blank (good_move (reads_at_spare 1)) a).0.read_rule refl),
 )
 
 -- Reported failed, as it has to be: the old bytes may come.
@@ -271,7 +271,7 @@ latched_read_lost = latched_read ++ starts ++ found [] ++ reads_good 7
 
 pub old_bytes_after_a_good_read_of_an_unstored_place : Allows sevens blank latched_read_lost → ⊥
 unfolding computed
-old_bytes_after_a_good_read_of_an_unstored_place a = not_the_one 7 1 refl ((last_asks sevens blank latched_read_lost a).0.read-rule refl)
+old_bytes_after_a_good_read_of_an_unstored_place a = not_the_one 7 1 refl ((last_asks sevens blank latched_read_lost a).0.read_rule refl)
 
 -- The sparing bit moves the block also where its store was not done.
 abbrev unstored_forgotten : List Line
@@ -279,7 +279,7 @@ unstored_forgotten = found [] ++ moves_unstored times_out 0x05 ++ asks_read 17 +
 
 pub a_block_read_at_its_home_after_an_unstored_move : Allows sevens blank unstored_forgotten → ⊥
 unfolding computed
-a_block_read_at_its_home_after_an_unstored_move a = not_there 4928 17 refl ((last_asks sevens blank unstored_forgotten a).0.first-rule refl).1
+a_block_read_at_its_home_after_an_unstored_move a = not_there 4928 17 refl ((last_asks sevens blank unstored_forgotten a).0.first_rule refl).1
 
 -- A GOOD REPORT COMES AFTER A TABLE, read since the last start
 

@@ -83,35 +83,35 @@ moving =
 
 pub record Examples : Type 0 where
   pub block_0 : at_home 0 ≡ 0
-  pub block-4927 : at_home 4927 ≡ 4927
-  pub block-4928 : at_home 4928 ≡ 4992
-  pub block-9727 : at_home 9727 ≡ 9791
-  pub block-9728 : is_block 9728 ≡ false
-  pub crc-then-good : Ended (reading 0 1 (crc ∷ good ∷ [])) (0x08 ∷ 0 ∷ 0 ∷ 0 ∷ [])
-  pub crc-good-good : Ended (reading 2 1 (crc ∷ good ∷ good ∷ [])) (0x08 ∷ 0 ∷ 0 ∷ 0 ∷ [])
-  pub crc-crc-good :
+  pub block_4927 : at_home 4927 ≡ 4927
+  pub block_4928 : at_home 4928 ≡ 4992
+  pub block_9727 : at_home 9727 ≡ 9791
+  pub block_9728 : is_block 9728 ≡ false
+  pub crc_then_good : Ended (reading 0 1 (crc ∷ good ∷ [])) (0x08 ∷ 0 ∷ 0 ∷ 0 ∷ [])
+  pub crc_good_good : Ended (reading 2 1 (crc ∷ good ∷ good ∷ [])) (0x08 ∷ 0 ∷ 0 ∷ 0 ∷ [])
+  pub crc_crc_good :
       ((reading 2 1 (crc ∷ crc ∷ good ∷ [])).step.answer ≡ answer.Write (record { 0 = 0 })) × ((reading 2 1 (crc ∷ crc ∷ good ∷ [])).step.drive.state.phase ≡ moving)
-  pub eleven-timeouts : EndedStored 0 1 (replicate 11 timeout) (0x05 ∷ 0 ∷ 0 ∷ 0 ∷ [])
-  pub nine-and-nine : EndedStored 0 1 (crc ∷ replicate 9 timeout ++ replicate 9 crc) (0x0D ∷ 0 ∷ 0 ∷ 0 ∷ [])
-  pub spares-32 : well_formed (counted 32 0) ≡ true
-  pub spares-33 : well_formed (counted 33 0) ≡ false
-  pub bads-101 : well_formed (counted 0 101) ≡ false
+  pub eleven_timeouts_lem : EndedStored 0 1 (replicate 11 timeout) (0x05 ∷ 0 ∷ 0 ∷ 0 ∷ [])
+  pub nine_and_nine : EndedStored 0 1 (crc ∷ replicate 9 timeout ++ replicate 9 crc) (0x0D ∷ 0 ∷ 0 ∷ 0 ∷ [])
+  pub spares_32 : well_formed (counted 32 0) ≡ true
+  pub spares_33 : well_formed (counted 33 0) ≡ false
+  pub bads_101 : well_formed (counted 0 101) ≡ false
 
 pub examples : Examples
 unfolding computed
 examples =
     record {
       block_0 = refl;
-      block-4927 = refl;
-      block-4928 = refl;
-      block-9727 = refl;
-      block-9728 = refl;
-      crc-then-good = (refl, refl);
-      crc-good-good = (refl, refl);
-      crc-crc-good = (refl, refl);
-      eleven-timeouts = (refl, (refl, refl));
-      nine-and-nine = (refl, (refl, refl));
-      spares-32 = refl;
-      spares-33 = refl;
-      bads-101 = refl;
+      block_4927 = refl;
+      block_4928 = refl;
+      block_9727 = refl;
+      block_9728 = refl;
+      crc_then_good = (refl, refl);
+      crc_good_good = (refl, refl);
+      crc_crc_good = (refl, refl);
+      eleven_timeouts_lem = (refl, (refl, refl));
+      nine_and_nine = (refl, (refl, refl));
+      spares_32 = refl;
+      spares_33 = refl;
+      bads_101 = refl;
     }

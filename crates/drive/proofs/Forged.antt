@@ -46,7 +46,7 @@ never_written = found [] ++ reads_good 9
 
 pub bytes_never_written : Allows sevens blank never_written → ⊥
 unfolding computed
-bytes_never_written a = not_the_one 9 7 refl (a.2.2.2.2.2.2.0.read-rule refl)
+bytes_never_written a = not_the_one 9 7 refl (a.2.2.2.2.2.2.0.read_rule refl)
 
 -- The nine came with answer 1, and the read is reported good with the bit of a CRC error.
 abbrev garbled_kept : List Line
@@ -54,7 +54,7 @@ garbled_kept = found [] ++ asks_read 17 ++ (says go (reads 17) ∷ says (garbles
 
 pub garbled_bytes_reported_good : Allows sevens blank garbled_kept → ⊥
 unfolding computed
-garbled_bytes_reported_good a = not_the_one 9 7 refl ((last_asks sevens blank garbled_kept a).0.read-rule refl)
+garbled_bytes_reported_good a = not_the_one 9 7 refl ((last_asks sevens blank garbled_kept a).0.read_rule refl)
 
 -- The two was written since.
 abbrev stale : List Line
@@ -62,7 +62,7 @@ stale = found [] ++ writes_good 1 ++ writes_good 2 ++ reads_good 1
 
 pub old_bytes_after_a_good_write : Allows sevens blank stale → ⊥
 unfolding computed
-old_bytes_after_a_good_write a = not_the_one 1 2 refl ((last_asks sevens blank stale a).0.read-rule refl)
+old_bytes_after_a_good_write a = not_the_one 1 2 refl ((last_asks sevens blank stale a).0.read_rule refl)
 
 -- After a failed write of the one either is a candidate, but not first the one and then the seven.
 abbrev changing : List Line
@@ -72,7 +72,7 @@ changing =
 
 pub bytes_that_change_between_two_good_reads : Allows sevens blank changing → ⊥
 unfolding computed
-bytes_that_change_between_two_good_reads a = not_the_one 7 1 refl ((last_asks sevens blank changing a).0.read-rule refl)
+bytes_that_change_between_two_good_reads a = not_the_one 7 1 refl ((last_asks sevens blank changing a).0.read_rule refl)
 
 -- A handshake byte other than 55 at offer 06: this finish reports nothing, though bit 0 is clear.
 abbrev broken_off : List Line
@@ -80,7 +80,7 @@ broken_off = found [] ++ asks_write 1 ++ (ends (lower 0x00) 0x80 0x00 1 ∷ []) 
 
 pub bytes_of_a_write_broken_off : Allows sevens blank broken_off → ⊥
 unfolding computed
-bytes_of_a_write_broken_off a = not_the_one 1 7 refl ((last_asks sevens blank broken_off a).0.read-rule refl)
+bytes_of_a_write_broken_off a = not_the_one 1 7 refl ((last_asks sevens blank broken_off a).0.read_rule refl)
 
 -- The write of the two fails with no write s of its own, after a command that asked for one.
 abbrev not_made : List Line
@@ -88,7 +88,7 @@ not_made = found [] ++ writes_good 1 ++ asks_write 2 ++ (ends go 0x11 0x00 2 ∷
 
 pub bytes_of_a_write_not_made : Allows sevens blank not_made → ⊥
 unfolding computed
-bytes_of_a_write_not_made a = not_the_one 2 1 refl ((last_asks sevens blank not_made a).0.read-rule refl)
+bytes_of_a_write_not_made a = not_the_one 2 1 refl ((last_asks sevens blank not_made a).0.read_rule refl)
 
 -- The same, where it asks for a read s.
 abbrev not_made_after_aread : List Line
@@ -96,7 +96,7 @@ not_made_after_aread = found [] ++ writes_good 1 ++ asks_write 2 ++ (says go (re
 
 pub bytes_of_a_write_not_made_after_a_read : Allows sevens blank not_made_after_aread → ⊥
 unfolding computed
-bytes_of_a_write_not_made_after_a_read a = not_the_one 2 1 refl ((last_asks sevens blank not_made_after_aread a).0.read-rule refl)
+bytes_of_a_write_not_made_after_a_read a = not_the_one 2 1 refl ((last_asks sevens blank not_made_after_aread a).0.read_rule refl)
 
 -- A failed read adds no candidate, even after a write s of its own.
 abbrev failed_read : List Line
@@ -104,7 +104,7 @@ failed_read = found [] ++ asks_read 17 ++ (says go (reads 17) ∷ says (garbles 
 
 pub bytes_of_a_failed_read : Allows sevens blank failed_read → ⊥
 unfolding computed
-bytes_of_a_failed_read a = not_the_one 9 7 refl ((last_asks sevens blank failed_read a).0.read-rule refl)
+bytes_of_a_failed_read a = not_the_one 9 7 refl ((last_asks sevens blank failed_read a).0.read_rule refl)
 
 -- The first finish reports it failed with nothing written. A second one, with bit 0 clear, reports nothing.
 abbrev finished_twice : List Line
@@ -112,7 +112,7 @@ finished_twice = found [] ++ asks_write 1 ++ (ends go 0x11 0x00 1 ∷ ends times
 
 pub bytes_of_a_write_that_finished_twice : Allows sevens blank finished_twice → ⊥
 unfolding computed
-bytes_of_a_write_that_finished_twice a = not_the_one 1 7 refl ((last_asks sevens blank finished_twice a).0.read-rule refl)
+bytes_of_a_write_that_finished_twice a = not_the_one 1 7 refl ((last_asks sevens blank finished_twice a).0.read_rule refl)
 
 -- The one was not taken, so zeros were written.
 abbrev fed_in_vain : List Line
@@ -123,7 +123,7 @@ fed_in_vain =
 
 pub bytes_of_a_refused_feed : Allows sevens blank fed_in_vain → ⊥
 unfolding computed
-bytes_of_a_refused_feed a = not_the_one 1 0 refl ((last_asks sevens blank fed_in_vain a).0.read-rule refl)
+bytes_of_a_refused_feed a = not_the_one 1 0 refl ((last_asks sevens blank fed_in_vain a).0.read_rule refl)
 
 -- A reset breaks the write off, so the finish after it reports nothing.
 abbrev reset_in_between : List Line
@@ -131,7 +131,7 @@ reset_in_between = found [] ++ asks_write 1 ++ (says go (writes 17) ∷ says res
 
 pub bytes_of_a_write_that_was_reset : Allows sevens blank reset_in_between → ⊥
 unfolding computed
-bytes_of_a_write_that_was_reset a = not_the_one 1 7 refl ((last_asks sevens blank reset_in_between a).0.read-rule refl)
+bytes_of_a_write_that_was_reset a = not_the_one 1 7 refl ((last_asks sevens blank reset_in_between a).0.read_rule refl)
 
 -- The one was fed, and the data part begins with a nine at the finish.
 abbrev left_behind : List Line
@@ -139,7 +139,7 @@ left_behind = found [] ++ asks_write 1 ++ (says go (writes 17) ∷ ends done 0x0
 
 pub bytes_that_a_good_write_left_in_the_buffer : Allows sevens blank left_behind → ⊥
 unfolding computed
-bytes_that_a_good_write_left_in_the_buffer a = not_the_one 9 1 refl ((last_asks sevens blank left_behind a).0.read-rule refl)
+bytes_that_a_good_write_left_in_the_buffer a = not_the_one 9 1 refl ((last_asks sevens blank left_behind a).0.read_rule refl)
 
 -- The data part holds another job's nines at offer 03. The one is fed alone, and the nines behind it are written and read.
 abbrev nines : Bytes
@@ -161,7 +161,7 @@ not_behind (inr e) = e
 
 pub bytes_of_another_job_behind_short_data : Allows sevens blank not_zeroed → ⊥
 unfolding computed
-bytes_of_another_job_behind_short_data a = not_behind ((last_asks sevens blank not_zeroed a).0.read-rule refl)
+bytes_of_another_job_behind_short_data a = not_behind ((last_asks sevens blank not_zeroed a).0.read_rule refl)
 
 -- It is reported good and asked for no write s, so the seven is a candidate no more.
 abbrev good_not_made : List Line
@@ -169,7 +169,7 @@ good_not_made = found [] ++ asks_write 1 ++ (ends go 0x00 0x00 1 ∷ []) ++ read
 
 pub old_bytes_after_a_write_reported_good_and_not_made : Allows sevens blank good_not_made → ⊥
 unfolding computed
-old_bytes_after_a_write_reported_good_and_not_made a = not_the_one 7 1 refl ((last_asks sevens blank good_not_made a).0.read-rule refl)
+old_bytes_after_a_write_reported_good_and_not_made a = not_the_one 7 1 refl ((last_asks sevens blank good_not_made a).0.read_rule refl)
 
 -- A good read meets the rule whether the block moved or not.
 abbrev moved_with_nines : List Line
@@ -177,7 +177,7 @@ moved_with_nines = found [] ++ asks_read 17 ++ (says go (reads 17) ∷ says (gar
 
 pub bytes_never_written_with_the_sparing_bit : Allows sevens blank moved_with_nines → ⊥
 unfolding computed
-bytes_never_written_with_the_sparing_bit a = not_the_one 9 7 refl ((last_asks sevens blank moved_with_nines a).0.read-rule refl)
+bytes_never_written_with_the_sparing_bit a = not_the_one 9 7 refl ((last_asks sevens blank moved_with_nines a).0.read_rule refl)
 
 -- After the write s a handshake byte other than 55 is answered finished. So the write is not reported.
 abbrev byte_in_between : List Line
@@ -185,7 +185,7 @@ byte_in_between = found [] ++ asks_write 1 ++ (says go (writes 17) ∷ ends (low
 
 pub bytes_of_a_write_that_another_byte_broke_off : Allows sevens blank byte_in_between → ⊥
 unfolding computed
-bytes_of_a_write_that_another_byte_broke_off a = not_the_one 1 7 refl ((last_asks sevens blank byte_in_between a).0.read-rule refl)
+bytes_of_a_write_that_another_byte_broke_off a = not_the_one 1 7 refl ((last_asks sevens blank byte_in_between a).0.read_rule refl)
 
 -- The one was fed and the write failed. The nine in the data part is no candidate.
 abbrev failed_left : List Line
@@ -193,14 +193,14 @@ failed_left = found [] ++ asks_write 1 ++ (says go (writes 17) ∷ ends times_ou
 
 pub bytes_that_a_failed_write_left_in_the_buffer : Allows sevens blank failed_left → ⊥
 unfolding computed
-bytes_that_a_failed_write_left_in_the_buffer a = not_the_two 9 1 7 refl refl ((last_asks sevens blank failed_left a).0.read-rule refl)
+bytes_that_a_failed_write_left_in_the_buffer a = not_the_two 9 1 7 refl refl ((last_asks sevens blank failed_left a).0.read_rule refl)
 
 abbrev last_byte_wrong : List Line
 last_byte_wrong = found [] ++ asks_read 17 ++ (says go (reads 17) ∷ shows seven_and_one (surface 0 seven_and_one) answer.Finished ∷ [])
 
 pub bytes_with_the_last_one_wrong : Allows sevens blank last_byte_wrong → ⊥
 unfolding computed
-bytes_with_the_last_one_wrong a = no_candidate_by_its_last_byte ((last_asks sevens blank last_byte_wrong a).0.read-rule refl)
+bytes_with_the_last_one_wrong a = no_candidate_by_its_last_byte ((last_asks sevens blank last_byte_wrong a).0.read_rule refl)
 
 -- Another block holds the image of a table. To read it is not to read the table.
 abbrev image_elsewhere : List Line
@@ -210,7 +210,7 @@ image_elsewhere =
 
 pub old_bytes_after_an_image_read_elsewhere : Allows sevens blank image_elsewhere → ⊥
 unfolding computed
-old_bytes_after_an_image_read_elsewhere a = not_the_one 7 1 refl ((last_asks sevens blank image_elsewhere a).0.read-rule refl)
+old_bytes_after_an_image_read_elsewhere a = not_the_one 7 1 refl ((last_asks sevens blank image_elsewhere a).0.read_rule refl)
 
 -- No sector holds anything as the list begins, and nothing is written.
 abbrev unreadable_at_first : List Line
@@ -218,7 +218,7 @@ unreadable_at_first = found [] ++ reads_good 7
 
 pub a_good_read_of_an_unreadable_sector : Allows (λ s. unreadable) blank unreadable_at_first → ⊥
 unfolding computed
-a_good_read_of_an_unreadable_sector a = (last_asks (λ s. unreadable) blank unreadable_at_first a).0.read-rule refl
+a_good_read_of_an_unreadable_sector a = (last_asks (λ s. unreadable) blank unreadable_at_first a).0.read_rule refl
 
 -- Without an access, as from the buffer.
 abbrev before_the_table : List Line
@@ -226,7 +226,7 @@ before_the_table = found_none ++ asks_read 17 ++ (ends go 0x00 0x00 7 ∷ [])
 
 pub a_good_read_before_any_table : Allows sevens blank before_the_table → ⊥
 unfolding computed
-a_good_read_before_any_table a = (last_asks sevens blank before_the_table a).0.read-rule refl
+a_good_read_before_any_table a = (last_asks sevens blank before_the_table a).0.read_rule refl
 
 -- A second 55 breaks nothing off, so the write is reported good.
 abbrev second_go : List Line
@@ -234,7 +234,7 @@ second_go = found [] ++ asks_write 1 ++ (says go (writes 17) ∷ says go answer.
 
 pub old_bytes_after_a_second_55 : Allows sevens blank second_go → ⊥
 unfolding computed
-old_bytes_after_a_second_55 a = not_the_one 7 1 refl ((last_asks sevens blank second_go a).0.read-rule refl)
+old_bytes_after_a_second_55 a = not_the_one 7 1 refl ((last_asks sevens blank second_go a).0.read_rule refl)
 
 -- The lower with 55 after offer 03 acts on no command.
 abbrev too_early : List Line
@@ -242,7 +242,7 @@ too_early = found [] ++ opens_write 17 ++ (ends go 0x00 0x00 0 ∷ []) ++ reads_
 
 pub bytes_of_a_write_finished_before_its_data : Allows sevens blank too_early → ⊥
 unfolding computed
-bytes_of_a_write_finished_before_its_data a = not_the_one 0 7 refl ((last_asks sevens blank too_early a).0.read-rule refl)
+bytes_of_a_write_finished_before_its_data a = not_the_one 0 7 refl ((last_asks sevens blank too_early a).0.read_rule refl)
 
 -- An image comes while no read is awaited: it is no table.
 abbrev image_unasked : List Line
@@ -250,7 +250,7 @@ image_unasked = found [] ++ writes_good 1 ++ (says (surface 0 (form_a [] [])) an
 
 pub old_bytes_after_an_image_not_asked_for : Allows sevens blank image_unasked → ⊥
 unfolding computed
-old_bytes_after_an_image_not_asked_for a = not_the_one 7 1 refl ((last_asks sevens blank image_unasked a).0.read-rule refl)
+old_bytes_after_an_image_not_asked_for a = not_the_one 7 1 refl ((last_asks sevens blank image_unasked a).0.read_rule refl)
 
 -- The one was written to block 18.
 abbrev written_beside : List Line
@@ -258,7 +258,7 @@ written_beside = found [] ++ asks_write_to 18 1 ++ (says go (writes 18) ∷ ends
 
 pub bytes_of_a_write_to_another_block : Allows sevens blank written_beside → ⊥
 unfolding computed
-bytes_of_a_write_to_another_block a = not_the_one 1 7 refl ((last_asks sevens blank written_beside a).0.read-rule refl)
+bytes_of_a_write_to_another_block a = not_the_one 1 7 refl ((last_asks sevens blank written_beside a).0.read_rule refl)
 
 -- The table has block 17 at spare 0, which holds an eight. Its home holds a seven.
 abbrev eight_at_spare : Sectors
@@ -269,7 +269,7 @@ home_of_amoved_block = found (17 ∷ []) ++ asks_read 17 ++ (says go (reads 4928
 
 pub bytes_of_the_home_of_a_moved_block : Allows eight_at_spare blank home_of_amoved_block → ⊥
 unfolding computed
-bytes_of_the_home_of_a_moved_block a = not_the_one 7 8 refl ((last_asks eight_at_spare blank home_of_amoved_block a).0.read-rule refl)
+bytes_of_the_home_of_a_moved_block a = not_the_one 7 8 refl ((last_asks eight_at_spare blank home_of_amoved_block a).0.read_rule refl)
 
 -- FIRST ACCESSES
 
@@ -279,7 +279,7 @@ far_from_home = found [] ++ asks_read 4927 ++ (says go (reads 4991) ∷ [])
 
 pub a_first_read_elsewhere : Allows sevens blank far_from_home → ⊥
 unfolding computed
-a_first_read_elsewhere a = not_there 4927 4991 refl ((last_asks sevens blank far_from_home a).0.first-rule refl).1
+a_first_read_elsewhere a = not_there 4927 4991 refl ((last_asks sevens blank far_from_home a).0.first_rule refl).1
 
 -- A write at the sector beside.
 abbrev next_door : List Line
@@ -287,7 +287,7 @@ next_door = found [] ++ asks_write 1 ++ (says go (writes 18) ∷ [])
 
 pub a_first_write_elsewhere : Allows sevens blank next_door → ⊥
 unfolding computed
-a_first_write_elsewhere a = not_there 17 18 refl ((last_asks sevens blank next_door a).0.first-rule refl).1
+a_first_write_elsewhere a = not_there 17 18 refl ((last_asks sevens blank next_door a).0.first_rule refl).1
 
 -- The table has it at spare 0.
 abbrev spare_forgotten : List Line
@@ -295,7 +295,7 @@ spare_forgotten = found (17 ∷ []) ++ asks_read 17 ++ (says go (reads 17) ∷ [
 
 pub a_moved_block_read_at_its_home : Allows sevens blank spare_forgotten → ⊥
 unfolding computed
-a_moved_block_read_at_its_home a = not_there 4928 17 refl ((last_asks sevens blank spare_forgotten a).0.first-rule refl).1
+a_moved_block_read_at_its_home a = not_there 4928 17 refl ((last_asks sevens blank spare_forgotten a).0.first_rule refl).1
 
 -- The sparing bit told of the move to spare 0.
 abbrev move_forgotten : List Line
@@ -305,7 +305,7 @@ move_forgotten =
 
 pub a_block_read_at_its_home_after_its_move : Allows sevens blank move_forgotten → ⊥
 unfolding computed
-a_block_read_at_its_home_after_its_move a = not_there 4928 17 refl ((last_asks sevens blank move_forgotten a).0.first-rule refl).1
+a_block_read_at_its_home_after_its_move a = not_there 4928 17 refl ((last_asks sevens blank move_forgotten a).0.first_rule refl).1
 
 -- So does the sparing bit of a command that failed.
 abbrev failed_and_moved : List Line
@@ -315,7 +315,7 @@ failed_and_moved =
 
 pub a_block_read_at_its_home_after_a_failed_command_moved_it : Allows sevens blank failed_and_moved → ⊥
 unfolding computed
-a_block_read_at_its_home_after_a_failed_command_moved_it a = not_there 4928 17 refl ((last_asks sevens blank failed_and_moved a).0.first-rule refl).1
+a_block_read_at_its_home_after_a_failed_command_moved_it a = not_there 4928 17 refl ((last_asks sevens blank failed_and_moved a).0.first_rule refl).1
 
 -- The command failed, with no sparing bit: the block keeps its sector.
 abbrev spare_taken : List Line
@@ -323,7 +323,7 @@ spare_taken = found [] ++ moves_in_vain ++ asks_read 17 ++ (says go (reads 4928)
 
 pub a_block_read_at_a_spare_after_a_failed_move : Allows sevens blank spare_taken → ⊥
 unfolding computed
-a_block_read_at_a_spare_after_a_failed_move a = not_there 17 4928 refl ((last_asks sevens blank spare_taken a).0.first-rule refl).1
+a_block_read_at_a_spare_after_a_failed_move a = not_there 17 4928 refl ((last_asks sevens blank spare_taken a).0.first_rule refl).1
 
 -- The finish of a command broken off has the sparing bit, and moves nothing.
 abbrev moved_at_abreak : List Line
@@ -333,7 +333,7 @@ moved_at_abreak =
 
 pub a_block_read_at_a_spare_after_a_break : Allows sevens blank moved_at_abreak → ⊥
 unfolding computed
-a_block_read_at_a_spare_after_a_break a = not_there 17 4928 refl ((last_asks sevens blank moved_at_abreak a).0.first-rule refl).1
+a_block_read_at_a_spare_after_a_break a = not_there 17 4928 refl ((last_asks sevens blank moved_at_abreak a).0.first_rule refl).1
 
 -- A write tells of a move and has no read s of its own.
 abbrev moved_by_another : List Line
@@ -343,7 +343,7 @@ moved_by_another =
 
 pub a_block_read_where_the_command_before_had_read : Allows sevens blank moved_by_another → ⊥
 unfolding computed
-a_block_read_where_the_command_before_had_read a = not_anywhere 4928 ((last_asks sevens blank moved_by_another a).0.first-rule refl).1
+a_block_read_where_the_command_before_had_read a = not_anywhere 4928 ((last_asks sevens blank moved_by_another a).0.first_rule refl).1
 
 -- The first access comes after the lower, and the command before had one.
 abbrev late : List Line
@@ -351,7 +351,7 @@ late = found [] ++ writes_good 1 ++ asks_read 17 ++ (says go answer.Wait ∷ say
 
 pub a_late_first_access_elsewhere : Allows sevens blank late → ⊥
 unfolding computed
-a_late_first_access_elsewhere a = not_there 17 18 refl ((last_asks sevens blank late a).0.first-rule refl).1
+a_late_first_access_elsewhere a = not_there 17 18 refl ((last_asks sevens blank late a).0.first_rule refl).1
 
 -- No block has a sector yet.
 abbrev access_first : List Line
@@ -359,7 +359,7 @@ access_first = found_none ++ asks_read 17 ++ (says go (reads 17) ∷ [])
 
 pub an_access_before_any_table : Allows sevens blank access_first → ⊥
 unfolding computed
-an_access_before_any_table a = not_anywhere 17 ((last_asks sevens blank access_first a).0.first-rule refl).1
+an_access_before_any_table a = not_anywhere 17 ((last_asks sevens blank access_first a).0.first_rule refl).1
 
 -- 9728 is no block.
 abbrev no_block : List Line
@@ -367,7 +367,7 @@ no_block = found [] ++ asks_read 9728 ++ (says go (reads 9728) ∷ [])
 
 pub an_access_for_a_number_of_no_block : Allows sevens blank no_block → ⊥
 unfolding computed
-an_access_for_a_number_of_no_block a = clash ((last_asks sevens blank no_block a).0.first-rule refl).0 refl
+an_access_for_a_number_of_no_block a = clash ((last_asks sevens blank no_block a).0.first_rule refl).0 refl
 
 -- SECTORS
 

@@ -163,8 +163,8 @@ fits_by_test H o h =
     let reading = and_left (not (good_read H o) || found) (not (first_access H o) || (block && there)) h in
     let accessing = and_right (not (good_read H o) || found) (not (first_access H o) || (block && there)) h in
     record {
-      read-rule = λ g. is_in_lem (data_of o.buffer) (H.candidates (block_of (order H))) (if_so (good_read H o) found reading g);
-      first-rule = λ g.
+      read_rule = λ g. is_in_lem (data_of o.buffer) (H.candidates (block_of (order H))) (if_so (good_read H o) found reading g);
+      first_rule = λ g.
           let both = if_so (first_access H o) (block && there) accessing g in (
             and_left block there both,
             same_where_lem (H.place (block_of (order H))) (or_else (of_answer o.answer).read (of_answer o.answer).write) (and_right block there both),

@@ -139,6 +139,6 @@ health_written =
       candidates = bytes 7 ∷ [];
     }
 
-pub a_write_to_FFFFFD_is_an_invalid_number : (old : Drive) → Happens old health_written
+pub a_write_to_fffffd_is_an_invalid_number : (old : Drive) → Happens old health_written
 unfolding computed
-a_write_to_FFFFFD_is_an_invalid_number old = happens old health_written refl
+a_write_to_fffffd_is_an_invalid_number old = happens old health_written refl

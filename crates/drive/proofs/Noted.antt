@@ -73,21 +73,21 @@ pub record Remembers : Type 0 where
   -- a reread's failure is the last one, and a good reread leaves it
   pub crc : (counted (trial_of true cause.Timeout cause.Unknown cause.Unknown) 1 false).last ≡ cause.Crc
   pub timeout : (counted (trial_of true cause.Crc cause.Unknown cause.Unknown) 2 false).last ≡ cause.Timeout
-  pub other-bytes : (counted (trial_of true cause.Timeout cause.Unknown cause.Unknown) 0 false).last ≡ cause.Crc
+  pub other_bytes_lem : (counted (trial_of true cause.Timeout cause.Unknown cause.Unknown) 0 false).last ≡ cause.Crc
   pub good : (counted (trial_of true cause.Timeout cause.Crc cause.NoSettle) 0 true).last ≡ cause.Timeout
-  pub good-keeps : ((counted (trial_of true cause.Timeout cause.Crc cause.NoSettle) 0 true).before ≡ cause.Crc) × ((counted (trial_of true cause.Timeout cause.Crc cause.NoSettle) 0 true).present ≡ cause.NoSettle)
+  pub good_keeps : ((counted (trial_of true cause.Timeout cause.Crc cause.NoSettle) 0 true).before ≡ cause.Crc) × ((counted (trial_of true cause.Timeout cause.Crc cause.NoSettle) 0 true).present ≡ cause.NoSettle)
   -- from the present sector: its last failure is both
-  pub from-present : GoesOn (missed idle on_spare0 (trial_of false cause.Crc cause.Unknown cause.Unknown) clean cause.Crc) change.Keep cause.Crc cause.Crc 1
+  pub from_present : GoesOn (missed idle on_spare0 (trial_of false cause.Crc cause.Unknown cause.Unknown) clean cause.Crc) change.Keep cause.Crc cause.Crc 1
   -- from a spare: it dies of its last failure, which is the next one's before; the present sector's stays
-  pub from-spare : GoesOn (missed idle on_spare0 (trial_of true cause.Crc cause.Timeout cause.NoSettle) clean cause.Crc) (change.Kill cause.Crc) cause.Crc cause.NoSettle 2
+  pub from_spare : GoesOn (missed idle on_spare0 (trial_of true cause.Crc cause.Timeout cause.NoSettle) clean cause.Crc) (change.Kill cause.Crc) cause.Crc cause.NoSettle 2
   -- a spare dies of its write's timeout, and of answer 3
-  pub write-times-out : (tried idle on_spare0 (trial_of true cause.Crc cause.Crc cause.Crc) 2).change ≡ change.Kill cause.Timeout
-  pub answer-3 : (stopped idle (trial_of true cause.Crc cause.Crc cause.Crc)).change ≡ change.Kill cause.NoSettle
-  pub answer-3-in-place : (stopped idle (trial_of false cause.Crc cause.Crc cause.Crc)).change ≡ change.Keep
+  pub write_times_out : (tried idle on_spare0 (trial_of true cause.Crc cause.Crc cause.Crc) 2).change ≡ change.Kill cause.Timeout
+  pub answer_3 : (stopped idle (trial_of true cause.Crc cause.Crc cause.Crc)).change ≡ change.Kill cause.NoSettle
+  pub answer_3_in_place : (stopped idle (trial_of false cause.Crc cause.Crc cause.Crc)).change ≡ change.Keep
   -- a move takes the failure before, and for the old entry the present sector's
   pub moves : (verified idle on_spare0 (trial_of true cause.NoSettle cause.Crc cause.Timeout)).change ≡ change.Move block cause.Crc cause.Timeout
   -- a write that times out is the last failure before the first spare
-  pub plain-write : tries (write_answered idle on_spare0 (record { block = block; sector = record { 0 = 4928 }; verify = false }) 2).state.phase
+  pub plain_write : tries (write_answered idle on_spare0 (record { block = block; sector = record { 0 = 4928 }; verify = false }) 2).state.phase
       ≡ record { block = block; sector = record { 0 = 4929 }; spare = true; rereads = 0; failures = 0; seen = record { errors = 0; crc = false; timeout = true }; last = cause.Unknown; before = cause.Timeout; present = cause.Timeout } ∷ []
 
 pub remembers : Remembers
@@ -96,16 +96,16 @@ remembers =
     record {
       crc = refl;
       timeout = refl;
-      other-bytes = refl;
+      other_bytes_lem = refl;
       good = refl;
-      good-keeps = (refl, refl);
-      from-present = (refl, refl);
-      from-spare = (refl, refl);
-      write-times-out = refl;
-      answer-3 = refl;
-      answer-3-in-place = refl;
+      good_keeps = (refl, refl);
+      from_present = (refl, refl);
+      from_spare = (refl, refl);
+      write_times_out = refl;
+      answer_3 = refl;
+      answer_3_in_place = refl;
       moves = refl;
-      plain-write = refl;
+      plain_write = refl;
     }
 
 -- WHAT A CHANGE NOTES
@@ -123,13 +123,13 @@ pub record Notes : Type 0 where
   pub removed : noted (change.Remove block) two two_causes [] ≡ two_causes
   pub killed : noted (change.Kill cause.Timeout) two two_causes [] ≡ 3 ∷ 1 ∷ 2 ∷ replicate 29 0
   pub moved_on : noted (change.Move block cause.Crc cause.Timeout) two two_causes [] ≡ 3 ∷ 2 ∷ 1 ∷ replicate 29 0
-  pub moved-first : noted (change.Move (record { 0 = 18 }) cause.NoSettle cause.Timeout) two two_causes [] ≡ 3 ∷ 1 ∷ 3 ∷ replicate 29 0
-  pub loaded-a : noted change.Load two two_causes (form_a (17 ∷ []) []) ≡ replicate 32 0
-  pub loaded-b : noted change.Load two two_causes (form_b 7 (17 ∷ []) (2 ∷ []) []) ≡ 2 ∷ replicate 31 0
+  pub moved_first : noted (change.Move (record { 0 = 18 }) cause.NoSettle cause.Timeout) two two_causes [] ≡ 3 ∷ 1 ∷ 3 ∷ replicate 29 0
+  pub loaded_a : noted change.Load two two_causes (form_a (17 ∷ []) []) ≡ replicate 32 0
+  pub loaded_b : noted change.Load two two_causes (form_b 7 (17 ∷ []) (2 ∷ []) []) ≡ 2 ∷ replicate 31 0
 
 pub notes : Notes
 unfolding computed
-notes = record { kept = refl; entered = refl; removed = refl; killed = refl; moved_on = refl; moved-first = refl; loaded-a = refl; loaded-b = refl }
+notes = record { kept = refl; entered = refl; removed = refl; killed = refl; moved_on = refl; moved_first = refl; loaded_a = refl; loaded_b = refl }
 
 -- THE RUN NUMBER
 
@@ -160,22 +160,22 @@ pub record RunNumbers : Type 0 where
   pub again : run_after (unstored 6) (reads_good ++ (timeout ∷ reads_good)) ≡ 8
   pub once_more : run_after (unstored 6) (reads_good ++ (timeout ∷ reads_good ++ (timeout ∷ reset ∷ reads_good))) ≡ 9
   -- after answer 3 there is none, and after one that was done there is none either
-  pub after-no-settle : run_after (unstored 6) (reads_good ++ (surface 3 [] ∷ reset ∷ reads_good)) ≡ 7
-  pub kept-by-a-command : run_after (unstored 6) (reads_good ++ (done ∷ raise ∷ lower 0x55 ∷ feed (1 ∷ 0 ∷ 0 ∷ 5 ∷ []) ∷ raise ∷ lower 0x55 ∷ feed (9 ∷ []) ∷ raise ∷ lower 0x55 ∷ done ∷ [])) ≡ 7
+  pub after_no_settle : run_after (unstored 6) (reads_good ++ (surface 3 [] ∷ reset ∷ reads_good)) ≡ 7
+  pub kept_by_a_command : run_after (unstored 6) (reads_good ++ (done ∷ raise ∷ lower 0x55 ∷ feed (1 ∷ 0 ∷ 0 ∷ 5 ∷ []) ∷ raise ∷ lower 0x55 ∷ feed (9 ∷ []) ∷ raise ∷ lower 0x55 ∷ done ∷ [])) ≡ 7
   -- up to its top, where it stays
-  pub to-the-top : run_after (unstored 0xFFFFFFFE) reads_good ≡ 0xFFFFFFFF
+  pub to_the_top : run_after (unstored 0xFFFFFFFE) reads_good ≡ 0xFFFFFFFF
   pub at_the_top : run_after (unstored 0xFFFFFFFF) reads_good ≡ 0xFFFFFFFF
   -- what asks for no store leaves it: a raise, and a command with nothing unstored
-  pub not-asked : (run_after (unstored 6) (raise ∷ []) ≡ 6) × (run_after ready reads_good ≡ 0)
+  pub not_asked : (run_after (unstored 6) (raise ∷ []) ≡ 6) × (run_after ready reads_good ≡ 0)
   -- a start takes the image's, 0 from form A, and 0 while there is none
-  pub from-b : run_after started (surface 0 (form_b 0x01020304 [] [] []) ∷ []) ≡ 0x01020304
-  pub from-a : run_after started (surface 0 (form_a [] []) ∷ []) ≡ 0
-  pub from-none : run_after started (surface 3 [] ∷ []) ≡ 0
+  pub from_b : run_after started (surface 0 (form_b 0x01020304 [] [] []) ∷ []) ≡ 0x01020304
+  pub from_a : run_after started (surface 0 (form_a [] []) ∷ []) ≡ 0
+  pub from_none : run_after started (surface 3 [] ∷ []) ≡ 0
   -- and nothing is unstored then, from form A neither
-  pub stored-a : (run started (replicate 536 0) (surface 0 (form_a (17 ∷ []) []) ∷ reads_good)).step.answer ≡ answer.Finished
+  pub stored_a : (run started (replicate 536 0) (surface 0 (form_a (17 ∷ []) []) ∷ reads_good)).step.answer ≡ answer.Finished
   -- images of a wrong sum, and of a wrong field, are counted as tries
-  pub wrong-field : (run started (replicate 536 0) (surface 0 (form_b 0 (17 ∷ []) (4 ∷ []) []) ∷ [])).step.drive.state.phase ≡ phase.Awaiting (access.Start 2)
-  pub wrong-sum : (run started (replicate 536 0) (surface 0 (take 531 (form_b 0 [] [] []) ++ (0 ∷ [])) ∷ [])).step.drive.state.phase ≡ phase.Awaiting (access.Start 2)
+  pub wrong_field : (run started (replicate 536 0) (surface 0 (form_b 0 (17 ∷ []) (4 ∷ []) []) ∷ [])).step.drive.state.phase ≡ phase.Awaiting (access.Start 2)
+  pub wrong_sum : (run started (replicate 536 0) (surface 0 (take 531 (form_b 0 [] [] []) ++ (0 ∷ [])) ∷ [])).step.drive.state.phase ≡ phase.Awaiting (access.Start 2)
 
 pub run_numbers : RunNumbers
 unfolding computed image_out_of
@@ -187,17 +187,17 @@ run_numbers =
       failed = refl;
       again = refl;
       once_more = refl;
-      after-no-settle = refl;
-      kept-by-a-command = refl;
-      to-the-top = refl;
+      after_no_settle = refl;
+      kept_by_a_command = refl;
+      to_the_top = refl;
       at_the_top = refl;
-      not-asked = (refl, refl);
-      from-b = refl;
-      from-a = refl;
-      from-none = refl;
-      stored-a = refl;
-      wrong-field = refl;
-      wrong-sum = refl;
+      not_asked = (refl, refl);
+      from_b = refl;
+      from_a = refl;
+      from_none = refl;
+      stored_a = refl;
+      wrong_field = refl;
+      wrong_sum = refl;
     }
 
 -- CONVERT

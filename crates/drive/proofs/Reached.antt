@@ -199,18 +199,18 @@ module _ (t : Table) (cs : List ℕ) (changed : Bool) (u : List ℕ) (ok : table
   unfolding follows checked last_after judged part_left status_left
   another k h = rw (lt-ltb (k + 1) 100 (omega arith), ne_eqb (k + 1) 0 (λ e. omega arith))
 
-  hundred-fail : (n k : ℕ) {rest : List Call} {y w : Out} → k + n ≡ 99 → reread_failed t cs changed u s spare 99 ≡ y → (of_answer y.step.answer).refused ≡ false
+  hundred_fail : (n k : ℕ) {rest : List Call} {y w : Out} → k + n ≡ 99 → reread_failed t cs changed u s spare 99 ≡ y → (of_answer y.step.answer).refused ≡ false
       → Leads y rest w → Leads (asks_reread t cs changed u s spare k) (replicate (suc n) crc ++ rest) w
-  hundred-fail zero k h e r l =
+  hundred_fail zero k h e r l =
       let q : k ≡ 99 = omega arith in
       rw q (answers t cs changed u ok noted-ok long (access.TrialRead (trial s spare 99)) _ 1 (brought 1) (fits 99 (omega arith)) refl e r l)
-  hundred-fail (suc n) k h e r l =
-      answers t cs changed u ok noted-ok long (access.TrialRead (trial s spare k)) _ 1 (brought 1) (fits k (omega arith)) refl (another k (omega arith)) refl (hundred-fail n (k + 1) (omega arith) e r l)
+  hundred_fail (suc n) k h e r l =
+      answers t cs changed u ok noted-ok long (access.TrialRead (trial s spare k)) _ 1 (brought 1) (fits k (omega arith)) refl (another k (omega arith)) refl (hundred_fail n (k + 1) (omega arith) e r l)
 
-  trial-fails : {rest : List Call} {y w : Out} → reread_failed t cs changed u s spare 99 ≡ y → (of_answer y.step.answer).refused ≡ false
+  trial_fails : {rest : List Call} {y w : Out} → reread_failed t cs changed u s spare 99 ≡ y → (of_answer y.step.answer).refused ≡ false
       → Leads y rest w → Leads (asks_write t cs changed u s spare) (surface 0 [] ∷ (replicate 100 crc ++ rest)) w
   unfolding follows tried part_left status_left
-  trial-fails e r l = answers t cs changed u ok noted-ok long (access.TrialWrite (trial s spare 0)) _ 0 [] (fits 0 (omega arith)) refl refl refl (hundred-fail 99 0 refl e r l)
+  trial_fails e r l = answers t cs changed u ok noted-ok long (access.TrialWrite (trial s spare 0)) _ 0 [] (fits 0 (omega arith)) refl refl refl (hundred_fail 99 0 refl e r l)
 
 -- THE SPARES
 
@@ -256,18 +256,18 @@ spare_ok n h k g = rw (lt-ltb (4928 + n) 9792 (omega arith), le-leb k 100 g, le-
 
 module _ (u : List ℕ) (long : length u ≡ 536) (t : Table) (cs : List ℕ) (changed : Bool) where
   -- The next unused spare is tried, or there is none.
-  next-spare : t.nspares + 1 < 32 → reread_failed t cs changed u (spare_of t.nspares) true 99 ≡ asks_write (killed_next t) (causes_killed t 1 cs) true u (spare_of (killed_next t).nspares) true
+  next_spare_lem : t.nspares + 1 < 32 → reread_failed t cs changed u (spare_of t.nspares) true 99 ≡ asks_write (killed_next t) (causes_killed t 1 cs) true u (spare_of (killed_next t).nspares) true
   unfolding follows checked last_after judged missed next_spare part_left status_left
-  next-spare h = rw (lt-ltb (t.nspares + 1) 32 h, killed_count t (omega arith))
+  next_spare_lem h = rw (lt-ltb (t.nspares + 1) 32 h, killed_count t (omega arith))
 
-  no-spare : t.nspares + 1 ≡ 32 → reread_failed t cs changed u (spare_of t.nspares) true 99 ≡ asks_store_lem (killed_next t) (causes_killed t 1 cs) u
+  no_spare : t.nspares + 1 ≡ 32 → reread_failed t cs changed u (spare_of t.nspares) true 99 ≡ asks_store_lem (killed_next t) (causes_killed t 1 cs) u
   unfolding follows checked last_after judged missed next_spare finish part_left status_left
-  no-spare h = rw (le-ltb (t.nspares + 1) 32 (omega arith))
+  no_spare h = rw (le-ltb (t.nspares + 1) 32 (omega arith))
 
   -- The trial of a spare that fails leads there.
-  spare-fails : {rest : List Call} {y w : Out} → table_ok t ≡ true → causes_ok (take t.nspares cs) ≡ true → t.nspares < 32 → reread_failed t cs changed u (spare_of t.nspares) true 99 ≡ y
+  spare_fails : {rest : List Call} {y w : Out} → table_ok t ≡ true → causes_ok (take t.nspares cs) ≡ true → t.nspares < 32 → reread_failed t cs changed u (spare_of t.nspares) true 99 ≡ y
       → (of_answer y.step.answer).refused ≡ false → Leads y rest w → Leads (asks_write t cs changed u (spare_of t.nspares) true) (surface 0 [] ∷ (replicate 100 crc ++ rest)) w
-  spare-fails ok kc h = trial-fails t cs changed u ok kc long (spare_of t.nspares) true (spare_ok t.nspares h)
+  spare_fails ok kc h = trial_fails t cs changed u ok kc long (spare_of t.nspares) true (spare_ok t.nspares h)
 
 killed_ok_then : (t : Table) (cs : List ℕ) → causes_ok (take t.nspares cs) ≡ true → length cs ≡ 32 → t.nspares < 32
     → causes_ok (take (killed_next t).nspares (causes_killed t 1 cs)) ≡ true
@@ -278,12 +278,12 @@ spares_fail : (u : List ℕ) → length u ≡ 536 → (n : ℕ) (t : Table) (cs 
     → Leads (asks_write t cs changed u (spare_of t.nspares) true) (trials (suc n)) (ended (killed_all (suc n) t) (noted_all (suc n) t cs) u)
 spares_fail u long zero t cs changed ok s kc lc h =
     let kc' = killed_ok_then t cs kc lc (omega arith) in
-    spare-fails u long t cs changed ok kc (omega arith) (no-spare u long t cs changed (omega arith)) refl
+    spare_fails u long t cs changed ok kc (omega arith) (no_spare u long t cs changed (omega arith)) refl
     (more {x = asks_store_lem (killed_next t) (causes_killed t 1 cs) u} refl (store_done (killed_next t) (causes_killed t 1 cs) u (killed_ok t s ok) kc' long) refl none)
 spares_fail u long (suc n) t cs changed ok s kc lc h =
     let c = killed_count t (omega arith) in
     let kc' = killed_ok_then t cs kc lc (omega arith) in
-    spare-fails u long t cs changed ok kc (omega arith) (next-spare u long t cs changed (omega arith)) refl
+    spare_fails u long t cs changed ok kc (omega arith) (next_spare_lem u long t cs changed (omega arith)) refl
     (spares_fail u long n (killed_next t) (causes_killed t 1 cs) true (killed_ok t s ok) (killed_shaped t s) kc' (killed_causes_length t 1 cs ∙ lc) (omega (arith, c)))
 
 -- THE WHOLE READ
@@ -295,7 +295,7 @@ final = ended (killed_all 32 empty_table) (noted_all 32 empty_table no_causes) (
 from_the_present_sector : Leads (asks_write empty_table no_causes false (lent 7) (record { 0 = 0 }) false) (trials 33) final
 unfolding follows checked last_after judged missed next_spare part_left status_left trial_ok
 from_the_present_sector =
-    trial-fails empty_table no_causes false (lent 7) empty_ok none_noted refl (record { 0 = 0 }) false (λ k h. rw (le-leb k 100 h, le-leb k k (omega arith))) refl refl
+    trial_fails empty_table no_causes false (lent 7) empty_ok none_noted refl (record { 0 = 0 }) false (λ k h. rw (le-leb k 100 h, le-leb k k (omega arith))) refl refl
     (spares_fail (lent 7) refl 31 empty_table no_causes false empty_ok (refl, refl) none_noted refl refl)
 
 from_the_good_read : Leads (asks_again (later 0 89 255)) (good ∷ trials 33) final

@@ -199,33 +199,33 @@ Stores x = x.step.answer ≡ answer.Store
 
 pub record Storing : Type 0 where
   -- With no latch an unstored change is stored, a place or not; with nothing unstored nothing is.
-  pub nothing-unstored : Ended (after (idle false false false) reads_good) (0x00 ∷ 0 ∷ 0 ∷ 0 ∷ [])
-  pub an-entry : Stores (after (idle true false false) reads_good)
-  pub a-place : Stores (after (idle true true false) reads_good)
+  pub nothing_unstored : Ended (after (idle false false false) reads_good) (0x00 ∷ 0 ∷ 0 ∷ 0 ∷ [])
+  pub an_entry : Stores (after (idle true false false) reads_good)
+  pub a_place : Stores (after (idle true true false) reads_good)
   -- Under the latch nothing is, and a command for a block fails by bit 0 while a place is unstored.
-  pub an-entry-under-the-latch : Ended (after (idle true false true) reads_good) (0x00 ∷ 0 ∷ 0 ∷ 0 ∷ [])
-  pub a-place-under-the-latch : Ended (after (idle true true true) reads_good) (0x01 ∷ 0 ∷ 0 ∷ 0 ∷ [])
-  pub a-timeout-too : Ended (after (idle true true true) (asks 0 1 (timeout ∷ good ∷ []))) (0x05 ∷ 0 ∷ 0 ∷ 0 ∷ [])
-  pub a-write-too : Ended (after (idle true true true) (writes_one 1)) (0x11 ∷ 0 ∷ 0 ∷ 0 ∷ [])
+  pub an_entry_under_the_latch : Ended (after (idle true false true) reads_good) (0x00 ∷ 0 ∷ 0 ∷ 0 ∷ [])
+  pub a_place_under_the_latch : Ended (after (idle true true true) reads_good) (0x01 ∷ 0 ∷ 0 ∷ 0 ∷ [])
+  pub a_timeout_too : Ended (after (idle true true true) (asks 0 1 (timeout ∷ good ∷ []))) (0x05 ∷ 0 ∷ 0 ∷ 0 ∷ [])
+  pub a_write_too : Ended (after (idle true true true) (writes_one 1)) (0x11 ∷ 0 ∷ 0 ∷ 0 ∷ [])
   pub no_block : Ended (after (idle true true true) reads_buffer) (0x00 ∷ 0 ∷ 0 ∷ 0 ∷ [])
   -- A raise offers 01, and a reset keeps both marks.
-  pub a-raise : (after (idle true true false) (raise ∷ [])).step.drive.state.marks ≡ (idle true true false).state.marks
-  pub a-reset : (after (idle true true true) (reset ∷ reads_good)).step.drive.state.marks ≡ (idle true true true).state.marks
+  pub a_raise : (after (idle true true false) (raise ∷ [])).step.drive.state.marks ≡ (idle true true false).state.marks
+  pub a_reset : (after (idle true true true) (reset ∷ reads_good)).step.drive.state.marks ≡ (idle true true true).state.marks
 
 pub storing : Storing
 unfolding computed
 storing =
     record {
-      nothing-unstored = (refl, refl);
-      an-entry = refl;
-      a-place = refl;
-      an-entry-under-the-latch = (refl, refl);
-      a-place-under-the-latch = (refl, refl);
-      a-timeout-too = (refl, refl);
-      a-write-too = (refl, refl);
+      nothing_unstored = (refl, refl);
+      an_entry = refl;
+      a_place = refl;
+      an_entry_under_the_latch = (refl, refl);
+      a_place_under_the_latch = (refl, refl);
+      a_timeout_too = (refl, refl);
+      a_write_too = (refl, refl);
       no_block = (refl, refl);
-      a-raise = refl;
-      a-reset = refl;
+      a_raise = refl;
+      a_reset = refl;
     }
 
 -- THE STORE'S ANSWER, to a command that ended so and met this
@@ -250,12 +250,12 @@ pub record Answered : Type 0 where
   pub moved : Closes ending.Moved nine (0x08 ∷ 4 ∷ 0 ∷ 9 ∷ []) (0x0D ∷ 4 ∷ 0 ∷ 9 ∷ []) (0x19 ∷ 4 ∷ 0 ∷ 9 ∷ [])
   pub failed : Closes ending.Failed nine (0x09 ∷ 0 ∷ 0 ∷ 9 ∷ []) (0x0D ∷ 0 ∷ 0 ∷ 9 ∷ []) (0x19 ∷ 0 ∷ 0 ∷ 9 ∷ [])
   pub overrun : Closes ending.Overrun clean (0x41 ∷ 0 ∷ 0 ∷ 0 ∷ []) (0x45 ∷ 0 ∷ 0 ∷ 0 ∷ []) (0x51 ∷ 0 ∷ 0 ∷ 0 ∷ [])
-  pub bad-full : Closes ending.BadFull clean (0x01 ∷ 16 ∷ 0 ∷ 0 ∷ []) (0x05 ∷ 16 ∷ 0 ∷ 0 ∷ []) (0x11 ∷ 16 ∷ 0 ∷ 0 ∷ [])
-  pub no-spare : Closes ending.NoSpare clean (0x01 ∷ 64 ∷ 0 ∷ 0 ∷ []) (0x05 ∷ 64 ∷ 0 ∷ 0 ∷ []) (0x11 ∷ 64 ∷ 0 ∷ 0 ∷ [])
+  pub bad_full : Closes ending.BadFull clean (0x01 ∷ 16 ∷ 0 ∷ 0 ∷ []) (0x05 ∷ 16 ∷ 0 ∷ 0 ∷ []) (0x11 ∷ 16 ∷ 0 ∷ 0 ∷ [])
+  pub no_spare : Closes ending.NoSpare clean (0x01 ∷ 64 ∷ 0 ∷ 0 ∷ []) (0x05 ∷ 64 ∷ 0 ∷ 0 ∷ []) (0x11 ∷ 64 ∷ 0 ∷ 0 ∷ [])
   -- Only a done store clears the marks, and answer 3 latches. It is finished, and the next finish is not the first.
-  pub marks-done : marks_after 0 ≡ record { known = true; changed = false; moved = false; latch = false; fresh = false }
-  pub marks-late : marks_after 2 ≡ record { known = true; changed = true; moved = true; latch = false; fresh = false }
-  pub marks-still : marks_after 3 ≡ record { known = true; changed = true; moved = true; latch = true; fresh = false }
+  pub marks_done : marks_after 0 ≡ record { known = true; changed = false; moved = false; latch = false; fresh = false }
+  pub marks_late : marks_after 2 ≡ record { known = true; changed = true; moved = true; latch = false; fresh = false }
+  pub marks_still : marks_after 3 ≡ record { known = true; changed = true; moved = true; latch = true; fresh = false }
   -- The table and the run number are as they were.
   pub drive : (closed ending.Moved clean 2).step.drive ≡ idle true true false
 
@@ -267,10 +267,10 @@ answered_so =
       moved = ((refl, refl), (refl, refl), (refl, refl));
       failed = ((refl, refl), (refl, refl), (refl, refl));
       overrun = ((refl, refl), (refl, refl), (refl, refl));
-      bad-full = ((refl, refl), (refl, refl), (refl, refl));
-      no-spare = ((refl, refl), (refl, refl), (refl, refl));
-      marks-done = refl;
-      marks-late = refl;
-      marks-still = refl;
+      bad_full = ((refl, refl), (refl, refl), (refl, refl));
+      no_spare = ((refl, refl), (refl, refl), (refl, refl));
+      marks_done = refl;
+      marks_late = refl;
+      marks_still = refl;
       drive = refl;
     }

@@ -248,8 +248,8 @@ pub record Agree (start : Sectors) (w : World) (H : History) (ts : List Exchange
   pub lawful : is_lawful w (moments ts) ≡ true
   pub says : told (lines w (moments ts)) ≡ answers ts
   pub part_left : data_of (after_all w (moments ts)).buffer ≡ part
-  pub place-left : (past_all start H (lines w (moments ts))).place key ≡ place
-  pub candidates-left : (past_all start H (lines w (moments ts))).candidates key ≡ candidates
+  pub place_left : (past_all start H (lines w (moments ts))).place key ≡ place
+  pub candidates_left : (past_all start H (lines w (moments ts))).candidates key ≡ candidates
 
 agree : (start : Sectors) (w : World) (H : History) (ts : List Exchange) (part : Bytes) (place : Where) (candidates : List Bytes)
     → agrees start w H ts part place candidates ≡ true
@@ -263,8 +263,8 @@ agree start w H [] part place candidates h =
       lawful = refl;
       says = refl;
       part_left = same_equal (data_of w.buffer) part (and_left first (second && third) h);
-      place-left = same_where_lem (H.place key) place (and_left second third rest);
-      candidates-left = same_all_lem (H.candidates key) candidates (and_right second third rest);
+      place_left = same_where_lem (H.place key) place (and_left second third rest);
+      candidates_left = same_all_lem (H.candidates key) candidates (and_right second third rest);
     }
 agree start w H (t ∷ ts) part place candidates h =
     let m = t.moment in
@@ -278,8 +278,8 @@ agree start w H (t ∷ ts) part place candidates h =
       lawful = and_true (permitted w m x) (is_lawful (after w m x) (moments ts)) (and_left (permitted w m x) (same_said said t.says && more) h) after-it.lawful;
       says = ap (λ (a : Said). a ∷ told (lines (after w m x) (moments ts))) same_answer ∙ ap (λ (l : List Said). t.says ∷ l) after-it.says;
       part_left = after-it.part_left;
-      place-left = after-it.place-left;
-      candidates-left = after-it.candidates-left;
+      place_left = after-it.place_left;
+      candidates_left = after-it.candidates_left;
     }
 
 -- Plays a run, and tests what it says of itself.
@@ -289,7 +289,7 @@ played given r = agrees r.sectors (from given r) blank r.exchanges r.part r.plac
 pub happens : (given : Drive) (r : Run) → played given r ≡ true → Happens given r
 happens given r e =
     let h = agree r.sectors (from given r) blank r.exchanges r.part r.place r.candidates e in
-    record { lawful = lawful_by_test (from given r) (calls r) h.lawful; says = h.says; part = h.part_left; place = h.place-left; candidates = h.candidates-left }
+    record { lawful = lawful_by_test (from given r) (calls r) h.lawful; says = h.says; part = h.part_left; place = h.place_left; candidates = h.candidates_left }
 
 -- THE PIECES OF A RUN
 

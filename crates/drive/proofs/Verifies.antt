@@ -37,19 +37,19 @@ abbrev then : Call → ℕ → Call → List Call
 then first n other = done ∷ first ∷ done ∷ (replicate n equal ++ replicate (100 - n) other)
 
 pub record Verifies : Type 0 where
-  pub equal-bytes : Ended (verifying (done ∷ equal ∷ [])) (0x00 ∷ 0 ∷ 0 ∷ 0 ∷ [])
+  pub equal_bytes : Ended (verifying (done ∷ equal ∷ [])) (0x00 ∷ 0 ∷ 0 ∷ 0 ∷ [])
   -- The first verify fails by one byte, and so do 30 of the hundred rereads.
   pub first_byte : Ended (verifying (then first_wrong 70 first_wrong)) (0x08 ∷ 0 ∷ 0 ∷ 0 ∷ [])
-  pub middle-byte : (verifying (done ∷ middle_wrong ∷ [])).step.answer ≡ answer.Write (record { 0 = 0 })
+  pub middle_byte : (verifying (done ∷ middle_wrong ∷ [])).step.answer ≡ answer.Write (record { 0 = 0 })
   pub last_byte : (verifying (then last_wrong 69 last_wrong)).step.answer ≡ answer.Write (record { 0 = 4928 })
   -- Answer 1 fails a verify and a reread even with equal bytes.
-  pub answer-1 : (verifying (then (surface 1 (replicate 532 7)) 69 (surface 1 (replicate 532 7)))).step.answer ≡ answer.Write (record { 0 = 4928 })
+  pub answer_1 : (verifying (then (surface 1 (replicate 532 7)) 69 (surface 1 (replicate 532 7)))).step.answer ≡ answer.Write (record { 0 = 4928 })
   -- A read's first good bytes stay, whatever a later good answer brings.
-  pub first-good-bytes : data_of (reading 2 1 (crc ∷ good ∷ surface 0 (replicate 532 8) ∷ [])).bytes ≡ replicate 532 7
+  pub first_good_bytes : data_of (reading 2 1 (crc ∷ good ∷ surface 0 (replicate 532 8) ∷ [])).bytes ≡ replicate 532 7
   -- The bytes of a reread are never kept: the data part stays.
-  pub no-bytes-kept : data_of (verifying (done ∷ first_wrong ∷ done ∷ last_wrong ∷ crc ∷ [])).bytes ≡ replicate 532 7
+  pub no_bytes_kept : data_of (verifying (done ∷ first_wrong ∷ done ∷ last_wrong ∷ crc ∷ [])).bytes ≡ replicate 532 7
 
 pub verifies : Verifies
 unfolding computed
 verifies =
-    record { equal-bytes = (refl, refl); first_byte = (refl, refl); middle-byte = refl; last_byte = refl; answer-1 = refl; first-good-bytes = refl; no-bytes-kept = refl }
+    record { equal_bytes = (refl, refl); first_byte = (refl, refl); middle_byte = refl; last_byte = refl; answer_1 = refl; first_good_bytes = refl; no_bytes_kept = refl }

@@ -56,11 +56,11 @@ pub record Reads : Type 0 where
   pub causes : causes_of spelled ≡ 1 ∷ 3 ∷ replicate 30 0
   pub spares : spare_list (table_of spelled) ≡ 17 ∷ dead ∷ []
   pub bads : bad_list (table_of spelled) ≡ 5 ∷ 9727 ∷ []
-  pub empty-lists : well_formed empty ≡ true
+  pub empty_lists : well_formed empty ≡ true
 
 pub reads : Reads
 unfolding member_of entry_ok entries_ok causes_ok same all_are sum narrow entry_at entries_from entries_fit two_at causes_from sum_fits framed_b fields_fit formed_b well_formed table_of run_of causes_of
-reads = record { formed = refl; run = refl; causes = refl; spares = refl; bads = refl; empty-lists = refl }
+reads = record { formed = refl; run = refl; causes = refl; spares = refl; bads = refl; empty_lists = refl }
 
 -- EACH CLAUSE OF FORM B BY ITSELF
 
@@ -91,75 +91,75 @@ Field i = (read_of i).found ≡ found.Malformed fault.Field
 
 pub record Refuses : Type 0 where
   -- 6: one of the four bytes, whatever the rest is; the sum is not looked at
-  pub before-the-sum : fault_of (with 0 0xF1 spelled) ≡ fault.Form
+  pub before_the_sum : fault_of (with 0 0xF1 spelled) ≡ fault.Form
   pub first_byte : fault_of (altered 0 0xF1) ≡ fault.Form
-  pub fourth-byte : fault_of (altered 3 0x1F) ≡ fault.Form
+  pub fourth_byte : fault_of (altered 3 0x1F) ≡ fault.Form
   pub short : fault_of (take 531 spelled) ≡ fault.Form
   -- 7: the sum, and each byte before it
   pub high_sum : fault_of (with 530 0x07 spelled) ≡ fault.Sum
   pub low_sum : fault_of (with 531 0x33 spelled) ≡ fault.Sum
-  pub last-byte-summed : fault_of (with 529 0x01 spelled) ≡ fault.Sum
-  pub run-number-summed : fault_of (with 4 0x02 spelled) ≡ fault.Sum
+  pub last_byte_summed : fault_of (with 529 0x01 spelled) ≡ fault.Sum
+  pub run_number_summed : fault_of (with 4 0x02 spelled) ≡ fault.Sum
   -- 7 before 8
   pub sum_first : fault_of (with 11 0x14 spelled) ≡ fault.Sum
   -- "modulo 65,536"
   pub modulo : fault_of (0xF0 ∷ 0x78 ∷ 0x3C ∷ 0x1E ∷ (replicate 526 0xFF ++ (0x0D ∷ 0xB4 ∷ []))) ≡ fault.Field
   -- 8: offsets, counts, entries, causes, zeros
-  pub spare-offset : Field (altered 11 0x14)
-  pub spare-offset-high : Field (altered 10 0x01)
-  pub bad-offset : Field (altered 15 0x1C)
-  pub bad-offset-high : Field (altered 14 0x01)
-  pub spare-count-high : Field (altered 8 0x01)
-  pub bad-count-high : Field (altered 12 0x01)
+  pub spare_offset : Field (altered 11 0x14)
+  pub spare_offset_high : Field (altered 10 0x01)
+  pub bad_offset : Field (altered 15 0x1C)
+  pub bad_offset_high : Field (altered 14 0x01)
+  pub spare_count_high : Field (altered 8 0x01)
+  pub bad_count_high : Field (altered 12 0x01)
   pub no_block : Field (altered 17 0x26)
-  pub no-block-high : Field (altered 16 0x01)
-  pub mark-of-the-memory : Field (altered 20 0x00)
-  pub no-mark : Field (altered 22 0xFF)
-  pub block-twice : Field (form_b 0 (17 ∷ 17 ∷ []) (0 ∷ 0 ∷ []) [])
-  pub dead-bad : Field (form_b 0 [] [] (dead ∷ []))
-  pub bad-twice : Field (form_b 0 [] [] (5 ∷ 5 ∷ []))
-  pub cause-4 : Field (altered 19 0x04)
-  pub cause-of-a-dead-spare : Field (altered 23 0xFF)
-  pub first-zero : Field (altered 30 0x01)
-  pub last-zero : Field (altered 529 0x01)
-  pub spares-32 : well_formed (sized 32 100) ≡ true
-  pub spares-33 : Field (sized 33 0)
-  pub bads-101 : Field (sized 0 101)
+  pub no_block_high : Field (altered 16 0x01)
+  pub mark_of_the_memory : Field (altered 20 0x00)
+  pub no_mark : Field (altered 22 0xFF)
+  pub block_twice : Field (form_b 0 (17 ∷ 17 ∷ []) (0 ∷ 0 ∷ []) [])
+  pub dead_bad : Field (form_b 0 [] [] (dead ∷ []))
+  pub bad_twice : Field (form_b 0 [] [] (5 ∷ 5 ∷ []))
+  pub cause_4 : Field (altered 19 0x04)
+  pub cause_of_a_dead_spare : Field (altered 23 0xFF)
+  pub first_zero : Field (altered 30 0x01)
+  pub last_zero : Field (altered 529 0x01)
+  pub spares_32 : well_formed (sized 32 100) ≡ true
+  pub spares_33 : Field (sized 33 0)
+  pub bads_101 : Field (sized 0 101)
 
 pub refuses : Refuses
 unfolding member_of entry_ok entries_ok causes_ok same all_are sum wide triple triples narrow entry_at entries_from entries_fit list_part framed_part form_a framed_a formed_a two_bytes head_b quad quads listed_part summed_part form_b two_at causes_from sum_fits framed_b fields_fit formed_b well_formed fault_of read_of
 refuses =
     record {
-      before-the-sum = refl;
+      before_the_sum = refl;
       first_byte = refl;
-      fourth-byte = refl;
+      fourth_byte = refl;
       short = refl;
       high_sum = refl;
       low_sum = refl;
-      last-byte-summed = refl;
-      run-number-summed = refl;
+      last_byte_summed = refl;
+      run_number_summed = refl;
       sum_first = refl;
       modulo = refl;
-      spare-offset = refl;
-      spare-offset-high = refl;
-      bad-offset = refl;
-      bad-offset-high = refl;
-      spare-count-high = refl;
-      bad-count-high = refl;
+      spare_offset = refl;
+      spare_offset_high = refl;
+      bad_offset = refl;
+      bad_offset_high = refl;
+      spare_count_high = refl;
+      bad_count_high = refl;
       no_block = refl;
-      no-block-high = refl;
-      mark-of-the-memory = refl;
-      no-mark = refl;
-      block-twice = refl;
-      dead-bad = refl;
-      bad-twice = refl;
-      cause-4 = refl;
-      cause-of-a-dead-spare = refl;
-      first-zero = refl;
-      last-zero = refl;
-      spares-32 = refl;
-      spares-33 = refl;
-      bads-101 = refl;
+      no_block_high = refl;
+      mark_of_the_memory = refl;
+      no_mark = refl;
+      block_twice = refl;
+      dead_bad = refl;
+      bad_twice = refl;
+      cause_4 = refl;
+      cause_of_a_dead_spare = refl;
+      first_zero = refl;
+      last_zero = refl;
+      spares_32 = refl;
+      spares_33 = refl;
+      bads_101 = refl;
     }
 
 -- FORM A, BYTE BY BYTE: block 17 on spare 0, spare 1 dead, block 9727 bad. The counts differ, so that neither stands for the other.
@@ -201,13 +201,13 @@ pub record ReadsA : Type 0 where
   pub formed : well_formed spelled_a ≡ true
   pub spares : spare_list (table_of spelled_a) ≡ 17 ∷ dead ∷ []
   pub bads : bad_list (table_of spelled_a) ≡ 9727 ∷ []
-  pub empty-lists : well_formed empty_a ≡ true
-  pub full-lists : well_formed (sized_a 32 100) ≡ true
-  pub in-both-lists : well_formed (form_a (17 ∷ []) (17 ∷ [])) ≡ true
+  pub empty_lists : well_formed empty_a ≡ true
+  pub full_lists : well_formed (sized_a 32 100) ≡ true
+  pub in_both_lists : well_formed (form_a (17 ∷ []) (17 ∷ [])) ≡ true
 
 pub reads_a : ReadsA
 unfolding member_of entry_ok entries_ok same all_are wide triple triples narrow entry_at entries_from entries_fit list_part framed_part form_a framed_a formed_a well_formed table_of
-reads_a = record { formed = refl; spares = refl; bads = refl; empty-lists = refl; full-lists = refl; in-both-lists = refl }
+reads_a = record { formed = refl; spares = refl; bads = refl; empty_lists = refl; full_lists = refl; in_both_lists = refl }
 
 -- EACH CLAUSE OF FORM A BY ITSELF
 
@@ -231,34 +231,34 @@ pub record RefusesA : Type 0 where
   pub long : Neither (spelled_a ++ (0x00 ∷ []))
   -- the header, each byte of it
   pub header : all_count 24 ≡ true
-  pub revision-3-96 : Broken 17 0x96
+  pub revision_3_96 : Broken 17 0x96
   -- the counts, one less, one more and too large
-  pub spares-1 : Broken 24 0x01
-  pub spares-3 : Broken 24 0x03
-  pub bads-0 : Broken 25 0x00
-  pub bads-2 : Broken 25 0x02
-  pub spares-33 : Neither (sized_a 33 0)
-  pub bads-101 : Neither (sized_a 0 101)
+  pub spares_1 : Broken 24 0x01
+  pub spares_3 : Broken 24 0x03
+  pub bads_0 : Broken 25 0x00
+  pub bads_2 : Broken 25 0x02
+  pub spares_33 : Neither (sized_a 33 0)
+  pub bads_101 : Neither (sized_a 0 101)
   -- the mark after the spare list, each byte of it
-  pub first-mark-high : Broken 32 0x00
-  pub first-mark-middle : Broken 33 0x00
-  pub first-mark-low : Broken 34 0xFE
+  pub first_mark_high : Broken 32 0x00
+  pub first_mark_middle : Broken 33 0x00
+  pub first_mark_low : Broken 34 0xFE
   -- the mark after the bad list
-  pub second-mark-high : Broken 38 0x00
-  pub second-mark-middle : Broken 39 0x00
-  pub second-mark-low : Broken 40 0xFE
+  pub second_mark_high : Broken 38 0x00
+  pub second_mark_middle : Broken 39 0x00
+  pub second_mark_low : Broken 40 0xFE
   -- the entries
   pub no_block : Neither (form_a (9728 ∷ []) [])
-  pub no-block-high : Broken 26 0x01
-  pub mark-of-the-memory : Broken 29 0x00
-  pub no-mark : Broken 31 0xFF
-  pub block-twice : Neither (form_a (17 ∷ 17 ∷ []) [])
-  pub no-block-bad : Neither (form_a [] (9728 ∷ []))
-  pub dead-bad : Neither (form_a [] (dead ∷ []))
-  pub bad-twice : Neither (form_a [] (5 ∷ 5 ∷ []))
+  pub no_block_high : Broken 26 0x01
+  pub mark_of_the_memory : Broken 29 0x00
+  pub no_mark : Broken 31 0xFF
+  pub block_twice : Neither (form_a (17 ∷ 17 ∷ []) [])
+  pub no_block_bad : Neither (form_a [] (9728 ∷ []))
+  pub dead_bad : Neither (form_a [] (dead ∷ []))
+  pub bad_twice : Neither (form_a [] (5 ∷ 5 ∷ []))
   -- the zeros, from the second mark to the end
-  pub first-zero : Broken 41 0x01
-  pub last-zero : Broken 531 0x01
+  pub first_zero : Broken 41 0x01
+  pub last_zero : Broken 531 0x01
 
 pub refuses_a : RefusesA
 unfolding member_of entry_ok entries_ok same all_are wide triple triples narrow entry_at entries_from entries_fit list_part framed_part form_a framed_a formed_a well_formed fault_of read_of
@@ -267,38 +267,38 @@ refuses_a =
       short = refl;
       long = refl;
       header = refl;
-      revision-3-96 = refl;
-      spares-1 = refl;
-      spares-3 = refl;
-      bads-0 = refl;
-      bads-2 = refl;
-      spares-33 = refl;
-      bads-101 = refl;
-      first-mark-high = refl;
-      first-mark-middle = refl;
-      first-mark-low = refl;
-      second-mark-high = refl;
-      second-mark-middle = refl;
-      second-mark-low = refl;
+      revision_3_96 = refl;
+      spares_1 = refl;
+      spares_3 = refl;
+      bads_0 = refl;
+      bads_2 = refl;
+      spares_33 = refl;
+      bads_101 = refl;
+      first_mark_high = refl;
+      first_mark_middle = refl;
+      first_mark_low = refl;
+      second_mark_high = refl;
+      second_mark_middle = refl;
+      second_mark_low = refl;
       no_block = refl;
-      no-block-high = refl;
-      mark-of-the-memory = refl;
-      no-mark = refl;
-      block-twice = refl;
-      no-block-bad = refl;
-      dead-bad = refl;
-      bad-twice = refl;
-      first-zero = refl;
-      last-zero = refl;
+      no_block_high = refl;
+      mark_of_the_memory = refl;
+      no_mark = refl;
+      block_twice = refl;
+      no_block_bad = refl;
+      dead_bad = refl;
+      bad_twice = refl;
+      first_zero = refl;
+      last_zero = refl;
     }
 
 -- THE OTHER FORM: of B its lists alone, of A its lists with zeros.
 pub record Turns : Type 0 where
   pub to_a : converted spelled ≡ form_a (17 ∷ dead ∷ []) (5 ∷ 9727 ∷ [])
   pub to_b : converted (form_a (17 ∷ dead ∷ []) (5 ∷ 9727 ∷ [])) ≡ form_b 0 (17 ∷ dead ∷ []) (0 ∷ 0 ∷ []) (5 ∷ 9727 ∷ [])
-  pub a-has-no-run-number : run_of (form_a (17 ∷ []) []) ≡ 0
-  pub a-has-no-causes : causes_of (form_a (17 ∷ []) []) ≡ replicate 32 0
+  pub a_has_no_run_number : run_of (form_a (17 ∷ []) []) ≡ 0
+  pub a_has_no_causes : causes_of (form_a (17 ∷ []) []) ≡ replicate 32 0
 
 pub turns : Turns
 unfolding member_of entry_ok entries_ok causes_ok same all_are sum wide triple triples narrow entry_at entries_from list_part framed_part form_a two_bytes head_b quad quads listed_part summed_part form_b two_at causes_from table_of run_of causes_of converted
-turns = record { to_a = refl; to_b = refl; a-has-no-run-number = refl; a-has-no-causes = refl }
+turns = record { to_a = refl; to_b = refl; a_has_no_run_number = refl; a_has_no_causes = refl }

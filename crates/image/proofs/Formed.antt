@@ -85,8 +85,8 @@ formed_a_lem i h b =
 
 -- FORM B: the frame, with counts of n and m, and the whole
 pub record FrameB (i : List ℕ) (n m : ℕ) : Type 0 where
-  pub spare-offset : two_at i 10 ≡ 16
-  pub bad-offset : two_at i 14 ≡ 16 + 4 * n
+  pub spare_offset : two_at i 10 ≡ 16
+  pub bad_offset : two_at i 14 ≡ 16 + 4 * n
   pub zeros : all_are 0 (take (514 - 4 * n - 3 * m) (drop (16 + 4 * n + 3 * m) i)) ≡ true
 
 pub frame_b : (i : List ℕ) (n m : ℕ) → framed_b i n m ≡ true → FrameB i n m
@@ -96,7 +96,7 @@ frame_b i n m h =
     let d = eqb (two_at i 14) (16 + 4 * n) in
     let e = all_are 0 (take (514 - 4 * n - 3 * m) (drop (16 + 4 * n + 3 * m) i)) in
     let h2 = and_left (c && d) e h in
-    record { spare-offset = eqb-true (two_at i 10) 16 (and_left c d h2); bad-offset = eqb-true (two_at i 14) (16 + 4 * n) (and_right c d h2); zeros = and_right (c && d) e h }
+    record { spare_offset = eqb-true (two_at i 10) 16 (and_left c d h2); bad_offset = eqb-true (two_at i 14) (16 + 4 * n) (and_right c d h2); zeros = and_right (c && d) e h }
 
 pub record FormedB (i : List ℕ) : Type 0 where
   pub long : length i ≡ 532

@@ -74,9 +74,9 @@ module _ (run : ℕ) (sp cs bd : List ℕ) where
   abbrev top : List ℕ
   top = head_b run (length sp) (length bd)
 
-  pub listed-length : length (listed_part run sp cs bd) ≡ 16 + 4 * length sp + 3 * length bd
+  pub listed_length : length (listed_part run sp cs bd) ≡ 16 + 4 * length sp + 3 * length bd
   unfolding listed_part
-  listed-length =
+  listed_length =
       omega (
         arith,
         length-append (top ++ quads sp cs) (triples bd),
@@ -86,16 +86,16 @@ module _ (run : ℕ) (sp cs bd : List ℕ) where
         triples_length bd,
       )
 
-  pub summed-length : length sp ≤ 32 → length bd ≤ 100 → length (summed_part run sp cs bd) ≡ 530
+  pub summed_length : length sp ≤ 32 → length bd ≤ 100 → length (summed_part run sp cs bd) ≡ 530
   unfolding summed_part
-  summed-length n m =
+  summed_length n m =
       let k = 530 - length (listed_part run sp cs bd) in
-      omega (arith, length-append (listed_part run sp cs bd) (replicate k 0), length-replicate {A = ℕ} k 0, listed-length)
+      omega (arith, length-append (listed_part run sp cs bd) (replicate k 0), length-replicate {A = ℕ} k 0, listed_length)
 
   -- the sum of the image is that of its parts
-  pub summed-parts : sum top + sum (quads sp cs) + sum (triples bd) ≡ sum (summed_part run sp cs bd)
+  pub summed_parts : sum top + sum (quads sp cs) + sum (triples bd) ≡ sum (summed_part run sp cs bd)
   unfolding summed_part listed_part
-  summed-parts =
+  summed_parts =
       let k = 530 - length (listed_part run sp cs bd) in
       omega (
         arith,
@@ -139,4 +139,4 @@ module _ (run : ℕ) (sp cs bd : List ℕ) where
       let s5 = grow (top ++ quads sp cs ++ triples bd ++ zeros) last o 530 ll in
       let none : drop (530 + length last) o ≡ [] = drop_of_length-le o {i = 530 + length last} (omega arith) in
       let e : k ≡ 530 - length (top ++ quads sp cs ++ triples bd) = omega (arith, lz) in
-      rw (s1, s2, s3, s4, s5, none, append-nil (top ++ quads sp cs ++ triples bd ++ zeros ++ last), ← e) (rw (← e) at (ap (λ (x : ℕ). top ++ quads sp cs ++ triples bd ++ zeros ++ two_bytes (x % 65536)) summed-parts))
+      rw (s1, s2, s3, s4, s5, none, append-nil (top ++ quads sp cs ++ triples bd ++ zeros ++ last), ← e) (rw (← e) at (ap (λ (x : ℕ). top ++ quads sp cs ++ triples bd ++ zeros ++ two_bytes (x % 65536)) summed_parts))

@@ -16,7 +16,7 @@ use Rattle.image.specs.FormB.{two_bytes, head_b, quads, listed_part, summed_part
 use Rattle.image.specs.Images.{well_formed}
 use Rattle.image.proofs.Layouts.{triples_length, entries_triples}
 use Rattle.image.proofs.Quads.{two, four, entries_quads, causes_quads}
-use Rattle.image.proofs.WritingB.{head_length, quads_length, listed-length, summed-length}
+use Rattle.image.proofs.WritingB.{head_length, quads_length, listed_length, summed_length}
 
 past_head : (h q t z e : List ℕ) → length h ≡ 16 → drop 16 (h ++ q ++ t ++ z ++ e) ≡ q ++ (t ++ (z ++ e))
 past_head h q t z e p =
@@ -40,102 +40,102 @@ module _ (run : ℕ) (sp cs bd : List ℕ) where
   total = two_bytes (sum (summed_part run sp cs bd) % 65536)
 
   -- How long it is,
-  pub form-b-length : length sp ≤ 32 → length bd ≤ 100 → length (form_b run sp cs bd) ≡ 532
+  pub form_b_length : length sp ≤ 32 → length bd ≤ 100 → length (form_b run sp cs bd) ≡ 532
   unfolding form_b two_bytes
-  form-b-length p q = omega (arith, length-append (summed_part run sp cs bd) total, summed-length run sp cs bd p q)
+  form_b_length p q = omega (arith, length-append (summed_part run sp cs bd) total, summed_length run sp cs bd p q)
 
   -- its head,
-  pub form-b-magic : has_magic (form_b run sp cs bd) ≡ true
+  pub form_b_magic : has_magic (form_b run sp cs bd) ≡ true
   unfolding form_b summed_part listed_part head_b same
-  form-b-magic = refl
+  form_b_magic = refl
 
-  pub form-b-run : run < 4294967296 → run_in (form_b run sp cs bd) ≡ run
+  pub form_b_run : run < 4294967296 → run_in (form_b run sp cs bd) ≡ run
   unfolding form_b summed_part listed_part head_b two_bytes two_at
-  form-b-run h = four run h
+  form_b_run h = four run h
 
-  spares-counted : n ≤ 32 → two_at image 8 ≡ n
+  spares_counted : n ≤ 32 → two_at image 8 ≡ n
   unfolding form_b summed_part listed_part head_b two_bytes two_at
-  spares-counted p = two n (omega arith)
+  spares_counted p = two n (omega arith)
 
-  spares-placed : two_at image 10 ≡ 16
+  spares_placed : two_at image 10 ≡ 16
   unfolding form_b summed_part listed_part head_b two_bytes two_at
-  spares-placed = refl
+  spares_placed = refl
 
-  bads-counted : m ≤ 100 → two_at image 12 ≡ m
+  bads_counted : m ≤ 100 → two_at image 12 ≡ m
   unfolding form_b summed_part listed_part head_b two_bytes two_at
-  bads-counted q = two m (omega arith)
+  bads_counted q = two m (omega arith)
 
-  bads-placed : n ≤ 32 → two_at image 14 ≡ 16 + 4 * n
+  bads_placed : n ≤ 32 → two_at image 14 ≡ 16 + 4 * n
   unfolding form_b summed_part listed_part head_b two_bytes two_at
-  bads-placed p = two (16 + 4 * n) (omega arith)
+  bads_placed p = two (16 + 4 * n) (omega arith)
 
   -- its parts from their places on,
-  from-spares : drop 16 image ≡ quads sp cs ++ (triples bd ++ (zeros ++ total))
+  from_spares : drop 16 image ≡ quads sp cs ++ (triples bd ++ (zeros ++ total))
   unfolding form_b summed_part listed_part
-  from-spares = past_head (head_b run n m) (quads sp cs) (triples bd) zeros total (head_length run n m)
+  from_spares = past_head (head_b run n m) (quads sp cs) (triples bd) zeros total (head_length run n m)
 
-  from-bads : drop (16 + 4 * n) image ≡ triples bd ++ (zeros ++ total)
-  from-bads =
+  from_bads : drop (16 + 4 * n) image ≡ triples bd ++ (zeros ++ total)
+  from_bads =
       sym (drop-drop (4 * n) 16 image)
-      ∙ ap (drop (4 * n)) from-spares
+      ∙ ap (drop (4 * n)) from_spares
       ∙ drop_at (quads sp cs) (triples bd ++ (zeros ++ total)) (4 * n) (quads_length sp cs)
 
-  from-zeros : drop (16 + 4 * n + 3 * m) image ≡ zeros ++ total
-  from-zeros =
+  from_zeros : drop (16 + 4 * n + 3 * m) image ≡ zeros ++ total
+  from_zeros =
       sym (drop-drop (3 * m) (16 + 4 * n) image)
-      ∙ ap (drop (3 * m)) from-bads
+      ∙ ap (drop (3 * m)) from_bads
       ∙ drop_at (triples bd) (zeros ++ total) (3 * m) (triples_length bd)
 
-  the-zeros : take (514 - 4 * n - 3 * m) (drop (16 + 4 * n + 3 * m) image) ≡ zeros
-  the-zeros =
+  the_zeros : take (514 - 4 * n - 3 * m) (drop (16 + 4 * n + 3 * m) image) ≡ zeros
+  the_zeros =
       let k = 530 - length (listed_part run sp cs bd) in
-      rw from-zeros (take_at zeros total (514 - 4 * n - 3 * m) (omega (arith, length-replicate {A = ℕ} k 0, listed-length run sp cs bd)))
+      rw from_zeros (take_at zeros total (514 - 4 * n - 3 * m) (omega (arith, length-replicate {A = ℕ} k 0, listed_length run sp cs bd)))
 
   -- its sum,
   summed : n ≤ 32 → m ≤ 100 → take 530 image ≡ summed_part run sp cs bd
   unfolding form_b
-  summed p q = take_at (summed_part run sp cs bd) total 530 (summed-length run sp cs bd p q)
+  summed p q = take_at (summed_part run sp cs bd) total 530 (summed_length run sp cs bd p q)
 
-  from-sum : n ≤ 32 → m ≤ 100 → drop 530 image ≡ total
+  from_sum : n ≤ 32 → m ≤ 100 → drop 530 image ≡ total
   unfolding form_b
-  from-sum p q = drop_at (summed_part run sp cs bd) total 530 (summed-length run sp cs bd p q)
+  from_sum p q = drop_at (summed_part run sp cs bd) total 530 (summed_length run sp cs bd p q)
 
-  sum-read : n ≤ 32 → m ≤ 100 → two_at image 530 ≡ sum (summed_part run sp cs bd) % 65536
+  sum_read : n ≤ 32 → m ≤ 100 → two_at image 530 ≡ sum (summed_part run sp cs bd) % 65536
   unfolding two_at two_bytes
-  sum-read p q =
+  sum_read p q =
       let s = sum (summed_part run sp cs bd) % 65536 in
-      let e = ap (λ (l : List ℕ). get_or l 0 0) (from-sum p q) in
-      let f = ap (λ (l : List ℕ). get_or l 1 0) (from-sum p q) in
+      let e = ap (λ (l : List ℕ). get_or l 0 0) (from_sum p q) in
+      let f = ap (λ (l : List ℕ). get_or l 1 0) (from_sum p q) in
       rw (← get_or-drop 530 image 0 0, ← get_or-drop 530 image 1 0, e, f) (two s (omega arith))
 
-  pub form-b-sum : length sp ≤ 32 → length bd ≤ 100 → sum_fits (form_b run sp cs bd) ≡ true
+  pub form_b_sum : length sp ≤ 32 → length bd ≤ 100 → sum_fits (form_b run sp cs bd) ≡ true
   unfolding sum_fits
-  form-b-sum p q = rw (summed p q, sum-read p q) (eq-eqb (sum (summed_part run sp cs bd) % 65536) _ refl)
+  form_b_sum p q = rw (summed p q, sum_read p q) (eq-eqb (sum (summed_part run sp cs bd) % 65536) _ refl)
 
   -- its lists and causes are those written,
-  pub form-b-spares : length sp ≤ 32 → entries_ok true sp ≡ true → spare_entries (layout_b (form_b run sp cs bd)) (form_b run sp cs bd) ≡ sp
-  form-b-spares p h = rw (spares-counted p, from-spares) (entries_quads true sp cs (triples bd ++ (zeros ++ total)) h)
+  pub form_b_spares : length sp ≤ 32 → entries_ok true sp ≡ true → spare_entries (layout_b (form_b run sp cs bd)) (form_b run sp cs bd) ≡ sp
+  form_b_spares p h = rw (spares_counted p, from_spares) (entries_quads true sp cs (triples bd ++ (zeros ++ total)) h)
 
-  pub form-b-bads : length sp ≤ 32 → length bd ≤ 100 → entries_ok false bd ≡ true → bad_entries (layout_b (form_b run sp cs bd)) (form_b run sp cs bd) ≡ bd
-  form-b-bads p q h = rw (spares-counted p, bads-counted q, from-bads) (entries_triples false bd (zeros ++ total) h)
+  pub form_b_bads : length sp ≤ 32 → length bd ≤ 100 → entries_ok false bd ≡ true → bad_entries (layout_b (form_b run sp cs bd)) (form_b run sp cs bd) ≡ bd
+  form_b_bads p q h = rw (spares_counted p, bads_counted q, from_bads) (entries_triples false bd (zeros ++ total) h)
 
-  pub form-b-causes : length sp ≤ 32 → length cs ≡ length sp → causes_ok cs ≡ true → cause_entries (form_b run sp cs bd) ≡ cs
-  form-b-causes p e h = rw (spares-counted p, from-spares) (causes_quads sp cs (triples bd ++ (zeros ++ total)) e h)
+  pub form_b_causes : length sp ≤ 32 → length cs ≡ length sp → causes_ok cs ≡ true → cause_entries (form_b run sp cs bd) ≡ cs
+  form_b_causes p e h = rw (spares_counted p, from_spares) (causes_quads sp cs (triples bd ++ (zeros ++ total)) e h)
 
-  framed-written : n ≤ 32 → framed_b image n m ≡ true
+  framed_written : n ≤ 32 → framed_b image n m ≡ true
   unfolding framed_b
-  framed-written p =
-      rw (spares-placed, bads-placed p, eq-eqb (16 + 4 * n) (16 + 4 * n) refl, the-zeros)
+  framed_written p =
+      rw (spares_placed, bads_placed p, eq-eqb (16 + 4 * n) (16 + 4 * n) refl, the_zeros)
       (replicate_all 0 (530 - length (listed_part run sp cs bd)))
 
   -- and it is well formed.
-  pub form-b-formed : length sp ≤ 32 → length cs ≡ length sp → length bd ≤ 100
+  pub form_b_formed : length sp ≤ 32 → length cs ≡ length sp → length bd ≤ 100
       → entries_ok true sp ≡ true → entries_ok false bd ≡ true → causes_ok cs ≡ true → well_formed (form_b run sp cs bd) ≡ true
   unfolding well_formed formed_b fields_fit entries_fit
-  form-b-formed p e q hs hb hc =
-      let c : counts_fit (layout_b image) ≡ true = rw (spares-counted p, bads-counted q, le-leb n 32 p, le-leb m 100 q) in
-      let f : framed_b image (two_at image 8) (two_at image 12) ≡ true = rw (spares-counted p, bads-counted q) (framed-written p) in
-      let k : causes_ok (cause_entries image) ≡ true = rw (form-b-causes p e hc) hc in
-      let s : entries_ok true (spare_entries (layout_b image) image) ≡ true = rw (form-b-spares p hs) hs in
-      let b : entries_ok false (bad_entries (layout_b image) image) ≡ true = rw (form-b-bads p q hb) hb in
-      rw (eq-eqb (length image) 532 (form-b-length p q), form-b-magic, form-b-sum p q, c, f, k, s) b
+  form_b_formed p e q hs hb hc =
+      let c : counts_fit (layout_b image) ≡ true = rw (spares_counted p, bads_counted q, le-leb n 32 p, le-leb m 100 q) in
+      let f : framed_b image (two_at image 8) (two_at image 12) ≡ true = rw (spares_counted p, bads_counted q) (framed_written p) in
+      let k : causes_ok (cause_entries image) ≡ true = rw (form_b_causes p e hc) hc in
+      let s : entries_ok true (spare_entries (layout_b image) image) ≡ true = rw (form_b_spares p hs) hs in
+      let b : entries_ok false (bad_entries (layout_b image) image) ≡ true = rw (form_b_bads p q hb) hb in
+      rw (eq-eqb (length image) 532 (form_b_length p q), form_b_magic, form_b_sum p q, c, f, k, s) b

@@ -26,8 +26,8 @@ module _ (f : ℕ) (u : List ℕ) (h : 532 ≤ f) where
   pub none_filled : (bs : List ℕ) → over (4 + f) (take (532 - f) bs) u ≡ u
   none_filled bs = let z : 532 - f ≡ 0 = omega arith in rw z (over_none (4 + f) u)
 
-  pub none-zeroed : length u ≡ 536 → take (4 + f) u ++ replicate (532 - f) 0x00 ≡ u
-  none-zeroed k =
+  pub none_zeroed : length u ≡ 536 → take (4 + f) u ++ replicate (532 - f) 0x00 ≡ u
+  none_zeroed k =
       let z : 532 - f ≡ 0 = omega arith in
       rw (z, append-nil (take (4 + f) u)) (take_all (4 + f) u (omega arith))
 

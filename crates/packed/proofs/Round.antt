@@ -192,17 +192,17 @@ module _ (l : State) (r : List ℕ) (n : ℕ) (ok : state_ok n l ≡ true) (full
   abbrev w : List ℕ
   w = pack_state l ++ r
 
-  command-back : command_at w ≡ l.command
+  command_back : command_at w ≡ l.command
   unfolding pack_state
-  command-back =
+  command_back =
       let c = l.command in
       (λ i. low_pair (get_or c 0 0) (get_or c 1 0) (bytes 0) i ∷ high_pair (get_or c 0 0) (get_or c 1 0) (bytes 0) i ∷ low_pair (get_or c 2 0) (get_or c 3 0) (bytes 2) i
       ∷ high_pair (get_or c 2 0) (get_or c 3 0) (bytes 2) i ∷ low_pair (get_or c 4 0) (get_or c 5 0) (bytes 4) i ∷ high_pair (get_or c 4 0) (get_or c 5 0) (bytes 4) i ∷ [])
       ∙ six c full
 
-  stage-back : Fits (stage_of l.phase) → stage_at w ≡ stage_of l.phase
+  stage_back : Fits (stage_of l.phase) → stage_at w ≡ stage_of l.phase
   unfolding pack_state
-  stage-back f =
+  stage_back f =
       let s = stage_of l.phase in
       λ i. record {
         kind = low_pair s.kind s.detail f.kind i;
@@ -221,18 +221,18 @@ module _ (l : State) (r : List ℕ) (n : ℕ) (ok : state_ok n l ≡ true) (full
         timeout = flag_bit s.timeout i;
       }
 
-  state-back : state_at w ≡ l
+  state_back : state_at w ≡ l
   unfolding state_at pack_state state_ok
-  state-back =
+  state_back =
       let m = l.marks in
       let few = leb l.count 6 && leb l.fed 533 in
       let p = phase_ok n m.known l.phase in
       let x = and_left few p ok in
-      let s = stage-back (fits n m.known l.phase (and_right few p ok)) in
+      let s = stage_back (fits n m.known l.phase (and_right few p ok)) in
       λ i. record {
         phase = (ap phase_of s ∙ phase_back l.phase) i;
         marks = record { known = flag_bit m.known i; changed = flag_bit m.changed i; moved = flag_bit m.moved i; latch = flag_bit m.latch i; fresh = flag_bit m.fresh i };
-        command = command-back i;
+        command = command_back i;
         count = word_is l.count (omega (arith, leb-true l.count 6 (and_left (leb l.count 6) (leb l.fed 533) x))) i;
         fed = word_is l.fed (omega (arith, leb-true l.fed 533 (and_right (leb l.count 6) (leb l.fed 533) x))) i;
         run = long_back l.run i;
@@ -244,9 +244,9 @@ module _ (l : State) (t : Table) (cs : List ℕ) (shaped : Shaped t) where
   abbrev z : List ℕ
   z = pack_state l ++ (pack_table t ++ cs)
 
-  table-back : table_ok t ≡ true → table_at z ≡ t
+  table_back : table_ok t ≡ true → table_at z ≡ t
   unfolding table_at pack_state pack_table
-  table-back ok =
+  table_back ok =
       let p = passes t ok in
       let e = append_assoc t.spares t.bads cs in
       λ i. record {
@@ -256,9 +256,9 @@ module _ (l : State) (t : Table) (cs : List ℕ) (shaped : Shaped t) where
         nbads = word_is t.nbads (omega (arith, p.few_bads)) i;
       }
 
-  causes-back : length cs ≡ 32 → causes_at z ≡ cs
+  causes_back : length cs ≡ 32 → causes_at z ≡ cs
   unfolding pack_state pack_table
-  causes-back h =
+  causes_back h =
       let k : length (t.spares ++ t.bads) ≡ 132 = omega (arith, length-append t.spares t.bads, shaped.0, shaped.1) in
       ap (take 32) (drop_at (t.spares ++ t.bads) cs 132 k) ∙ take_all 32 cs (omega arith)
 
@@ -271,9 +271,9 @@ unpacked d y ok =
     let c = causes_ok (take d.table.nspares d.causes) in
     let s = state_ok d.table.nspares d.state in
     λ i. record {
-      table = table-back d.state d.table d.causes y.table (and_left t c (and_left (t && c) s ok)) i;
-      causes = causes-back d.state d.table d.causes y.table y.causes i;
-      state = state-back d.state (pack_table d.table ++ d.causes) d.table.nspares (and_right (t && c) s ok) y.full y.bytes i;
+      table = table_back d.state d.table d.causes y.table (and_left t c (and_left (t && c) s ok)) i;
+      causes = causes_back d.state d.table d.causes y.table y.causes i;
+      state = state_back d.state (pack_table d.table ++ d.causes) d.table.nspares (and_right (t && c) s ok) y.full y.bytes i;
     }
 
 -- The words of a table and its causes stay where they are packed again.

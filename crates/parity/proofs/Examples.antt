@@ -14,43 +14,43 @@ entries_set zero = 0
 entries_set (suc n) = entries_set n + parity_of n
 
 pub record Examples : Type 0 where
-  pub entry-00 : parity_of 0x00 ≡ 1
-  pub entry-01 : parity_of 0x01 ≡ 0
-  pub entry-03 : parity_of 0x03 ≡ 1
-  pub entry-80 : parity_of 0x80 ≡ 0
-  pub entry-FF : parity_of 0xFF ≡ 1
-  pub half-are-set : entries_set 256 ≡ 128
-  pub lowest-bit : bit_at 0 0x01 ≡ 1
-  pub highest-bit : bit_at 7 0x80 ≡ 1
-  pub bit-between : bit_at 3 0xF7 ≡ 0
-  pub eight-ones : ones_among 8 0xFF ≡ 8
-  pub bits-above-do-not-count : ones_among 8 0x1FF ≡ 8
-  pub nine-ones : ones_among 9 0x1FF ≡ 9
-  pub none-is-even : has_even_ones 0x00 ≡ true
-  pub one-is-not : has_even_ones 0x10 ≡ false
-  pub byte-below-its-bit : nine_bits 0x80 1 ≡ 0x180
-  pub byte-with-bit-0 : nine_bits 0xFF 0 ≡ 0xFF
+  pub entry_00 : parity_of 0x00 ≡ 1
+  pub entry_01 : parity_of 0x01 ≡ 0
+  pub entry_03 : parity_of 0x03 ≡ 1
+  pub entry_80 : parity_of 0x80 ≡ 0
+  pub entry_FF : parity_of 0xFF ≡ 1
+  pub half_are_set : entries_set 256 ≡ 128
+  pub lowest_bit : bit_at 0 0x01 ≡ 1
+  pub highest_bit : bit_at 7 0x80 ≡ 1
+  pub bit_between : bit_at 3 0xF7 ≡ 0
+  pub eight_ones : ones_among 8 0xFF ≡ 8
+  pub bits_above_do_not_count : ones_among 8 0x1FF ≡ 8
+  pub nine_ones : ones_among 9 0x1FF ≡ 9
+  pub none_is_even : has_even_ones 0x00 ≡ true
+  pub one_is_not : has_even_ones 0x10 ≡ false
+  pub byte_below_its_bit : nine_bits 0x80 1 ≡ 0x180
+  pub byte_with_bit_0 : nine_bits 0xFF 0 ≡ 0xFF
 
 pub examples : Examples
 unfolding ones_among
 examples =
     record {
-      entry-00 = refl;
-      entry-01 = refl;
-      entry-03 = refl;
-      entry-80 = refl;
-      entry-FF = refl;
-      half-are-set = refl;
-      lowest-bit = refl;
-      highest-bit = refl;
-      bit-between = refl;
-      eight-ones = refl;
-      bits-above-do-not-count = refl;
-      nine-ones = refl;
-      none-is-even = refl;
-      one-is-not = refl;
-      byte-below-its-bit = refl;
-      byte-with-bit-0 = refl;
+      entry_00 = refl;
+      entry_01 = refl;
+      entry_03 = refl;
+      entry_80 = refl;
+      entry_FF = refl;
+      half_are_set = refl;
+      lowest_bit = refl;
+      highest_bit = refl;
+      bit_between = refl;
+      eight_ones = refl;
+      bits_above_do_not_count = refl;
+      nine_ones = refl;
+      none_is_even = refl;
+      one_is_not = refl;
+      byte_below_its_bit = refl;
+      byte_with_bit_0 = refl;
     }
 
 -- the ones of a byte are what the language's own count_ones gives

@@ -81,8 +81,8 @@ one_is_odd (suc n) j w x d = go (eqb j n) refl (one_is_odd n j w x)
 -- whatever byte v was sent, and whichever of the nine bits came wrong: the bit p that came is not that of the byte x that came
 pub one_wrong_bit : (v x p j : ℕ) → v < 256 → x < 256 → DifferAt 9 j (nine_bits v (parity_of v)) (nine_bits x p) → p ≡ parity_of x → ⊥
 one_wrong_bit v x p j hv hx d e =
-    both-odd (ones_among 9 (nine_bits v (parity_of v))) (ones_among 9 (nine_bits x p)) (sent_is_odd v hv)
+    both_odd (ones_among 9 (nine_bits v (parity_of v))) (ones_among 9 (nine_bits x p)) (sent_is_odd v hv)
     (ap (λ (q : ℕ). ones_among 9 (nine_bits x q) % 2) e ∙ sent_is_odd x hx) (one_is_odd 9 j (nine_bits v (parity_of v)) (nine_bits x p) d)
   where
-    both-odd : (a b : ℕ) → a % 2 ≡ 1 → b % 2 ≡ 1 → (a + b) % 2 ≡ 1 → ⊥
-    both-odd a b p q o = omega arith
+    both_odd : (a b : ℕ) → a % 2 ≡ 1 → b % 2 ≡ 1 → (a + b) % 2 ≡ 1 → ⊥
+    both_odd a b p q o = omega arith

@@ -105,10 +105,10 @@ overruns_cases P o l z = branch P (is_block o.number) z.block z.no_block
 pub record OnBlock (o : Order) (l : State) : Type 0 where
   pub short : too_long l ≡ false
   pub number : no_number o.kind o.number ≡ false
-  pub not-buffer : asks_buffer o.number ≡ false
+  pub not_buffer : asks_buffer o.number ≡ false
   pub known : not l.marks.known ≡ false
   pub not_table : asks_table o.number ≡ false
-  pub not-health : asks_health o.number ≡ false
+  pub not_health : asks_health o.number ≡ false
 
 pub record Acted (P : Turn → Type 0) (o : Order) (l : State) (t : Table) : Type 0 where
   pub overrun : too_long l ≡ true → Overruns P o l
@@ -132,7 +132,7 @@ acted_cases P o l t z =
     (λ e2. branch P (not l.marks.known) (z.no_table e2)
     (λ e3. branch P (asks_table o.number) (z.table e3)
     (λ e4. branch P (asks_health o.number) (z.health e3)
-    (λ e5. on_block (record { short = e0; number = e1; not-buffer = e2; known = e3; not_table = e4; not-health = e5 })))))))
+    (λ e5. on_block (record { short = e0; number = e1; not_buffer = e2; known = e3; not_table = e4; not_health = e5 })))))))
   where
     on_block : OnBlock o l → P (cond (is_read o.kind) (first_read o l (spare_list t)) (cond l.marks.latch (finish l change.Keep ending.Latched clean part.Kept) (cond (is_listed o t) (first_trial o l (spare_list t)) (first_write o l (spare_list t)))))
     on_block b =
@@ -153,11 +153,11 @@ lowered_cases P o l t b z = branch P (eqb b 0x55) z.goes z.breaks
 
 pub record NextSpare (P : Turn → Type 0) (n : ℕ) (l : State) (c : Change) (b : Block) (s : Seen) (x y : Cause) : Type 0 where
   pub spare : has_unused n ≡ true → P (begin l c (on_spare n b s x y) part.Kept)
-  pub no-spare : has_unused n ≡ false → P (finish l c ending.NoSpare s part.Kept)
+  pub no_spare : has_unused n ≡ false → P (finish l c ending.NoSpare s part.Kept)
 
 pub next_spare_cases : (P : Turn → Type 0) (n : ℕ) (l : State) (c : Change) (b : Block) (s : Seen) (x y : Cause) → NextSpare P n l c b s x y → P (next_spare n l c b s x y)
 unfolding next_spare
-next_spare_cases P n l c b s x y z = branch P (has_unused n) z.spare z.no-spare
+next_spare_cases P n l c b s x y z = branch P (has_unused n) z.spare z.no_spare
 
 pub record Missed (P : Turn → Type 0) (l : State) (t : Table) (r : Trial) (s : Seen) (x : Cause) : Type 0 where
   pub dead : r.spare ≡ true → NextSpare P (t.nspares + 1) l (change.Kill x) r.block s x r.present

@@ -117,17 +117,17 @@ a_task_ends_in_its_phase c = clash refl (sym (ap (awaits of_start) c.phase))
 
 pub record Suits : Type 0 where
   pub start : suits (phase.Awaiting (access.Start 1)) late ≡ true
-  pub start-above-3 : suits (phase.Awaiting (access.Start 1)) wrong ≡ false
-  pub start-without-bytes : suits (phase.Awaiting (access.Start 1)) done ≡ false
-  pub start-with-bytes : suits (phase.Awaiting (access.Start 1)) crc ≡ true
+  pub start_above_3 : suits (phase.Awaiting (access.Start 1)) wrong ≡ false
+  pub start_without_bytes : suits (phase.Awaiting (access.Start 1)) done ≡ false
+  pub start_with_bytes : suits (phase.Awaiting (access.Start 1)) crc ≡ true
   pub store : suits (phase.Awaiting (access.Store close)) done ≡ true
-  pub store-answered-1 : suits (phase.Awaiting (access.Store close)) (reply 1 []) ≡ false
-  pub store-with-bytes : suits (phase.Awaiting (access.Store close)) good ≡ false
+  pub store_answered_1 : suits (phase.Awaiting (access.Store close)) (reply 1 []) ≡ false
+  pub store_with_bytes : suits (phase.Awaiting (access.Store close)) good ≡ false
   pub idle : suits phase.Idle late ≡ false
 
 pub suited : Suits
 unfolding computed
-suited = record { start = refl; start-above-3 = refl; start-without-bytes = refl; start-with-bytes = refl; store = refl; store-answered-1 = refl; store-with-bytes = refl; idle = refl }
+suited = record { start = refl; start_above_3 = refl; start_without_bytes = refl; start_with_bytes = refl; store = refl; store_answered_1 = refl; store_with_bytes = refl; idle = refl }
 
 pub a_wrong_answer_does_not_suit :
     (Suited start starting (wrong ∷ []) → ⊥)

@@ -92,9 +92,9 @@ good_at_once =
       candidates = bytes 7 ∷ [];
     }
 
-pub a_first_good_read_is_done_whatever_T_is : (old : Drive) → Happens old good_at_once
+pub a_first_good_read_is_done_whatever_t_is : (old : Drive) → Happens old good_at_once
 unfolding computed
-a_first_good_read_is_done_whatever_T_is old = happens old good_at_once refl
+a_first_good_read_is_done_whatever_t_is old = happens old good_at_once refl
 
 -- No read is good. The data part holds the bytes of answer 1, which are no candidate.
 abbrev only_garbled : Run

@@ -58,9 +58,9 @@ short_to_the_buffer =
       candidates = bytes 7 ∷ [];
     }
 
-pub a_short_write_to_FFFFFE_leaves_zeros : (old : Drive) → Happens old short_to_the_buffer
+pub a_short_write_to_fffffe_leaves_zeros : (old : Drive) → Happens old short_to_the_buffer
 unfolding computed
-a_short_write_to_FFFFFE_leaves_zeros old = happens old short_to_the_buffer refl
+a_short_write_to_fffffe_leaves_zeros old = happens old short_to_the_buffer refl
 
 -- No byte to a number of no block.
 abbrev none_fed : Run

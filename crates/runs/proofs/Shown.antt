@@ -59,12 +59,12 @@ abbrev read : ℕ → Out
 read n = lower_of (offered n) (nines 536) 0x55
 
 -- A READ OF FFFFFF
-pub offers_FFFFFF : OffersRead 0xFFFFFF (offered 255)
+pub offers_ffffff : OffersRead 0xFFFFFF (offered 255)
 unfolding computed
-offers_FFFFFF = record { valid = refl; offered = refl; kind = refl; number = refl; few = omega arith; known = refl }
+offers_ffffff = record { valid = refl; offered = refl; kind = refl; number = refl; few = omega arith; known = refl }
 
 pub shown : TableRead → Typed (offered 255) → Shows (offered 255) (read 255) (image_out_of (offered 255) (nines 532))
-shown shows typed = shows (offered 255) (nines 536) (nines 532) typed offers_FFFFFF refl refl
+shown shows typed = shows (offered 255) (nines 536) (nines 532) typed offers_ffffff refl refl
 
 pub the_table_shown : TableRead → Typed (offered 255) → (read 255).bytes ≡ (0x00 ∷ 0x00 ∷ 0x80 ∷ 0x00 ∷ []) ++ image_a
 unfolding status_of wide triple triples list_part framed_part form_a
@@ -92,12 +92,12 @@ unfolding computed image_out_of
 the_table_so = (refl, refl)
 
 -- A READ OF FFFFFD
-pub offers_FFFFFD : OffersRead 0xFFFFFD (offered 253)
+pub offers_fffffd : OffersRead 0xFFFFFD (offered 253)
 unfolding computed
-offers_FFFFFD = record { valid = refl; offered = refl; kind = refl; number = refl; few = omega arith; known = refl }
+offers_fffffd = record { valid = refl; offered = refl; kind = refl; number = refl; few = omega arith; known = refl }
 
 pub healthy : HealthRead → ShowsHealth (offered 253) (read 253)
-healthy shows = shows (offered 253) (nines 536) offers_FFFFFD (refl, refl) refl
+healthy shows = shows (offered 253) (nines 536) offers_fffffd (refl, refl) refl
 
 pub the_health_shown :
     HealthRead

@@ -217,15 +217,15 @@ pub record Counting : Type 0 where
   pub others : counts other ≡ true
   pub crc : counts (reply 1 (bytes 7)) ≡ true
   pub timeout : counts late ≡ true
-  pub no-settle : counts (reply 3 []) ≡ false
+  pub no_settle : counts (reply 3 []) ≡ false
   pub short : counts (reply 0 (replicate 531 7)) ≡ false
   pub crowded : counts (reply 2 (bytes 7)) ≡ false
   -- Fails by other bytes, a CRC error and a timeout, each once.
   pub failures : failing (bytes 7) (equal ∷ other ∷ equal ∷ reply 1 (bytes 7) ∷ late ∷ []) ≡ 3
   pub none : failing (bytes 7) (equal ∷ equal ∷ []) ≡ 0
   -- Counts a spare under trial among those listed once it failed.
-  pub at-present : listed_then (rereading 2 present).table present ≡ 2
-  pub at-a-spare : listed_then (rereading 2 aside).table aside ≡ 3
+  pub at_present : listed_then (rereading 2 present).table present ≡ 2
+  pub at_a_spare : listed_then (rereading 2 aside).table aside ≡ 3
 
 pub counting : Counting
 unfolding computed
@@ -235,13 +235,13 @@ counting =
       others = refl;
       crc = refl;
       timeout = refl;
-      no-settle = refl;
+      no_settle = refl;
       short = refl;
       crowded = refl;
       failures = refl;
       none = refl;
-      at-present = refl;
-      at-a-spare = refl;
+      at_present = refl;
+      at_a_spare = refl;
     }
 
 -- Counts no list with an answer 3, wherever it is.
@@ -275,7 +275,7 @@ a_trial_under_way = (
 pub record Rereading : Type 0 where
   pub first : (through (asked present) []).step.answer ≡ answer.Read (record { 0 = 0 })
   pub second : (through (asked present) (late ∷ [])).step.answer ≡ answer.Read (record { 0 = 0 })
-  pub last-but-one : (through (asked present) (replicate 99 late)).step.answer ≡ answer.Read (record { 0 = 0 })
+  pub last_but_one : (through (asked present) (replicate 99 late)).step.answer ≡ answer.Read (record { 0 = 0 })
   pub last : (through (asked present) (replicate 100 late)).step.answer ≡ answer.Write (record { 0 = 4930 })
   pub spare : (through (asked aside) (replicate 100 late)).step.answer ≡ answer.Write (record { 0 = 4931 })
   pub passes : (through (asked present) (replicate 30 other ++ replicate 70 equal)).step.answer ≡ answer.Finished
@@ -283,7 +283,7 @@ pub record Rereading : Type 0 where
 
 pub rereading_goes : Rereading
 unfolding computed
-rereading_goes = record { first = refl; second = refl; last-but-one = refl; last = refl; spare = refl; passes = refl; moves = refl }
+rereading_goes = record { first = refl; second = refl; last_but_one = refl; last = refl; spare = refl; passes = refl; moves = refl }
 
 -- Applies the statement, at the present sector and at a spare.
 pub trial_100_of_a_drive :
@@ -354,37 +354,37 @@ abbrev Never : ℕ → ℕ → Answer → ℕ → Type 0
 Never n failures a one = Decided n failures (bytes 7) (result (rereading n present) a one) → ⊥
 
 pub record Undecided : Type 0 where
-  pub thirty-goes-on : Never 2 30 (answer.Read (record { 0 = 0 })) 0
-  pub thirty-moves : Never 2 30 (answer.Write (record { 0 = 4930 })) 0
-  pub thirty-fails : Never 2 30 answer.Finished 1
-  pub thirty-one-passes : Never 2 31 answer.Finished 0
-  pub thirty-one-fails : Never 2 31 answer.Finished 1
-  pub thirty-one-moves-elsewhere : Never 2 31 (answer.Write (record { 0 = 4929 })) 0
-  pub no-spare-passes : Never 32 31 answer.Finished 0
-  pub no-spare-moves : Never 32 31 (answer.Write (record { 0 = 4960 })) 0
+  pub thirty_goes_on : Never 2 30 (answer.Read (record { 0 = 0 })) 0
+  pub thirty_moves : Never 2 30 (answer.Write (record { 0 = 4930 })) 0
+  pub thirty_fails : Never 2 30 answer.Finished 1
+  pub thirty_one_passes : Never 2 31 answer.Finished 0
+  pub thirty_one_fails : Never 2 31 answer.Finished 1
+  pub thirty_one_moves_elsewhere : Never 2 31 (answer.Write (record { 0 = 4929 })) 0
+  pub no_spare_passes : Never 32 31 answer.Finished 0
+  pub no_spare_moves : Never 32 31 (answer.Write (record { 0 = 4960 })) 0
   -- How it ended stands in the record while the store is awaited.
-  pub thirty-fails-storing : Decided 2 30 (bytes 7) (closing ending.NoSpare) → ⊥
-  pub no-spare-passes-storing : (Decided 32 31 (bytes 7) (closing ending.Good) → ⊥) × (Decided 32 31 (bytes 7) (closing ending.Moved) → ⊥)
+  pub thirty_fails_storing : Decided 2 30 (bytes 7) (closing ending.NoSpare) → ⊥
+  pub no_spare_passes_storing : (Decided 32 31 (bytes 7) (closing ending.Good) → ⊥) × (Decided 32 31 (bytes 7) (closing ending.Moved) → ⊥)
   -- The last reread's bytes are not kept, nor those of another, and each is of the same sector.
-  pub bytes-kept : Decided 2 0 (bytes 8) (result (rereading 2 present) answer.Finished 0) → ⊥
-  pub buffer-kept : Rereads present (replicate 536 8) (asked present) → ⊥
+  pub bytes_kept : Decided 2 0 (bytes 8) (result (rereading 2 present) answer.Finished 0) → ⊥
+  pub buffer_kept : Rereads present (replicate 536 8) (asked present) → ⊥
   pub elsewhere : Rereads present (replicate 536 7) (asked aside) → ⊥
 
 pub undecided : Undecided
 unfolding computed
 undecided =
     record {
-      thirty-goes-on = λ d. clash (is_end_lem false (result (rereading 2 present) (answer.Read (record { 0 = 0 })) 0) (d.passes refl)) refl;
-      thirty-moves = λ d. clash (is_end_lem false (result (rereading 2 present) (answer.Write (record { 0 = 4930 })) 0) (d.passes refl)) refl;
-      thirty-fails = λ d. clash refl (told_so false (result (rereading 2 present) answer.Finished 1) refl (d.passes refl));
-      thirty-one-passes = λ d. clash (sym (ap is_finished (d.moves refl refl))) refl;
-      thirty-one-fails = λ d. clash (sym (ap is_finished (d.moves refl refl))) refl;
-      thirty-one-moves-elsewhere = λ d. differ 4929 4930 refl (ap written (d.moves refl refl));
-      no-spare-passes = λ d. clash (told_so true (result (rereading 32 present) answer.Finished 0) refl (d.ends refl refl)) refl;
-      no-spare-moves = λ d. clash (is_end_lem true (result (rereading 32 present) (answer.Write (record { 0 = 4960 })) 0) (d.ends refl refl)) refl;
-      thirty-fails-storing = λ d. clash refl (kept_so false (closing ending.NoSpare) refl (d.passes refl));
-      no-spare-passes-storing = (λ d. clash (kept_so true (closing ending.Good) refl (d.ends refl refl)) refl, λ d. clash (kept_so true (closing ending.Moved) refl (d.ends refl refl)) refl);
-      bytes-kept = λ d. differ 7 8 refl (ap byte_of d.stays);
-      buffer-kept = λ d. differ 7 8 refl (ap byte_of d.stays);
+      thirty_goes_on = λ d. clash (is_end_lem false (result (rereading 2 present) (answer.Read (record { 0 = 0 })) 0) (d.passes refl)) refl;
+      thirty_moves = λ d. clash (is_end_lem false (result (rereading 2 present) (answer.Write (record { 0 = 4930 })) 0) (d.passes refl)) refl;
+      thirty_fails = λ d. clash refl (told_so false (result (rereading 2 present) answer.Finished 1) refl (d.passes refl));
+      thirty_one_passes = λ d. clash (sym (ap is_finished (d.moves refl refl))) refl;
+      thirty_one_fails = λ d. clash (sym (ap is_finished (d.moves refl refl))) refl;
+      thirty_one_moves_elsewhere = λ d. differ 4929 4930 refl (ap written (d.moves refl refl));
+      no_spare_passes = λ d. clash (told_so true (result (rereading 32 present) answer.Finished 0) refl (d.ends refl refl)) refl;
+      no_spare_moves = λ d. clash (is_end_lem true (result (rereading 32 present) (answer.Write (record { 0 = 4960 })) 0) (d.ends refl refl)) refl;
+      thirty_fails_storing = λ d. clash refl (kept_so false (closing ending.NoSpare) refl (d.passes refl));
+      no_spare_passes_storing = (λ d. clash (kept_so true (closing ending.Good) refl (d.ends refl refl)) refl, λ d. clash (kept_so true (closing ending.Moved) refl (d.ends refl refl)) refl);
+      bytes_kept = λ d. differ 7 8 refl (ap byte_of d.stays);
+      buffer_kept = λ d. differ 7 8 refl (ap byte_of d.stays);
       elsewhere = λ d. differ 4930 0 refl (ap read_at d.asks);
     }

@@ -24,10 +24,10 @@ instead c = found [] ++ asks_write 1 ++ (ends c 0x00 0x00 1 ∷ []) ++ reads_goo
 pub no_call_but_the_lower_acts : Forbids (instead raise) × Forbids (instead (feed [])) × Forbids (instead done) × Forbids (instead reset)
 unfolding computed
 no_call_but_the_lower_acts = (
-  λ a. not_the_one 1 7 refl ((last_asks sevens blank (instead raise) a).0.read-rule refl),
-  λ a. not_the_one 1 7 refl ((last_asks sevens blank (instead (feed [])) a).0.read-rule refl),
-  λ a. not_the_one 1 7 refl ((last_asks sevens blank (instead done) a).0.read-rule refl),
-  λ a. not_the_one 1 7 refl ((last_asks sevens blank (instead reset) a).0.read-rule refl),
+  λ a. not_the_one 1 7 refl ((last_asks sevens blank (instead raise) a).0.read_rule refl),
+  λ a. not_the_one 1 7 refl ((last_asks sevens blank (instead (feed [])) a).0.read_rule refl),
+  λ a. not_the_one 1 7 refl ((last_asks sevens blank (instead done) a).0.read_rule refl),
+  λ a. not_the_one 1 7 refl ((last_asks sevens blank (instead reset) a).0.read_rule refl),
 )
 
 -- Makes this call between the write s of a write and its finish. If it breaks nothing off, the write is reported good.
@@ -37,9 +37,9 @@ between c = found [] ++ asks_write 1 ++ (says go (writes 17) ∷ says c answer.W
 pub a_raise_a_feed_and_an_answer_break_nothing_off : Forbids (between raise) × Forbids (between (feed [])) × Forbids (between times_out)
 unfolding computed
 a_raise_a_feed_and_an_answer_break_nothing_off = (
-  λ a. not_the_one 7 1 refl ((last_asks sevens blank (between raise) a).0.read-rule refl),
-  λ a. not_the_one 7 1 refl ((last_asks sevens blank (between (feed [])) a).0.read-rule refl),
-  λ a. not_the_one 7 1 refl ((last_asks sevens blank (between times_out) a).0.read-rule refl),
+  λ a. not_the_one 7 1 refl ((last_asks sevens blank (between raise) a).0.read_rule refl),
+  λ a. not_the_one 7 1 refl ((last_asks sevens blank (between (feed [])) a).0.read_rule refl),
+  λ a. not_the_one 7 1 refl ((last_asks sevens blank (between times_out) a).0.read_rule refl),
 )
 
 -- Feeds an image while the start's read is awaited: no block has a sector yet.
@@ -48,7 +48,7 @@ image_fed = says (feed (form_a [] [])) answer.Wait ∷ asks_read 17 ++ (says go 
 
 pub what_is_fed_is_no_table : Forbids image_fed
 unfolding computed
-what_is_fed_is_no_table a = not_anywhere 17 ((last_asks sevens blank image_fed a).0.first-rule refl).1
+what_is_fed_is_no_table a = not_anywhere 17 ((last_asks sevens blank image_fed a).0.first_rule refl).1
 
 -- Makes a reset, a raise and a lower among the bytes of a command and among its data: they feed nothing, and drop nothing.
 abbrev among_bytes : List Line
@@ -78,11 +78,11 @@ pub no_answer_but_finished_reports :
     × Forbids (unfinished answer.Store)
 unfolding computed
 no_answer_but_finished_reports = (
-  λ a. not_the_one 1 7 refl ((last_asks sevens blank (unfinished answer.Wait) a).0.read-rule refl),
-  λ a. not_the_one 1 7 refl ((last_asks sevens blank (unfinished (answer.Offer offer.Act)) a).0.read-rule refl),
-  λ a. not_the_one 1 7 refl ((last_asks sevens blank (unfinished (reads 17)) a).0.read-rule refl),
-  λ a. not_the_one 1 7 refl ((last_asks sevens blank (unfinished (writes 17)) a).0.read-rule refl),
-  λ a. not_the_one 1 7 refl ((last_asks sevens blank (unfinished answer.Store) a).0.read-rule refl),
+  λ a. not_the_one 1 7 refl ((last_asks sevens blank (unfinished answer.Wait) a).0.read_rule refl),
+  λ a. not_the_one 1 7 refl ((last_asks sevens blank (unfinished (answer.Offer offer.Act)) a).0.read_rule refl),
+  λ a. not_the_one 1 7 refl ((last_asks sevens blank (unfinished (reads 17)) a).0.read_rule refl),
+  λ a. not_the_one 1 7 refl ((last_asks sevens blank (unfinished (writes 17)) a).0.read_rule refl),
+  λ a. not_the_one 1 7 refl ((last_asks sevens blank (unfinished answer.Store) a).0.read_rule refl),
 )
 
 -- Resets after the offer of a write, with this answer, and lowers with 55.
@@ -97,11 +97,11 @@ pub no_answer_but_an_offer_offers :
     × Forbids (afterwards answer.Finished)
 unfolding computed
 no_answer_but_an_offer_offers = (
-  λ a. not_the_one 1 7 refl ((last_asks sevens blank (afterwards answer.Wait) a).0.read-rule refl),
-  λ a. not_the_one 1 7 refl ((last_asks sevens blank (afterwards (reads 17)) a).0.read-rule refl),
-  λ a. not_the_one 1 7 refl ((last_asks sevens blank (afterwards (writes 17)) a).0.read-rule refl),
-  λ a. not_the_one 1 7 refl ((last_asks sevens blank (afterwards answer.Store) a).0.read-rule refl),
-  λ a. not_the_one 1 7 refl ((last_asks sevens blank (afterwards answer.Finished) a).0.read-rule refl),
+  λ a. not_the_one 1 7 refl ((last_asks sevens blank (afterwards answer.Wait) a).0.read_rule refl),
+  λ a. not_the_one 1 7 refl ((last_asks sevens blank (afterwards (reads 17)) a).0.read_rule refl),
+  λ a. not_the_one 1 7 refl ((last_asks sevens blank (afterwards (writes 17)) a).0.read_rule refl),
+  λ a. not_the_one 1 7 refl ((last_asks sevens blank (afterwards answer.Store) a).0.read_rule refl),
+  λ a. not_the_one 1 7 refl ((last_asks sevens blank (afterwards answer.Finished) a).0.read_rule refl),
 )
 
 -- Brings an image after this answer. If a read of 4960 was asked for, the table is learnt anew, and the seven a candidate again.
@@ -116,11 +116,11 @@ pub no_answer_but_a_read_s_reads :
     × Forbids (relearns answer.Finished)
 unfolding computed
 no_answer_but_a_read_s_reads = (
-  λ a. not_the_one 7 1 refl ((last_asks sevens blank (relearns answer.Wait) a).0.read-rule refl),
-  λ a. not_the_one 7 1 refl ((last_asks sevens blank (relearns (answer.Offer offer.Act)) a).0.read-rule refl),
-  λ a. not_the_one 7 1 refl ((last_asks sevens blank (relearns (writes 4960)) a).0.read-rule refl),
-  λ a. not_the_one 7 1 refl ((last_asks sevens blank (relearns answer.Store) a).0.read-rule refl),
-  λ a. not_the_one 7 1 refl ((last_asks sevens blank (relearns answer.Finished) a).0.read-rule refl),
+  λ a. not_the_one 7 1 refl ((last_asks sevens blank (relearns answer.Wait) a).0.read_rule refl),
+  λ a. not_the_one 7 1 refl ((last_asks sevens blank (relearns (answer.Offer offer.Act)) a).0.read_rule refl),
+  λ a. not_the_one 7 1 refl ((last_asks sevens blank (relearns (writes 4960)) a).0.read_rule refl),
+  λ a. not_the_one 7 1 refl ((last_asks sevens blank (relearns answer.Store) a).0.read_rule refl),
+  λ a. not_the_one 7 1 refl ((last_asks sevens blank (relearns answer.Finished) a).0.read_rule refl),
 )
 
 -- Answers the lower that acts on a write with this, and fails it. After a write s its one is a candidate.
@@ -131,8 +131,8 @@ pub no_answer_but_a_write_s_writes :
     Forbids (fails answer.Wait) × Forbids (fails (answer.Offer offer.Act)) × Forbids (fails (reads 17)) × Forbids (fails answer.Store)
 unfolding computed
 no_answer_but_a_write_s_writes = (
-  λ a. not_the_one 1 7 refl ((last_asks sevens blank (fails answer.Wait) a).0.read-rule refl),
-  λ a. not_the_one 1 7 refl ((last_asks sevens blank (fails (answer.Offer offer.Act)) a).0.read-rule refl),
-  λ a. not_the_one 1 7 refl ((last_asks sevens blank (fails (reads 17)) a).0.read-rule refl),
-  λ a. not_the_one 1 7 refl ((last_asks sevens blank (fails answer.Store) a).0.read-rule refl),
+  λ a. not_the_one 1 7 refl ((last_asks sevens blank (fails answer.Wait) a).0.read_rule refl),
+  λ a. not_the_one 1 7 refl ((last_asks sevens blank (fails (answer.Offer offer.Act)) a).0.read_rule refl),
+  λ a. not_the_one 1 7 refl ((last_asks sevens blank (fails (reads 17)) a).0.read_rule refl),
+  λ a. not_the_one 1 7 refl ((last_asks sevens blank (fails answer.Store) a).0.read_rule refl),
 )

@@ -93,10 +93,10 @@ listed_other t b c s i n r =
 
 -- KILLING AN UNUSED SPARE MOVES NO BLOCK,
 pub killed_stays : (t : Table) (c : Block) → Shaped t → is_block c.0 ≡ true → t.nspares < 32 → sector_of (spare_list (killed_next t)) c ≡ sector_of (spare_list t) c
-killed_stays t c s i r = rw (killed_spares t s r) (snoc_stays (spare_list t) dead c (ne_eqb dead c.0 (λ q. clash-dead q)))
+killed_stays t c s i r = rw (killed_spares t s r) (snoc_stays (spare_list t) dead c (ne_eqb dead c.0 (λ q. clash_dead q)))
   where
-    clash-dead : dead ≡ c.0 → ⊥
-    clash-dead q = absurd (borrow.Author.Tests.eqb-false c.0 dead (block_live c.0 i) (sym q))
+    clash_dead : dead ≡ c.0 → ⊥
+    clash_dead q = absurd (borrow.Author.Tests.eqb-false c.0 dead (block_live c.0 i) (sym q))
 
 -- AND NEITHER DOES CHANGING THE BAD LIST.
 pub entered_stays : (t : Table) (b c : Block) → sector_of (spare_list (with_bad t b)) c ≡ sector_of (spare_list t) c

@@ -3,7 +3,7 @@ use borrow.Author.Tests.{eq-eqb, ne_eqb}
 use Rattle.image.specs.declared.Image.{Image}
 use Rattle.drive.specs.Calls.{Conversion, refusal_for}
 use Rattle.accesses.proofs.Answers.{is_formed}
-use Rattle.calls.proofs.Loads.{few-found, to-form-a, to-form-b, fault_found_lem, first_short, second_short, no_image_lem, other_form}
+use Rattle.calls.proofs.Loads.{few_found, to_form_a, to_form_b, fault_found_lem, first_short, second_short, no_image_lem, other_form}
 use borrow.Author.Rules.{rules}
 use Rattle.calls.proofs.convert.Goals as goal
 
@@ -25,7 +25,7 @@ write_table-requires c =
     let r = c.read_image-read in
     let f = c.in-Lists.is in
     let w = is_formed i _ _ (ap (λ (x : Image). x.found) r.ensures) f in
-    let n = few-found i r.result _ _ _ w r.ensures f in
+    let n = few_found i r.result _ _ _ w r.ensures f in
     (c.if-to-ne532.false, n.0, n.1)
 
 pub write_stored-requires : goal.write_stored-requires
@@ -34,7 +34,7 @@ write_stored-requires c =
     let r = c.read_image-read in
     let f = c.in-Lists.is in
     let w = is_formed i _ _ (ap (λ (x : Image). x.found) r.ensures) f in
-    let n = few-found i r.result _ _ _ w r.ensures f in
+    let n = few_found i r.result _ _ _ w r.ensures f in
     (c.if-to-ne532.false, n.0, n.1, search rules, search rules)
 
 pub returns-in-Malformed : goal.returns-in-Malformed
@@ -54,7 +54,7 @@ returns-then-is_form_b c =
     let w = is_formed i _ _ (ap (λ (x : Image). x.found) r.ensures) f in
     let e = sym (other_form i a.to.now (eq-eqb _ _ c.if-from-ne532.false) (eq-eqb _ _ c.if-to-ne532.false) w) in
     let b = sym c.is_form_b.ensures ∙ c.if-is_form_b.true in
-    (ap (λ (x : Conversion). x.answer) e, c.write_table.ensures ∙ to-form-a i r.result _ _ _ w r.ensures f b ∙ ap (λ (x : Conversion). x.bytes) e)
+    (ap (λ (x : Conversion). x.answer) e, c.write_table.ensures ∙ to_form_a i r.result _ _ _ w r.ensures f b ∙ ap (λ (x : Conversion). x.bytes) e)
 
 pub returns-else-is_form_b : goal.returns-else-is_form_b
 returns-else-is_form_b c =
@@ -65,4 +65,4 @@ returns-else-is_form_b c =
     let w = is_formed i _ _ (ap (λ (x : Image). x.found) r.ensures) f in
     let e = sym (other_form i a.to.now (eq-eqb _ _ c.if-from-ne532.false) (eq-eqb _ _ c.if-to-ne532.false) w) in
     let b = sym c.is_form_b.ensures ∙ c.if-is_form_b.false in
-    (ap (λ (x : Conversion). x.answer) e, c.write_stored.ensures ∙ to-form-b i r.result _ _ _ w r.ensures f b ∙ ap (λ (x : Conversion). x.bytes) e)
+    (ap (λ (x : Conversion). x.answer) e, c.write_stored.ensures ∙ to_form_b i r.result _ _ _ w r.ensures f b ∙ ap (λ (x : Conversion). x.bytes) e)

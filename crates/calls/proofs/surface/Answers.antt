@@ -1,6 +1,6 @@
 use lib.ListN.{length}
-use Rattle.calls.proofs.Guarded.{sound, surface-refused, surface-given}
-use Rattle.calls.proofs.Keeping.{no_spares, answered-formed}
+use Rattle.calls.proofs.Guarded.{sound, surface_refused, surface_given}
+use Rattle.calls.proofs.Keeping.{no_spares, answered_formed}
 use Rattle.drive.specs.Calls.{step_of, surface_of}
 use mathlib.Core.Path.{ap, ◌∙◌}
 use mathlib.Core.Bool.{Bool}
@@ -26,7 +26,7 @@ pub returns-in-Refuses : goal.returns-in-Refuses
 unfolding step_of surface_of
 returns-in-Refuses c =
     record {
-      gives = surface-refused _ _ c.guard-g.ensures _ _ c.in-Refuses.is c.refuse.ensures;
+      gives = surface_refused _ _ c.guard-g.ensures _ _ c.in-Refuses.is c.refuse.ensures;
       formed = rw c.refuse.ensures;
     }
 
@@ -38,6 +38,6 @@ returns-in-Passes c =
     let x = c.surface-x in
     let k = x.ensures ∙ ap (λ (q : Bool). answered a.l.phase a.l (lent [] a.n a.bads.now a.m) a.a a.bytes.now q) c.equal-same.ensures ∙ no_spares a.l.phase a.l a.spares.now a.bads.now a.n a.m a.a a.bytes.now _ in
     record {
-      gives = surface-given _ _ c.guard-g.ensures _ _ c.in-Passes.is k c.put.ensures;
-      formed = rw k (answered-formed a.bytes.now a.l.phase a.l t a.a _);
+      gives = surface_given _ _ c.guard-g.ensures _ _ c.in-Passes.is k c.put.ensures;
+      formed = rw k (answered_formed a.bytes.now a.l.phase a.l t a.a _);
     }

@@ -1,7 +1,7 @@
 use mathlib.Core.Path.{◌∙◌}
 use native.Mathlib.Omega.{arith}
 use borrow.Author.Tests.{eq-eqb, ne_eqb}
-use Rattle.crossing.proofs.Crossed.{left-where-refused, written-where-not, state-packed}
+use Rattle.crossing.proofs.Crossed.{left_where_refused, written_where_not, state_packed}
 use borrow.Author.Rules.{rules}
 use Rattle.crossing.proofs.keep.Goals as goal
 
@@ -11,5 +11,5 @@ returns c =
     let w = a.w.now in
     let e = c.reply_of-r.ensures in
     let k = c.slice_known-1.given in
-    let s = c.put_state.ensures ∙ state-packed w (search rules) (omega (arith, k 23)) (omega (arith, k 24)) a.x.state in
-    (e, s ∙ written-where-not a.x.answer e w _ (ne_eqb _ _ c.if-r-eq6.false))
+    let s = c.put_state.ensures ∙ state_packed w (search rules) (omega (arith, k 23)) (omega (arith, k 24)) a.x.state in
+    (e, s ∙ written_where_not a.x.answer e w _ (ne_eqb _ _ c.if-r-eq6.false))

@@ -8,7 +8,7 @@ use Rattle.calls.specs.declared.tables.Noted.{Noted}
 use Rattle.calls.specs.Gives.{notes_of, altered_of}
 use Rattle.packed.specs.Packing.{pack_state, unpack_of}
 use Rattle.crossing.specs.Crossing.{note_words}
-use Rattle.crossing.proofs.Crossed.{same-where-refused, written-where-not, state-packed, table_stays, both_packed}
+use Rattle.crossing.proofs.Crossed.{same_where_refused, written_where_not, state_packed, table_stays, both_packed}
 use borrow.Author.Rules.{rules}
 use Rattle.crossing.proofs.settle.Goals as goal
 
@@ -21,11 +21,11 @@ returns c =
     let k = c.slice_known-1.given in
     let e = c.keep-r.ensures in
     let n = ne_eqb _ _ c.if-r-eq6.false in
-    let s = e.1 ∙ sym (written-where-not a.x.answer e.0 w _ n) ∙ sym (state-packed w (search rules) (omega (arith, k 23)) (omega (arith, k 24)) l) in (
+    let s = e.1 ∙ sym (written_where_not a.x.answer e.0 w _ n) ∙ sym (state_packed w (search rules) (omega (arith, k 23)) (omega (arith, k 24)) l) in (
       e.0,
       c.alter.ensures
           ∙ ap (λ (v : List ℕ). take 23 v ++ note_words (altered_of a.x.change (notes_of (unpack_of v)) bs)) s
           ∙ ap (λ (k : Noted). take 23 (pack_state l ++ drop 23 w) ++ note_words (altered_of a.x.change k bs)) (table_stays w l)
           ∙ both_packed (drop 23 w) l (altered_of a.x.change (notes_of (unpack_of w)) bs)
-          ∙ written-where-not a.x.answer e.0 w _ n,
+          ∙ written_where_not a.x.answer e.0 w _ n,
     )

@@ -7,7 +7,7 @@ use Rattle.drive.specs.declared.Drive.{Drive}
 use Rattle.drive.specs.Calls.{start_of}
 use Rattle.calls.specs.Gives.{notes_of}
 use Rattle.crossing.specs.Crossing.{crossed, note_words}
-use Rattle.crossing.proofs.Crossed.{left-where-refused, written-where-not, shows, both_packed}
+use Rattle.crossing.proofs.Crossed.{left_where_refused, written_where_not, shows, both_packed}
 use borrow.Author.Rules.{rules}
 use Rattle.crossing.proofs.start.Goals as goal
 
@@ -21,5 +21,5 @@ returns c =
     let n = notes_of s.drive in
     let e = c.reply_of-r.ensures in
     let k = c.put_table.ensures ∙ ap (λ (v : List ℕ). take 23 v ++ note_words n) c.put_state.ensures ∙ both_packed (drop 23 w) l n in
-    shows w _ _ (start_of c.record_at.result.0 u) s _ c.start-step.ensures e (k ∙ written-where-not s.answer e w _ (ne_eqb _ _ c.if-r-eq6.false))
+    shows w _ _ (start_of c.record_at.result.0 u) s _ c.start-step.ensures e (k ∙ written_where_not s.answer e w _ (ne_eqb _ _ c.if-r-eq6.false))
     ∙ ap (λ (d : Drive). crossed w (start_of d u)) c.record_at.ensures

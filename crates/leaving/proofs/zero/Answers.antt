@@ -1,5 +1,5 @@
 use mathlib.Core.Path.{sym, ◌∙◌}
-use Rattle.leaving.proofs.Buffers.{none-zeroed, zeros_end}
+use Rattle.leaving.proofs.Buffers.{none_zeroed, zeros_end}
 use borrow.Author.Rules.{rules}
 use Rattle.leaving.proofs.zero.Goals as goal
 
