@@ -5,7 +5,8 @@ ghost use Rattle.std.specs.Prelude.{◌≡◌, ◌+◌, ◌*◌, ◌≤◌, leng
 ghost use Rattle.buffer.specs.Runs.{over};
 ghost use Rattle.print_parity.specs.Lines.{line, lines};
 
-use libc::STDOUT_FILENO;
+use std::io;
+use std::io::Write;
 
 // Writes the line of entry v where it belongs: behind those of the entries before it.
 fn put_line(out: &mut [u8], v: u8)
@@ -28,8 +29,8 @@ fn put_lines(out: &mut [u8])
     }
 }
 
-fn main() {
+fn main(rt: HostRuntime) -> io::Result<()> {
     let mut out = [0u8; 512];
     put_lines(&mut out);
-    io::write_all(STDOUT_FILENO, &out);
+    rt.stdout().write_all(&out)
 }

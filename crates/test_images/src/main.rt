@@ -3,7 +3,8 @@
 #![tactic(auto)]
 
 use image::Found;
-use libc::{STDIN_FILENO, STDOUT_FILENO};
+use std::io;
+use std::io::Read;
 use test_text::{Bytes, Fault, Kept};
 
 // Where in a line the reader is. Word: after so many letters of the word.
@@ -170,17 +171,17 @@ fn put_image(out: &mut [u8], at: usize, s: &[u8]) -> usize {
 }
 
 // Writes the first `at` bytes of the output.
-fn flush(out: &[u8], at: usize) {
-    io::write_all(STDOUT_FILENO, test_text::cut(out, at));
+fn flush(rt: &impl Print, out: &[u8], at: usize) -> io::Result<()> {
+    rt.write_all(test_text::cut(out, at))
 }
 
 // Makes room in the output for a line.
-fn make_room(out: &[u8], at: usize) -> usize {
+fn make_room(rt: &impl Print, out: &[u8], at: usize) -> io::Result<usize> {
     if at <= 32768 {
-        return at;
+        return Ok(at);
     }
-    flush(out, at);
-    0
+    flush(rt, out, at)?;
+    Ok(0)
 }
 
 // Returns the place after one more character, where k letters of the word are read.
@@ -285,26 +286,26 @@ impl State {
     }
 
     // Shows the image s, which the line brought.
-    fn show(self, s: &[u8], out: &mut [u8]) -> State {
-        let at = make_room(out, self.at);
-        self.next_line(put_image(out, at, s))
+    fn show(self, rt: &impl Print, s: &[u8], out: &mut [u8]) -> io::Result<State> {
+        let at = make_room(rt, out, self.at)?;
+        Ok(self.next_line(put_image(out, at, s)))
     }
 
-    fn end_line(self, bytes: &mut [u8], out: &mut [u8]) -> State {
+    fn end_line(self, rt: &impl Print, bytes: &mut [u8], out: &mut [u8]) -> io::Result<State> {
         let place = self.place;
         match place.end(bytes) {
-            Line::Skipped => self.next_line(self.at),
-            Line::Image(n) => self.show(test_text::cut(bytes, n), out),
-            Line::Wrong(fault) => self.with_place(Place::Wrong(fault)),
+            Line::Skipped => Ok(self.next_line(self.at)),
+            Line::Image(n) => self.show(rt, test_text::cut(bytes, n), out),
+            Line::Wrong(fault) => Ok(self.with_place(Place::Wrong(fault))),
         }
     }
 
-    fn step(self, ch: u8, bytes: &mut [u8], out: &mut [u8]) -> State {
+    fn step(self, rt: &impl Print, ch: u8, bytes: &mut [u8], out: &mut [u8]) -> io::Result<State> {
         if ch == b'\n' {
-            return self.end_line(bytes, out);
+            return self.end_line(rt, bytes, out);
         }
         let place = self.place;
-        self.with_place(place.step(ch, bytes))
+        Ok(self.with_place(place.step(ch, bytes)))
     }
 
     fn goes_on(self) -> bool {
@@ -313,52 +314,59 @@ impl State {
     }
 }
 
-fn read_part(st: State, part: &[u8], bytes: &mut [u8], out: &mut [u8]) -> State {
+fn read_part(
+    rt: &impl Print,
+    st: State,
+    part: &[u8],
+    bytes: &mut [u8],
+    out: &mut [u8],
+) -> io::Result<State> {
     let mut now = st;
-    let mut i = 0;
-    while i < part.len() {
-        now = now.step(part[i], bytes, out);
-        i += 1;
+    for ch in part {
+        now = now.step(rt, *ch, bytes, out)?;
     }
-    now
+    Ok(now)
 }
 
 // Reads the whole input. The count of turns lets the loop end for the prover. No run uses it up.
-fn read_all(input: &mut [u8], bytes: &mut [u8], out: &mut [u8]) -> State {
+fn read_all(
+    rt: &impl Print,
+    from: &mut impl Read,
+    input: &mut [u8],
+    bytes: &mut [u8],
+    out: &mut [u8],
+) -> io::Result<State> {
     let mut st = State::new();
-    let mut turns = u64::MAX;
-    while turns > 0 {
-        let got = libc::read(STDIN_FILENO, input);
-        let n = io::count(got, input);
+    for _ in 0..u64::MAX {
+        let n = from.read(input)?;
         if n == 0 {
-            return st;
+            return Ok(st);
         }
-        st = read_part(st, &input[..n], bytes, out);
+        st = read_part(rt, st, &input[..n], bytes, out)?;
         if !st.goes_on() {
-            return st;
+            return Ok(st);
         }
-        turns -= 1;
     }
-    st
+    Ok(st)
 }
 
 // Writes what is left, and the error if there is one.
-fn finish(st: State, out: &mut [u8]) {
+fn finish(rt: &impl Print, st: State, out: &mut [u8]) -> io::Result<()> {
     let place = st.place;
-    let at = make_room(out, st.at);
+    let at = make_room(rt, out, st.at)?;
     if let Place::Wrong(fault) = place {
         let end = test_text::put_error(out, at, st.line, fault, b"a line is read and its bytes");
-        flush(out, end);
-        return;
+        return flush(rt, out, end);
     }
-    flush(out, at);
+    flush(rt, out, at)
 }
 
-fn main() {
-    let mut input = io::large_buffer();
-    let mut bytes = io::buffer();
-    let mut out = io::large_buffer();
-    let st = read_all(&mut input, &mut bytes, &mut out);
+fn main(rt: HostRuntime) -> io::Result<()> {
+    let mut input = [0u8; 65536];
+    let mut bytes = [0u8; 4096];
+    let mut out = [0u8; 65536];
+    let st = read_all(&rt, &mut rt.stdin(), &mut input, &mut bytes, &mut out)?;
     // The last line may end with the input.
-    finish(st.end_line(&mut bytes, &mut out), &mut out);
+    let last = st.end_line(&rt, &mut bytes, &mut out)?;
+    finish(&rt, last, &mut out)
 }

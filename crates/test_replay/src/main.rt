@@ -5,8 +5,9 @@
 mod player;
 
 use drive::Drive;
-use libc::{STDIN_FILENO, STDOUT_FILENO};
 use player::{Brought, Buffer, Numbers, Page};
+use std::io;
+use std::io::Read;
 use test_script::{Line, Place};
 
 // The line's number, what was read of it, and how much of the output is not written yet.
@@ -25,17 +26,17 @@ struct Run {
 }
 
 // Writes the first `at` bytes of the output.
-fn flush(out: &[u8], at: usize) {
-    io::write_all(STDOUT_FILENO, test_text::cut(out, at));
+fn flush(rt: &impl Print, out: &[u8], at: usize) -> io::Result<()> {
+    rt.write_all(test_text::cut(out, at))
 }
 
 // Makes room in the output for a line, which has less than 100 characters.
-fn make_room(out: &[u8], at: usize) -> usize {
+fn make_room(rt: &impl Print, out: &[u8], at: usize) -> io::Result<usize> {
     if at <= 65000 {
-        return at;
+        return Ok(at);
     }
-    flush(out, at);
-    0
+    flush(rt, out, at)?;
+    Ok(0)
 }
 
 // Returns the number of the next line.
@@ -95,25 +96,27 @@ impl State {
 
 // Ends a line, and makes its call if it is one.
 fn end_line(
+    rt: &impl Print,
     d: Drive,
     st: State,
     numbers: &mut Numbers,
     bytes: &mut Brought,
     buf: &mut Buffer,
     out: &mut Page,
-) -> Run {
+) -> io::Result<Run> {
     let line = test_script::end(st.line, numbers, bytes);
-    let at = make_room(out, st.at);
+    let at = make_room(rt, out, st.at)?;
     let made = player::run_line(d, line, numbers, bytes, buf, out, at);
     let next = made.drive;
-    Run {
+    Ok(Run {
         drive: next,
         state: st.after(line, made.at),
-    }
+    })
 }
 
 // Reads the characters of a part, which begins and ends anywhere in a line.
 fn read_part(
+    rt: &impl Print,
     drive: Drive,
     state: State,
     part: &[u8],
@@ -121,73 +124,85 @@ fn read_part(
     bytes: &mut Brought,
     buf: &mut Buffer,
     out: &mut Page,
-) -> Run {
+) -> io::Result<Run> {
     let mut d = drive;
     let mut st = state;
-    let mut i = 0;
-    while i < part.len() {
-        if part[i] == b'\n' {
-            let ended = end_line(d, st, numbers, bytes, buf, out);
+    for ch in part {
+        if *ch == b'\n' {
+            let ended = end_line(rt, d, st, numbers, bytes, buf, out)?;
             d = ended.drive;
             st = ended.state;
         } else {
-            st = st.step(part[i], numbers, bytes);
+            st = st.step(*ch, numbers, bytes);
         }
-        i += 1;
     }
-    Run {
+    Ok(Run {
         drive: d,
         state: st,
-    }
+    })
 }
 
 // Reads the whole input. The last line may end with it. The count of turns lets the loop end for the prover; no run uses it
 // up.
 fn read_all(
+    rt: &impl Print,
+    from: &mut impl Read,
     input: &mut Page,
     numbers: &mut Numbers,
     bytes: &mut Brought,
     buf: &mut Buffer,
     out: &mut Page,
-) -> State {
+) -> io::Result<State> {
     let mut d = player::never_started();
     let mut st = State::new();
-    let mut turns = u64::MAX;
-    while turns > 0 {
-        let got = libc::read(STDIN_FILENO, input);
-        let n = io::count(got, input);
-        let run = read_part(d, st, test_text::cut(input, n), numbers, bytes, buf, out);
+    for _ in 0..u64::MAX {
+        let n = from.read(input)?;
+        let run = read_part(
+            rt,
+            d,
+            st,
+            test_text::cut(input, n),
+            numbers,
+            bytes,
+            buf,
+            out,
+        )?;
         d = run.drive;
         st = run.state;
-        turns = if (n == 0) | !st.goes_on() {
-            0
-        } else {
-            turns - 1
-        };
+        if (n == 0) | !st.goes_on() {
+            break;
+        }
     }
-    let last = end_line(d, st, numbers, bytes, buf, out);
-    last.state
+    let last = end_line(rt, d, st, numbers, bytes, buf, out)?;
+    Ok(last.state)
 }
 
 // Writes what is left, and the error if there is one.
-fn finish(st: State, out: &mut Page) {
+fn finish(rt: &impl Print, st: State, out: &mut Page) -> io::Result<()> {
     let line = st.line;
     let place = line.place;
-    let at = make_room(out, st.at);
+    let at = make_room(rt, out, st.at)?;
     if let Place::Wrong(fault) = place {
         let end = test_text::put_error(out, at, st.number, fault, b"no such call");
-        flush(out, end);
-        return;
+        return flush(rt, out, end);
     }
-    flush(out, at);
+    flush(rt, out, at)
 }
 
-fn main() {
-    let mut input = io::large_buffer();
+fn main(rt: HostRuntime) -> io::Result<()> {
+    let mut input = [0u8; 65536];
     let mut numbers = [0u32; 1];
-    let mut bytes = io::buffer();
+    let mut bytes = [0u8; 4096];
     let mut buf = [0u8; 536];
-    let mut out = io::large_buffer();
-    let st = read_all(&mut input, &mut numbers, &mut bytes, &mut buf, &mut out);
-    finish(st, &mut out);
+    let mut out = [0u8; 65536];
+    let st = read_all(
+        &rt,
+        &mut rt.stdin(),
+        &mut input,
+        &mut numbers,
+        &mut bytes,
+        &mut buf,
+        &mut out,
+    )?;
+    finish(&rt, st, &mut out)
 }

@@ -95,7 +95,8 @@ fn edits_are_proved(checkout: &Checkout) {
     assert!(checkout.proves_once(), "an edit with an old time");
 
     checkout.append(SOURCE);
-    let late = format!("[ -e \"$room/late\" ] || echo >>{SOURCE}\n: >\"$room/late\"\n");
+    let late =
+        format!("[ -e \"$room/late\" ] || echo >>\"$room/checkout/{SOURCE}\"\n: >\"$room/late\"\n");
     checkout.stand_in("path/rt", &[PROVER, &late].concat());
     assert!(checkout.proves(), "an edit");
     assert!(checkout.proves_once(), "another edit during the proof");

@@ -5,39 +5,40 @@ mod common;
 
 use std::fs;
 use std::io::{BufRead, BufReader};
+use std::os::unix::fs::symlink;
 use std::process::{Command, Stdio};
 
 use common::checkout::Checkout;
 
 /// Lists four crates of the library, and one that it does not depend on.
 const CRATES: &str = "logic:\ngeometry:\nboard: geometry\nbuffer: logic # bytes\n\
-                      bumivondra: logic buffer geometry\n";
+                      bumivondra staticlib: logic buffer geometry\n";
 
-/// Begins a stand-in for the prover, which tells of a crate after notes about it.
+/// Begins a stand-in for the prover, which tells of a crate before notes about it.
 const BEGIN: &str = r#"
 if [ "$*" = version ]; then echo kit; exit; fi
-[ "$*" = "staticlib bumivondra" ] || exit 9
+[ "$*" = lib ] || exit 9
 crate() {
+    echo "rt: chose --jobs 2 for $1"
     echo "note: $1 is looked at"
-    echo "rt: $1 $2" >&2
+    echo "logic=$2"
 }
 library() {
-    echo "fn bumivondra::start: proved"
-    mkdir -p target/staticlib
-    date >target/staticlib/libbumivondra.a
-    echo "rt: target/staticlib/libbumivondra.a has the functions"
+    crate bumivondra 'proved functions=9'
+    mkdir -p out
+    echo archive >out/libbumivondra.a
 }
 "#;
 
 /// Tells of crates that are proved one after another.
-const GOES_WELL: &str = "crate logic 'proved (3 s)'\ncrate geometry 'proved (1 s)'\n\
-                         crate buffer 'proved (2 s)'\nlibrary\n";
+const GOES_WELL: &str = "crate logic 'proved functions=3'\ncrate buffer 'proved functions=2'\n\
+                         crate geometry 'proved functions=1'\nlibrary\n";
 
 /// Says what is shown on the way.
 const SHOWN: [&str; 4] = [
     "proving 1 of 4: logic",
-    "proving 2 of 4: geometry",
-    "proving 3 of 4: buffer",
+    "proving 2 of 4: buffer",
+    "proving 3 of 4: geometry",
     "proving 4 of 4: bumivondra",
 ];
 
@@ -74,8 +75,8 @@ fn on_a_pipe_each_crate_has_a_line_and_notes_are_kept() {
     );
     assert!(!message.contains(['\r', '\x1b']), "{message:?}");
     let log = log(&checkout);
-    assert_eq!(log.lines().count(), 8, "{log}");
-    assert!(log.contains("note: geometry is looked at\nrt: geometry proved (1 s)\n"));
+    assert_eq!(log.lines().count(), 12, "{log}");
+    assert!(log.contains("note: geometry is looked at\nlogic=proved functions=1\n"));
     // What was proved is not proved again, and nothing is said.
     let again = checkout.run_script("tools/library", &[]);
     assert_eq!(again, (Some(0), String::new(), String::new()));
@@ -83,29 +84,27 @@ fn on_a_pipe_each_crate_has_a_line_and_notes_are_kept() {
 
 #[test]
 fn crates_that_were_proved_before_count() {
-    let before = "'proved (unchanged since it was last proved)'";
-    let lines = format!(
-        "crate logic {before}\ncrate geometry {before}\ncrate io 'proved (9 s)'\n\
-         crate buffer 'proved (2 s)'\nlibrary\ncrate bumivondra 'proved (5 s)'\n"
-    );
-    let checkout = checkout("proving-before", &lines);
+    // Of such a crate nothing is told, or that its checks begin with what was kept.
+    let lines = "echo 'rt: buffer: begins with what a check kept in elsewhere'\n\
+                 crate io 'proved functions=9'\ncrate geometry 'proved functions=1'\nlibrary\n";
+    let checkout = checkout("proving-before", lines);
     let (status, out, message) = checkout.run(&["week"]);
     assert_eq!((status, out.as_str()), (Some(0), "ran week\n"), "{message}");
-    assert_eq!(parted(&message).0, SHOWN);
+    assert_eq!(parted(&message).0, SHOWN[2..]);
 }
 
 #[test]
 fn a_prover_of_another_order_is_followed() {
-    let lines = "crate geometry 'proved (1 s)'\ncrate logic 'proved (1 s)'\nlibrary\n";
+    let lines = "crate geometry 'proved functions=1'\ncrate logic 'proved functions=3'\nlibrary\n";
     let checkout = checkout("proving-order", lines);
     let (_, _, message) = checkout.run_script("tools/library", &[]);
-    let shown = ["proving 1 of 4: logic", "proving 3 of 4: buffer"];
+    let shown = [SHOWN[2], SHOWN[0], SHOWN[3]];
     assert_eq!(parted(&message).0, shown);
 }
 
 #[test]
 fn a_crate_is_shown_while_it_is_proved() {
-    let waits = "crate logic 'proved (3 s)'\n\
+    let waits = "crate logic 'proved functions=3'\necho 'rt: chose --jobs 2 for buffer'\n\
                  for n in $(seq 500); do [ -e \"$room/go\" ] || sleep 0.02; done\nlibrary\n";
     let checkout = checkout("proving-now", waits);
     let mut child = checkout
@@ -119,33 +118,44 @@ fn a_crate_is_shown_while_it_is_proved() {
     // The prover is at it still.
     assert!(child.try_wait().expect("a state").is_none());
     fs::write(checkout.room.join("go"), "").expect("written");
-    assert_eq!(lines.count(), 0);
+    assert_eq!(lines.collect::<Vec<_>>(), SHOWN[3..]);
     assert!(child.wait().expect("its end").success());
 }
 
-/// Compiles by the clang of the kit that it is told of, as the kit's prover does.
+/// Compiles by the clang of the kit that it is part of, as the kit's prover does.
 const COMPILES: &str = r#"
-if [ "$*" = doc ]; then echo "$room/home/doc/guide"; exit; fi
-[ "$*" = version ] || "$RATTLE_HOME/on/$(uname -m)/toolchain/bin/clang" -O1 crates.txt.bc
+if [ "$*" = doc ]; then echo "$room/home/START-HERE.md"; exit; fi
+kit=$(dirname "$(dirname "$(readlink -f "$0")")")
+[ "$*" = version ] || "$kit/toolchain/bin/clang" -O1 ../../crates.txt.bc
 "#;
 
 #[test]
-fn the_module_is_kept_of_the_run_that_is_followed() {
+fn the_module_is_kept_of_a_kit_that_is_known() {
     let checkout = checkout("proving-module", GOES_WELL);
-    checkout.stand_in("path/rt", &[COMPILES, BEGIN, GOES_WELL].concat());
+    for folder in ["home/bin", "home/toolchain/bin", "home/rlibs"] {
+        fs::create_dir_all(checkout.room.join(folder)).expect("a folder");
+    }
+    fs::remove_file(checkout.room.join("path/rt")).expect("removed");
+    checkout.stand_in("home/bin/rt", &[COMPILES, BEGIN, GOES_WELL].concat());
+    symlink(
+        checkout.room.join("home/bin/rt"),
+        checkout.room.join("path/rt"),
+    )
+    .expect("a link");
+    fs::write(checkout.room.join("home/bin/rtlib.py"), "").expect("written");
+    checkout.stand_in("home/toolchain/bin/clang", "echo \"compiled $*\"\n");
     fs::write(checkout.file("crates.txt.bc"), "a module").expect("written");
-    let machine = Command::new("uname").arg("-m").output().expect("a name");
-    let machine = String::from_utf8(machine.stdout).expect("text");
-    let folder = format!("home/on/{}/toolchain/bin", machine.trim());
-    fs::create_dir_all(checkout.room.join(&folder)).expect("a folder");
-    checkout.stand_in(&format!("{folder}/clang"), "echo \"compiled $*\"\n");
     let (status, _, message) = checkout.run_script("tools/library", &[]);
     assert_eq!(status, Some(0), "{message}");
     assert_eq!(parted(&message).0, SHOWN);
     let read = |name: &str| fs::read_to_string(checkout.file(name)).expect("a file");
     assert_eq!(read("target/module/module.bc"), "a module");
-    assert_eq!(read("target/module/words"), "-O1\ncrates.txt.bc\n");
-    assert!(read("target/library.log").contains("compiled -O1 crates.txt.bc\n"));
+    assert_eq!(read("target/module/words"), "-O1\n../../crates.txt.bc\n");
+    // It is built twice: by the kit, and by one whose compiler keeps the module.
+    assert_eq!(
+        read("target/library.log").matches("compiled -O1").count(),
+        2
+    );
     assert!(!checkout.file("target/module/kit").exists());
     assert!(read("target/staticlib/libbumivondra.sum").contains("target/module/module.bc"));
 }
@@ -184,30 +194,22 @@ fn on_a_terminal_a_line_is_rewritten() {
     );
 }
 
-/// Fails at a crate, and goes on with others as the kit's prover does.
-const FAILS: &str = "crate logic 'proved (3 s)'\n\
-                     for n in $(seq 50); do echo \"error $n of geometry\"; done\n\
-                     crate geometry 'NOT PROVED (exit 1, 7 s)'\n\
-                     for n in $(seq 60); do echo \"note $n of buffer\"; done\n\
-                     crate buffer 'proved (2 s)'\n\
-                     echo 'rt: FAILED: geometry'\nexit 2\n";
+/// Fails at a crate, and then looks at the library without a proof as the kit's prover does.
+const FAILS: &str = "crate logic 'proved functions=3'\necho 'rt: chose --jobs 2 for buffer'\n\
+                     for n in $(seq 50); do echo \"error $n of buffer\"; done\n\
+                     echo logic=not-proved\n\
+                     for n in $(seq 60); do echo \"note $n of bumivondra\"; done\n\
+                     echo only=0 proved=0\n\
+                     echo 'rt: the library buffer did not build'\nexit 2\n";
 
 /// Says what is seen of its log: the crate that failed and the end, forty lines of each.
 fn part_of_failure() -> Vec<String> {
-    let crate_lines = |name: &str, end: &str| {
-        [
-            format!("note: {name} is looked at"),
-            format!("rt: {name} {end}"),
-        ]
-    };
-    let errors = (13..=50).map(|n| format!("error {n} of geometry"));
-    let notes = (24..=60).map(|n| format!("note {n} of buffer"));
+    let errors = (12..=50).map(|n| format!("error {n} of buffer"));
+    let notes = (23..=60).map(|n| format!("note {n} of bumivondra"));
     errors
-        .chain(crate_lines("geometry", "NOT PROVED (exit 1, 7 s)"))
-        .chain([String::from("...")])
+        .chain(["logic=not-proved", "..."].map(String::from))
         .chain(notes)
-        .chain(crate_lines("buffer", "proved (2 s)"))
-        .chain([String::from("rt: FAILED: geometry")])
+        .chain(["only=0 proved=0", "rt: the library buffer did not build"].map(String::from))
         .collect()
 }
 
@@ -217,9 +219,9 @@ fn a_failure_shows_the_end_of_the_log_and_keeps_the_status() {
     let (status, out, message) = checkout.run_script("tools/library", &[]);
     assert_eq!((status, out.as_str()), (Some(2), ""), "{message}");
     let (shown, rest) = parted(&message);
-    assert_eq!(shown, SHOWN);
-    let why = "tools/library: the library is not built, since rt staticlib bumivondra ended with \
-               status 2. It said last:";
+    assert_eq!(shown, SHOWN[..2]);
+    let why = "tools/library: the library is not built, since rt lib ended with status 2. It said \
+               last:";
     let at = rest.iter().position(|line| *line == why).expect("a reason");
     let (last, part) = rest[at + 1..].split_last().expect("lines");
     assert_eq!(part, part_of_failure());
@@ -229,7 +231,7 @@ fn a_failure_shows_the_end_of_the_log_and_keeps_the_status() {
     );
     let log = log(&checkout);
     assert_eq!(log.lines().count(), 117);
-    assert!(log.contains("\nerror 1 of geometry\n") && log.contains("\nnote 1 of buffer\n"));
+    assert!(log.contains("\nerror 1 of buffer\n") && log.contains("\nnote 1 of bumivondra\n"));
     assert!(!checkout.file("target/staticlib/libbumivondra.sum").exists());
 
     let (status, _, message) = checkout.run(&["week"]);
@@ -247,11 +249,12 @@ fn a_failure_shows_the_end_of_the_log_and_keeps_the_status() {
 
 #[test]
 fn a_short_failure_is_shown_once_and_whole() {
-    let lines = "crate logic 'NOT PROVED (exit 1, 7 s)'\nexit 1\n";
+    let lines = "crate logic not-proved\nexit 1\n";
     let checkout = checkout("proving-short", lines);
     let (status, _, message) = checkout.run_script("tools/library", &[]);
     assert_eq!(status, Some(1));
-    let end = "It said last:\nnote: logic is looked at\nrt: logic NOT PROVED (exit 1, 7 s)\n\
-               tools/library: all of it, 2 lines, is in target/library.log\n";
+    let end = "It said last:\nrt: chose --jobs 2 for logic\nnote: logic is looked at\n\
+               logic=not-proved\n\
+               tools/library: all of it, 3 lines, is in target/library.log\n";
     assert!(message.ends_with(end), "{message}");
 }

@@ -406,9 +406,9 @@ fn what_is_not_there_is_noticed() {
     let document = spec();
     for (right, other, says) in [
         (
-            "`geometry/Geometry: isBlock`",
-            "`geometry/Geometry: isBlok`",
-            "isBlok",
+            "`geometry/Geometry: is_block`",
+            "`geometry/Geometry: is_blok`",
+            "is_blok",
         ),
         ("`geometry/src: Block`", "`geometry/src: Blok`", "Blok"),
         ("`geometry: is_block`", "`geometry: is_blok`", "is_blok"),
@@ -422,15 +422,15 @@ fn what_is_not_there_is_noticed() {
             "`reading::retrys: after_read`",
             "retrys",
         ),
-        ("`Demand1: demand-1`", "`Demand1: demand-4`", "demand-4"),
+        ("`Demand1: demand_1`", "`Demand1: demand_4`", "demand_4"),
         (
             "`geometry: block_9728`",
             "`geometry: block_9729`",
             "block_9729",
         ),
         (
-            "Sparing: hasUnused: a 33rd spare",
-            "Sparing: hasUnused: a 34th spare",
+            "Sparing: has_unused: a 33rd spare",
+            "Sparing: has_unused: a 34th spare",
             "34th",
         ),
         ("`scripts: bad-list`", "`scripts: bad-lst`", "bad-lst"),
@@ -441,9 +441,9 @@ fn what_is_not_there_is_noticed() {
             "verified",
         ),
         (
-            "`runs/Shown: the-table-shown`",
-            "`runs/Shown: the-table`",
-            "the-table",
+            "`runs/Shown: the_table_shown`",
+            "`runs/Shown: the_table`",
+            "the_table",
         ),
         // Functions, readings and edits that are there, and are another rule's.
         (
@@ -452,7 +452,7 @@ fn what_is_not_there_is_noticed() {
             "is_block, of another rule",
         ),
         (
-            "Sparing: hasUnused: a 33rd spare",
+            "Sparing: has_unused: a 33rd spare",
             "Sparing: missed: a spare gets two trials",
             "two trials, of another rule",
         ),
@@ -496,24 +496,24 @@ fn what_has_another_form_is_noticed() {
             "1.3: no known form",
         ),
         (
-            "tested `drive/Codes: code-1`, ",
-            "tested `Codes: code-1`, ",
-            "Codes: code-1",
+            "tested `drive/Codes: code_1`, ",
+            "tested `Codes: code_1`, ",
+            "Codes: code_1",
         ),
         (
-            "<sub>defined `geometry/Geometry: homeOf` · ",
+            "<sub>defined `geometry/Geometry: home_of` · ",
             "<sub>",
             "1.3: nothing defined",
         ),
-        ("**1.3 Homes.**", "**1.3 Homes, `homeOf`.**", "1.3: a name"),
+        ("**1.3 Homes.**", "**1.3 Homes, `home_of`.**", "1.3: a name"),
         (
             "Converting: ConvertsEither",
             "Calls: ConvertsEither",
             "\"Converting.antt\"",
         ),
         (
-            "<sub>defined `geometry/Geometry: homeOf`",
-            "defined `geometry/Geometry: homeOf`",
+            "<sub>defined `geometry/Geometry: home_of`",
+            "defined `geometry/Geometry: home_of`",
             "1.3: 0 lines",
         ),
     ] {

@@ -14,7 +14,7 @@ fn copy(from: &Path, to: &Path) {
     for entry in fs::read_dir(from).expect("a folder") {
         let entry = entry.expect("an entry");
         let (name, path) = (entry.file_name(), entry.path());
-        if ["target", ".git", "scripts"]
+        if ["target", "out", ".git", "scripts"]
             .iter()
             .any(|left| name == *left)
         {
@@ -36,12 +36,12 @@ pub struct Checkout {
 /// Stands in for the prover: makes a library, unless there is a file `wrong` or `empty`.
 pub const PROVER: &str = r#"
 if [ "$*" = version ]; then cat "$room/kit"; exit; fi
-[ "$*" = "staticlib bumivondra" ] && [ "$PWD" = "$room/checkout" ] || exit 9
+[ "$*" = lib ] && [ "$PWD" = "$room/checkout/crates/bumivondra" ] || exit 9
 echo proved >>"$room/proofs"
 [ ! -e "$room/wrong" ] || exit 1
 [ ! -e "$room/empty" ] || exit 0
-mkdir -p target/staticlib
-cp "$room/proofs" target/staticlib/libbumivondra.a
+mkdir -p out
+cp "$room/proofs" out/libbumivondra.a
 "#;
 
 /// Stands in for cargo: with the library's sum there must be no other folder of it.
