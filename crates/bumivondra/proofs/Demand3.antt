@@ -1,6 +1,6 @@
 -- DEMAND 3 FOR C follows from demand 3: packing loses nothing, and a reply says which answer it is.
 use mathlib.Core.Path.{◌≡◌, refl, sym, ap, subst, ◌∙◌}
-use mathlib.Core.Bool.{Bool, true, false, cond}
+use mathlib.Core.Bool.{true}
 use mathlib.Core.List.{List, [], ◌∷◌}
 use native.Mathlib.Omega.{arith}
 use Prim.Native.Nat.{ℕ}
@@ -20,14 +20,13 @@ use Rattle.drive.specs.Views.{Bytes, of_answer}
 use Rattle.drive.specs.Values.{Typed, TypedCall}
 use Rattle.drive.specs.Calls.{step_of, start_of}
 use Rattle.drive.specs.Calls as calls
-use Rattle.drive.specs.History.{Sectors, Line, blank, Allows}
-use Rattle.drive.specs.Surface.{Fate}
+use Rattle.drive.specs.History.{Line, blank, Allows}
 use Rattle.drive.specs.Run.{Event, Moment, World, after, Permits, line_of, made, Lawful, lines, begins}
 use Rattle.drive.specs.Run as run
 use Rattle.packed.specs.Packing.{pack_of, unpack_of}
 use Rattle.packed.proofs.Round.{unpacked}
 use Rattle.crossing.specs.Crossing.{Shown, shown, reply_of, kept, crossed, start_shown}
-use Rattle.bumivondra.specs.Demand3.{Board, answer_of, world_of, Occasion, call, power, moment_of, shown_at, out_of, words_after, board_after, LawfulCalls, lines_of, started, TypedCalls, Demand3Calls}
+use Rattle.bumivondra.specs.Demand3.{Board, answer_of, world_of, Occasion, call, power, moment_of, shown_at, out_of, words_after, LawfulCalls, lines_of, started, TypedCalls, Demand3Calls}
 use Rattle.demands.proofs.Valid.{fine_typed, step_valid, step_typed, started_fine, started_valid}
 use Rattle.demands.proofs.Refusals.{refused_unchanged}
 use Rattle.demands.proofs.Demand3.{demand_3}

@@ -1,6 +1,6 @@
 -- DEMAND 3 FOR C: every list of the library's own calls from bv_start on, further bv_start among them. Each call gets the words and
 -- the buffer that the last one left, each bv_start any words and buffer, and the surface does what its rules permit.
-use Rattle.std.specs.Prelude.{◌≡◌, Bool, true, false, cond, List, [], ◌∷◌, ℕ, eqb, length}
+use Rattle.std.specs.Prelude.{◌≡◌, cond, List, [], ◌∷◌, ℕ, eqb, length}
 use Rattle.drive.specs.declared.Answer.{Answer}
 use Rattle.drive.specs.declared.Answer.TheVariants as answer
 use Rattle.drive.specs.declared.Offer.{Offer}

@@ -1,6 +1,6 @@
 -- What the image reader finds makes the table of the image, its causes, and the image in the other form.
 use mathlib.Core.Path.{◌≡◌, sym, ap, ◌∙◌}
-use mathlib.Core.Bool.{true, false, ◌&&◌}
+use mathlib.Core.Bool.{true, false}
 use mathlib.Core.List.{List}
 use Prim.Native.Nat.{ℕ, ◌≤◌}
 use lib.Dec.{eqb}
@@ -13,7 +13,7 @@ use Rattle.image.specs.declared.Found.TheVariants as found
 use Rattle.image.specs.declared.Image.{Image}
 use Rattle.image.specs.FormA.{image_a}
 use Rattle.image.specs.FormB.{image_b, has_magic}
-use Rattle.image.specs.Images.{well_formed, fault_of, table_of, run_of, causes_of, nothing, holding, read_of, converted}
+use Rattle.image.specs.Images.{well_formed, fault_of, table_of, run_of, causes_of, holding, read_of, converted}
 use Rattle.image.proofs.RoundTrip.{read_ok}
 use Rattle.drive.specs.declared.Answer.TheVariants as answer
 use Rattle.drive.specs.declared.Refusal.TheVariants as refusal

@@ -1,5 +1,5 @@
 -- The calls as C sees them: over a record's words, with the answer as two numbers.
-use Rattle.std.specs.Prelude.{Bool, true, false, cond, ◌≡◌, List, ◌++◌, ℕ}
+use Rattle.std.specs.Prelude.{cond, ◌≡◌, List, ◌++◌, ℕ}
 use Rattle.drive.specs.declared.Turn.{Turn}
 use Rattle.drive.specs.declared.Answer.{Answer}
 use Rattle.drive.specs.declared.Answer.TheVariants as answer

@@ -23,8 +23,8 @@ use Rattle.drive.specs.declared.Answer.TheVariants as answer
 use Rattle.drive.specs.declared.Ending.{Ending}
 use Rattle.drive.specs.declared.Ending.TheVariants as ending
 use Rattle.drive.specs.declared.Change.TheVariants as change
-use Rattle.drive.specs.Words.{response, data_of, number_of, kind_of, block_of, is_read, order_of, fails, latches}
-use Rattle.drive.specs.Results.{part_left, status_left, out_of, ended, clean, report, ends, asks_store, stores, wants_store, finish}
+use Rattle.drive.specs.Words.{response, data_of, number_of, kind_of, block_of, is_read, order_of, fails}
+use Rattle.drive.specs.Results.{part_left, status_left, out_of, ended, clean, report, ends, asks_store, wants_store, finish}
 use Rattle.drive.specs.Handshake.{first_read, first_write, first_trial, acted}
 use Rattle.drive.specs.Calls.{lower}
 use Rattle.drive.specs.History.{Sectors, Entry, History, padded, next, heard, learns, acts, underway, touches, touches_first, reports, moves, good, has_written}

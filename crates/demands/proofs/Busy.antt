@@ -9,7 +9,6 @@ use lib.ListN.{length}
 use borrow.Author.Tests.{ltb-true, lt-ltb}
 use Rattle.geometry.specs.Geometry.{is_block, spare_of}
 use Rattle.geometry.specs.declared.Block.{Block}
-use Rattle.geometry.specs.declared.Sector.{Sector}
 use Rattle.logic.proofs.Bools.{clash, and_true}
 use Rattle.table.specs.declared.Table.{Table}
 use Rattle.table.specs.Tables.{table_ok, killed_next, listed, with_bad, without_bad}
@@ -43,7 +42,7 @@ use Rattle.drive.specs.Results.{part_left, status_left, changed, out_of, in_phas
 use Rattle.drive.specs.Sparing.{begin, on_spare}
 use Rattle.drive.specs.Access.{reads}
 use Rattle.drive.specs.Calls.{surface}
-use Rattle.drive.specs.History.{held, Sectors, Entry, History, In, put, padded, is_table_sector, next, heard, learns, acts, underway, touches, touches_first, reports, has_written, bytes_of, order, Apart}
+use Rattle.drive.specs.History.{held, Sectors, Entry, History, In, put, padded, is_table_sector, next, heard, learns, acts, underway, touches, touches_first, reports, has_written, bytes_of, Apart}
 use Rattle.drive.specs.Surface.{target, sent, landed, Brings}
 use Rattle.drive.specs.Run.{Event}
 use Rattle.drive.specs.Views.{Bytes, Where, at, of_answer}

@@ -7,7 +7,6 @@ use borrow.Author.Tests.{eq-eqb}
 use lib.Dec.{eqb}
 use lib.ListN.{length}
 use Rattle.logic.proofs.Bools.{branch, clash}
-use Rattle.table.specs.Tables.{spare_list, bad_list}
 use Rattle.image.specs.Images.{well_formed, converted}
 use Rattle.image.proofs.Formed.{formed_long}
 use Rattle.image.proofs.RoundTrip.{read_spares, read_bads}

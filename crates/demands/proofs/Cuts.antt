@@ -15,12 +15,12 @@ use Rattle.drive.specs.declared.Drive.{Drive}
 use Rattle.drive.specs.declared.Phase.{Phase}
 use Rattle.drive.specs.declared.Answer.{Answer}
 use Rattle.drive.specs.Calls.{Call, raise, lower, feed, surface, reset, start_of}
-use Rattle.drive.specs.History.{held, unreadable, Sectors, Entry, History, is_table_sector, learns, heard, next, candidates_then, begun}
+use Rattle.drive.specs.History.{held, unreadable, Sectors, History, is_table_sector, learns, heard, next, candidates_then, begun}
 use Rattle.drive.specs.Surface.{target, Brings, Fate}
 use Rattle.drive.specs.Run.{Event, World, Moment, call, power, sectors_after, after, Rule, Unless, Permits, made, Lawful, lines}
-use Rattle.drive.specs.Told.{none, Right, reports_of}
-use Rattle.drive.specs.Cuts.{Cut, world_at, history_at, start_at, world_then, history_then, CutKeeps, good_report, NoneGood, UnreadableTable, UnreadableAtFirst}
-use Rattle.drive.specs.Views.{Bytes, Where, nowhere, at, of_answer}
+use Rattle.drive.specs.Told.{none}
+use Rattle.drive.specs.Cuts.{Cut, history_at, start_at, world_then, history_then, CutKeeps, good_report, NoneGood, UnreadableTable, UnreadableAtFirst}
+use Rattle.drive.specs.Views.{Bytes, nowhere, at, of_answer}
 use Rattle.demands.proofs.Sim.{Shake, resting, offer1, heads, offer2, offer3, offer4, takes, offer6, Sim, at_start, at_rest, at_work, at_store, Kept, entry_of}
 use Rattle.demands.proofs.Entries.{no_learn}
 use Rattle.demands.proofs.Steps.{step}

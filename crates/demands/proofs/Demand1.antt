@@ -9,7 +9,6 @@ use borrow.Author.Tests.{ltb-true, lt-ltb}
 use Rattle.geometry.specs.declared.Block.{Block}
 use Rattle.logic.proofs.Bools.{clash, and_right}
 use Rattle.table.specs.declared.Table.{Table}
-use Rattle.table.specs.Tables.{table_ok}
 use Rattle.drive.specs.declared.Cause.{Cause}
 use Rattle.drive.specs.declared.Access.{Access}
 use Rattle.drive.specs.declared.Access.TheVariants as access

@@ -3,14 +3,13 @@ use mathlib.Core.Path.{◌≡◌, refl}
 use mathlib.Core.Bool.{Bool, true, false, ◌&&◌, ◌||◌}
 use Rattle.logic.proofs.Bools.{clash, and_right}
 use Rattle.drive.specs.declared.Change.{Change}
-use Rattle.drive.specs.declared.Ending.{Ending}
 use Rattle.drive.specs.declared.Ending.TheVariants as ending
 use Rattle.drive.specs.declared.Marks.{Marks}
 use Rattle.drive.specs.declared.Part.{Part}
 use Rattle.drive.specs.declared.Seen.{Seen}
 use Rattle.drive.specs.declared.State.{State}
 use Rattle.drive.specs.declared.Turn.{Turn}
-use Rattle.drive.specs.Results.{alters, ended, report, stores, wants_store, finish}
+use Rattle.drive.specs.Results.{alters, ended, report, stores, finish}
 use Rattle.records.proofs.Ladders.{finish_cases}
 
 latched_stores_none : (m : Marks) (c : Change) → stores (ended m c ending.Latched) ≡ true → ⊥

@@ -6,7 +6,6 @@ use Prim.Native.Nat.{ℕ, ◌+◌, ◌-◌}
 use native.Mathlib.Omega.{arith}
 use lib.ListN.{length, take, drop, replicate, length-append, length-take, length-drop, length-replicate}
 use borrow.Author.Tests.{eqb-true}
-use Rattle.logic.proofs.Bools.{and_left}
 use Rattle.table.specs.declared.Table.{Table}
 use Rattle.table.specs.Tables.{spare_list, bad_list, table_ok}
 use Rattle.table.proofs.Keeps.{passes}
@@ -20,7 +19,7 @@ use Rattle.drive.specs.declared.Part.{Part}
 use Rattle.drive.specs.declared.Part.TheVariants as part
 use Rattle.drive.specs.declared.Turn.{Turn}
 use Rattle.drive.specs.Words.{data_of, with_data}
-use Rattle.drive.specs.Records.{record_ok, state_ok}
+use Rattle.drive.specs.Records.{record_ok}
 use Rattle.drive.specs.Results.{part_left, status_left, out_of}
 use Rattle.drive.specs.Calls.{Call, raise, lower, feed, surface, reset, called, raise_of, lower_of, feed_of, surface_of, reset_of, step_of}
 use Rattle.records.proofs.Passed.{passed as parts}

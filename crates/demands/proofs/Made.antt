@@ -7,7 +7,7 @@ use mathlib.Core.List.{List, [], ◌∷◌}
 use Prim.Native.Nat.{ℕ, suc, ◌+◌, ◌≤◌}
 use native.Mathlib.Omega.{arith}
 use lib.Dec.{eqb}
-use lib.ListN.{length, get_or}
+use lib.ListN.{length}
 use borrow.Author.Tests.{eq-eqb, eqb-true, ltb-false, leb-true, not-true}
 use Rattle.geometry.specs.Geometry.{is_block}
 use Rattle.geometry.specs.declared.Block.{Block}
@@ -52,8 +52,8 @@ use Rattle.drive.specs.Retries.{met, after_read}
 use Rattle.drive.specs.Sparing.{tried, counted, has_reread, is_sound, checked}
 use Rattle.drive.specs.Access.{asks_read, verifies, start_answered, is_undone, store_marks, store_answered, reads, write_answered, verify_answered, follows, answered}
 use Rattle.drive.specs.Calls.{Call, raise, lower, feed, surface, reset, raise_of, lower_of, feed_of, surface_of, reset_of, step_of, start_of}
-use Rattle.drive.specs.History.{Sectors, Entry, History, blank, is_table_sector, padded, acts, underway, reports, bit, good, moves, heard, next, begun, order}
-use Rattle.drive.specs.Run.{Moment, call, power, World, made, after, Lawful, lines, begins}
+use Rattle.drive.specs.History.{Sectors, Entry, History, blank, is_table_sector, padded, acts, underway, reports, good, moves, heard, next, begun, order}
+use Rattle.drive.specs.Run.{Moment, call, power, World, made, after, Lawful, lines}
 use Rattle.drive.specs.Surface.{Fate}
 use Rattle.drive.specs.Made.{same_sector, Wrote, unwritten, wrote_next, good_write, IsMade, Made, WritesMade}
 use Rattle.drive.specs.Views.{Bytes, Where, at, of_call, of_answer}

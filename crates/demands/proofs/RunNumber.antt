@@ -1,15 +1,14 @@
 -- The run number of a record stays a number of four bytes: a store asked for adds one below its top, an image brings one of four
 -- bytes, and every other rule keeps it.
-use mathlib.Core.Path.{◌≡◌, refl}
-use mathlib.Core.Bool.{Bool, true, false, cond}
-use mathlib.Core.List.{List, []}
-use Prim.Native.Nat.{ℕ, ◌+◌, ◌*◌, ◌<◌}
+use mathlib.Core.Bool.{Bool}
+use mathlib.Core.List.{List}
+use Prim.Native.Nat.{ℕ, ◌<◌}
 use native.Mathlib.Omega.{arith}
 use borrow.Author.Tests.{eqb-false}
 use lib.Dec.{eqb}
 use lib.ListN.{length}
 use Rattle.logic.proofs.Bools.{branch}
-use Rattle.image.specs.FormB.{has_magic, run_in}
+use Rattle.image.specs.FormB.{has_magic}
 use Rattle.image.specs.Images.{run_of}
 use Rattle.image.proofs.Quads.{two_below}
 use Rattle.drive.specs.declared.Drive.{Drive}
@@ -19,14 +18,12 @@ use Rattle.drive.specs.declared.Offer.{Offer}
 use Rattle.drive.specs.declared.Offer.TheVariants as offer
 use Rattle.drive.specs.declared.Phase.{Phase}
 use Rattle.drive.specs.declared.Phase.TheVariants as phase
-use Rattle.drive.specs.declared.Access.{Access}
-use Rattle.drive.specs.declared.Access.TheVariants as access
 use Rattle.table.specs.declared.Table.{Table}
-use Rattle.drive.specs.Words.{order_of, kind_of}
+use Rattle.drive.specs.Words.{order_of}
 use Rattle.drive.specs.Records.{record_ok}
 use Rattle.drive.specs.Results.{numbered, guarded}
-use Rattle.drive.specs.Handshake.{offers, offer_for, raised, goes_on, lowered, fed_to, rested}
-use Rattle.drive.specs.Access.{asks_read, follows, answered}
+use Rattle.drive.specs.Handshake.{raised, goes_on, lowered, fed_to, rested}
+use Rattle.drive.specs.Access.{asks_read, answered}
 use Rattle.drive.specs.Calls.{Call, raise, lower, feed, surface, reset, raise_of, lower_of, feed_of, surface_of, reset_of, step_of}
 use Rattle.drive.specs.Values.{Bytewise, TypedCall}
 use Rattle.records.proofs.Ladders.{guarded_cases, fitting_cases, lowered_cases}

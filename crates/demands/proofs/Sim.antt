@@ -21,7 +21,6 @@ use Rattle.drive.specs.declared.Target.{Target}
 use Rattle.drive.specs.declared.Trial.{Trial}
 use Rattle.drive.specs.declared.Ending.{Ending}
 use Rattle.drive.specs.declared.Close.{Close}
-use Rattle.drive.specs.declared.Offer.{Offer}
 use Rattle.drive.specs.declared.Offer.TheVariants as offer
 use Rattle.drive.specs.declared.Access.{Access}
 use Rattle.drive.specs.declared.Access.TheVariants as access

@@ -6,7 +6,7 @@ use mathlib.Core.List.{List, [], ◌∷◌}
 use Prim.Native.Nat.{ℕ, zero, suc, ◌+◌, ◌-◌, ◌≤◌, ◌<◌}
 use native.Mathlib.Omega.{arith}
 use lib.Dec.{eqb, ltb, leb}
-use lib.ListN.{take, drop, get_or}
+use lib.ListN.{take, get_or}
 use borrow.Author.Tests.{eqb-true, ltb-true, ltb-false, leb-true}
 use Rattle.geometry.specs.declared.Block.{Block}
 use Rattle.logic.proofs.Bools.{clash, and_left}
@@ -17,7 +17,6 @@ use Rattle.drive.specs.declared.Access.TheVariants as access
 use Rattle.drive.specs.declared.Answer.{Answer}
 use Rattle.drive.specs.declared.Answer.TheVariants as answer
 use Rattle.drive.specs.declared.Change.{Change}
-use Rattle.drive.specs.declared.Change.TheVariants as change
 use Rattle.drive.specs.declared.Drive.{Drive}
 use Rattle.drive.specs.declared.Ending.{Ending}
 use Rattle.drive.specs.declared.Ending.TheVariants as ending

@@ -9,7 +9,7 @@ use lib.Dec.{eqb, leb}
 use lib.ListN.{length, length-take}
 use lib.Seq.{take_all}
 use borrow.Author.Tests.{eqb-true, ne_eqb, not-false}
-use Rattle.geometry.specs.Geometry.{table_sector, spare_of}
+use Rattle.geometry.specs.Geometry.{table_sector}
 use Rattle.geometry.specs.declared.Block.{Block}
 use Rattle.geometry.specs.declared.Sector.{Sector}
 use Rattle.geometry.proofs.Laws.{spare_not_table}
@@ -36,7 +36,7 @@ use Rattle.drive.specs.declared.Refusal.TheVariants as refusal
 use Rattle.drive.specs.declared.Ending.TheVariants as ending
 use Rattle.drive.specs.declared.Change.TheVariants as change
 use Rattle.drive.specs.Words.{data_of, number_of, kind_of, is_read}
-use Rattle.drive.specs.Records.{record_ok, state_ok}
+use Rattle.drive.specs.Records.{record_ok}
 use Rattle.drive.specs.Results.{part_left, status_left, out_of, guarded, clean, on_present}
 use Rattle.drive.specs.Retries.{met, passed, failed, after_read}
 use Rattle.drive.specs.Sparing.{tried, counted, checked}

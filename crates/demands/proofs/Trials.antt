@@ -1,6 +1,6 @@
 -- A TRIAL HAS EXACTLY A HUNDRED REREADS, whatever they bring; 30 failures pass it, 31 do not. By induction over the answers.
 use mathlib.Core.Path.{◌≡◌, refl, sym, ap, subst, subst₂, ◌∙◌}
-use mathlib.Core.Bool.{Bool, true, false, cond, not, ◌&&◌}
+use mathlib.Core.Bool.{Bool, true, false, cond, ◌&&◌}
 use mathlib.Core.List.{List, [], ◌∷◌}
 use Prim.Native.Nat.{ℕ, zero, suc, ◌+◌, ◌≤◌, ◌<◌}
 use native.Mathlib.Omega.{arith}
@@ -29,7 +29,7 @@ use Rattle.drive.specs.declared.Trial.{Trial}
 use Rattle.drive.specs.declared.Turn.{Turn}
 use Rattle.drive.specs.Words.{data_of, fails, latches}
 use Rattle.drive.specs.Records.{trial_ok, state_ok, record_ok}
-use Rattle.drive.specs.Results.{Out, out_of, in_phase, ended, finish, part_left, status_left}
+use Rattle.drive.specs.Results.{Out, out_of, in_phase, finish, part_left, status_left}
 use Rattle.drive.specs.Sparing.{counted, judged, checked}
 use Rattle.drive.specs.Access.{bytes_fit, fitting, follows, answered}
 use Rattle.drive.specs.Calls.{raise, surface_of}

@@ -20,7 +20,7 @@ use Rattle.table.proofs.Keeps.{passes, empty_ok, listed_ok, killed_ok, entered_o
 use Rattle.table.proofs.Lists.{listed_shaped, killed_shaped, entered_shaped, removed_shaped}
 use Rattle.table.proofs.Placing.{sector_in_range}
 use Rattle.table.proofs.Causes.{listed_causes_ok, killed_causes_ok, listed_causes_length, killed_causes_length}
-use Rattle.image.specs.Images.{well_formed, table_of}
+use Rattle.image.specs.Images.{well_formed}
 use Rattle.image.proofs.Layouts.{bytes_drop}
 use Rattle.image.proofs.RoundTrip.{read_ok, read_shaped, causes_ok_lem, causes_shaped, zeros_ok}
 use Rattle.buffer.specs.Runs.{over}
@@ -48,7 +48,7 @@ use Rattle.drive.specs.declared.Change.{Change}
 use Rattle.drive.specs.declared.Change.TheVariants as change
 use Rattle.drive.specs.declared.Outcome.{Outcome}
 use Rattle.drive.specs.Records.{retry_ok, target_ok, trial_ok, access_ok, phase_ok, state_ok, record_ok}
-use Rattle.drive.specs.Results.{changed, noted, in_phase, with_marks, say, ended, numbered, stores, finish, on_present, guarded}
+use Rattle.drive.specs.Results.{changed, noted, in_phase, with_marks, say, ended, numbered, finish, on_present, guarded}
 use Rattle.drive.specs.Words.{cause_number, kind_of, order_of, block_of}
 use Rattle.drive.specs.Handshake.{offer_for, offers, raised, acted, goes_on, lowered, fed_to, rested}
 use Rattle.drive.specs.Retries.{met, passed, failed, is_reread, after_read}

@@ -8,7 +8,6 @@ use lib.ListN.{get_or, replicate}
 use Rattle.logic.proofs.Bools.{clash}
 use Rattle.geometry.specs.declared.Block.{Block}
 use Rattle.image.specs.FormA.{form_a}
-use Rattle.drive.specs.declared.Offer.{Offer}
 use Rattle.drive.specs.declared.Offer.TheVariants as offer
 use Rattle.drive.specs.declared.Answer.TheVariants as answer
 use Rattle.drive.specs.declared.Refusal.TheVariants as refusal

@@ -1,6 +1,6 @@
 -- Document 01: the surface answered an access. The codes 4 and 5, the start's reads, "Read", and "Write" with
 -- request 4 of document 02; the store with request 7.
-use Rattle.std.specs.Prelude.{Bool, true, false, cond, not, ◌&&◌, ◌||◌, List, ℕ, ◌+◌, ltb, leb, eqb, length}
+use Rattle.std.specs.Prelude.{Bool, true, cond, not, ◌&&◌, ◌||◌, List, ℕ, ◌+◌, ltb, leb, eqb, length}
 use Rattle.geometry.specs.Geometry.{table_sector}
 use Rattle.lists.specs.Lists.{member_of}
 use Rattle.table.specs.declared.Table.{Table}

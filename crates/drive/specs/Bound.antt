@@ -5,7 +5,6 @@ use Rattle.drive.specs.declared.Drive.{Drive}
 use Rattle.drive.specs.declared.Access.{Access}
 use Rattle.drive.specs.declared.Phase.{Phase}
 use Rattle.drive.specs.Records.{record_ok, awaits, of_access}
-use Rattle.drive.specs.Results.{Out}
 use Rattle.drive.specs.Calls.{Call, step_of}
 use Rattle.drive.specs.Views.{of_answer}
 

@@ -1,6 +1,6 @@
 -- THE CALLS: seven, each a function of the record, the lent buffer and the arguments, giving record, answer and buffer; and
 -- convert, which has no record.
-use Rattle.std.specs.Prelude.{Bool, true, false, cond, ◌&&◌, List, [], ◌∷◌, ℕ, eqb, length, replicate}
+use Rattle.std.specs.Prelude.{true, false, cond, ◌&&◌, List, [], ℕ, eqb, length, replicate}
 use Rattle.geometry.specs.Geometry.{table_sector}
 use Rattle.table.specs.Tables.{empty_table}
 use Rattle.buffer.specs.Runs.{same}
@@ -8,7 +8,6 @@ use Rattle.image.specs.declared.Fault.{Fault}
 use Rattle.image.specs.declared.Fault.TheVariants as fault
 use Rattle.image.specs.Images.{well_formed, fault_of, converted}
 use Rattle.drive.specs.declared.Drive.{Drive}
-use Rattle.drive.specs.declared.Step.{Step}
 use Rattle.drive.specs.declared.Answer.{Answer}
 use Rattle.drive.specs.declared.Answer.TheVariants as answer
 use Rattle.drive.specs.declared.Refusal.{Refusal}

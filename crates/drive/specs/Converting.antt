@@ -5,7 +5,7 @@ use Rattle.table.specs.Tables.{SameTable}
 use Rattle.image.specs.FormB.{has_magic}
 use Rattle.image.specs.Images.{well_formed, table_of, run_of, causes_of}
 use Rattle.drive.specs.declared.Answer.TheVariants as answer
-use Rattle.drive.specs.Calls.{Conversion, convert_of}
+use Rattle.drive.specs.Calls.{convert_of}
 use Rattle.drive.specs.Values.{Bytewise}
 
 -- Says that an image x is the image i in the other form: well formed, of the same two lists, with no run number and no causes.

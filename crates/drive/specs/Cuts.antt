@@ -1,6 +1,6 @@
 -- DOCUMENT 02, REQUEST 7: "Whichever access the power fails at, after the next start each read of a block reported good gives a
 -- candidate, the interrupted write's bytes being one; with the table spoiled none is good."
-use Rattle.std.specs.Prelude.{◌≡◌, Bool, true, false, not, ◌&&◌, List, [], ◌∷◌, ℕ, length}
+use Rattle.std.specs.Prelude.{◌≡◌, Bool, true, false, not, ◌&&◌, List, [], ◌∷◌, length}
 use Rattle.geometry.specs.Geometry.{table_sector}
 use Rattle.geometry.specs.declared.Block.{Block}
 use Rattle.drive.specs.declared.Drive.{Drive}

@@ -1,7 +1,6 @@
 -- Document 01, "Calls" and "Acting on a command", with requests 1, 3 and 7 of document 02: raise, lower, feed and reset.
-use Rattle.std.specs.Prelude.{Bool, true, false, cond, not, ◌&&◌, ◌||◌, List, [], ◌∷◌, ◌++◌, ℕ, ◌+◌, ◌-◌, min, ltb, leb, eqb, length, take}
+use Rattle.std.specs.Prelude.{Bool, true, false, cond, not, ◌&&◌, ◌||◌, List, ℕ, ◌+◌, ◌-◌, min, ltb, leb, eqb, length, take}
 use Rattle.geometry.specs.Geometry.{is_block}
-use Rattle.geometry.specs.declared.Block.{Block}
 use Rattle.lists.specs.Lists.{member_of}
 use Rattle.table.specs.declared.Table.{Table}
 use Rattle.table.specs.Tables.{spare_list, bad_list, sector_of}
@@ -13,17 +12,12 @@ use Rattle.drive.specs.declared.Offer.TheVariants as offer
 use Rattle.drive.specs.declared.Access.TheVariants as access
 use Rattle.drive.specs.declared.Phase.{Phase}
 use Rattle.drive.specs.declared.Phase.TheVariants as phase
-use Rattle.drive.specs.declared.Answer.{Answer}
 use Rattle.drive.specs.declared.Answer.TheVariants as answer
 use Rattle.drive.specs.declared.Refusal.TheVariants as refusal
-use Rattle.drive.specs.declared.Ending.{Ending}
 use Rattle.drive.specs.declared.Ending.TheVariants as ending
 use Rattle.drive.specs.declared.Change.TheVariants as change
-use Rattle.drive.specs.declared.Retry.{Retry}
-use Rattle.drive.specs.declared.Trial.{Trial}
 use Rattle.drive.specs.declared.Four.{Four}
 use Rattle.drive.specs.declared.Status.TheVariants as status
-use Rattle.drive.specs.declared.Part.{Part}
 use Rattle.drive.specs.declared.Part.TheVariants as part
 use Rattle.drive.specs.declared.Turn.{Turn}
 use Rattle.drive.specs.declared.Kind.{Kind}

@@ -1,6 +1,6 @@
 -- Code 1: which records are refused. Its clauses are exactly those of the first line of the table of codes, as requests 4 and 6 of
 -- document 02 have it.
-use Rattle.std.specs.Prelude.{Bool, true, false, cond, not, ◌&&◌, ◌||◌, ℕ, ◌+◌, ltb, leb, eqb, take}
+use Rattle.std.specs.Prelude.{Bool, true, false, not, ◌&&◌, ◌||◌, ℕ, ◌+◌, ltb, leb, eqb, take}
 use Rattle.geometry.specs.Geometry.{is_block, is_sector, spare_of}
 use Rattle.table.specs.Tables.{table_ok, causes_ok}
 use Rattle.drive.specs.declared.Drive.{Drive}

@@ -19,7 +19,6 @@ use Rattle.drive.specs.declared.Refusal.{Refusal}
 use Rattle.drive.specs.declared.Refusal.TheVariants as refusal
 use Rattle.drive.specs.declared.Ending.{Ending}
 use Rattle.drive.specs.declared.Seen.{Seen}
-use Rattle.drive.specs.declared.Close.{Close}
 use Rattle.drive.specs.declared.Access.TheVariants as access
 use Rattle.drive.specs.declared.Trial.{Trial}
 use Rattle.drive.specs.declared.Step.{Step}

@@ -1,7 +1,7 @@
 -- Document 02, request 4: sparing. A sector trial is one write, then a hundred rereads; more than 30 failures fail it. A read at
 -- the threshold, a write/verify whose first verify failed and a write to a listed bad block begin with the trial of the
 -- present sector; each next unused spare gets one.
-use Rattle.std.specs.Prelude.{Bool, true, false, cond, not, ◌&&◌, ◌||◌, ℕ, ◌+◌, ltb, leb, eqb}
+use Rattle.std.specs.Prelude.{Bool, true, cond, ℕ, ◌+◌, ltb, leb, eqb}
 use Rattle.geometry.specs.Geometry.{spare_of}
 use Rattle.geometry.specs.declared.Block.{Block}
 use Rattle.geometry.specs.declared.Sector.{Sector}

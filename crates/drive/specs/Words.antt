@@ -1,5 +1,5 @@
 -- Document 01's own numbers for each case of an answer, the parts of the lent buffer, a command decoded, the status bytes.
-use Rattle.std.specs.Prelude.{Bool, true, false, cond, ◌||◌, List, [], ◌∷◌, ◌++◌, ℕ, ◌+◌, ◌*◌, eqb, take, drop, get_or}
+use Rattle.std.specs.Prelude.{Bool, true, false, cond, ◌||◌, List, ◌++◌, ℕ, ◌+◌, ◌*◌, eqb, take, drop, get_or}
 use Rattle.geometry.specs.declared.Block.{Block}
 use Rattle.drive.specs.declared.Offer.{Offer}
 use Rattle.drive.specs.declared.Offer.TheVariants as offer

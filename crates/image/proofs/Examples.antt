@@ -1,13 +1,12 @@
 -- Both forms, computed: an image of each byte by byte, each clause broken by itself, and the two forms turned into one another.
 use mathlib.Core.Path.{◌≡◌, refl}
-use mathlib.Core.Bool.{Bool, true, false, not, ◌&&◌}
+use mathlib.Core.Bool.{Bool, true, not, ◌&&◌}
 use mathlib.Core.List.{List, [], ◌∷◌, ◌++◌}
 use Prim.Native.Nat.{ℕ, zero, suc, ◌%◌}
 use lib.ListN.{take, drop, replicate}
 use Rattle.lists.specs.Lists.{member_of, entry_ok, entries_ok, dead}
 use Rattle.table.specs.Tables.{causes_ok, spare_list, bad_list}
 use Rattle.buffer.specs.Runs.{same, all_are, sum}
-use Rattle.image.specs.declared.Fault.{Fault}
 use Rattle.image.specs.declared.Fault.TheVariants as fault
 use Rattle.image.specs.declared.Found.TheVariants as found
 use Rattle.image.specs.Layouts.{wide, triple, triples, narrow, entry_at, entries_from, entries_fit}

@@ -1,8 +1,8 @@
 -- The reader's answer, test by test.
 use mathlib.Core.Path.{◌≡◌}
-use mathlib.Core.Bool.{true, false, cond, ◌&&◌}
+use mathlib.Core.Bool.{true, false, cond}
 use mathlib.Core.List.{List, ◌++◌}
-use Prim.Native.Nat.{ℕ, ◌+◌, ◌*◌, ◌≤◌}
+use Prim.Native.Nat.{ℕ, ◌≤◌}
 use borrow.Author.Tests.{le-leb, leb-true}
 use lib.Dec.{leb, eqb}
 use lib.ListN.{length, take, drop, replicate}
@@ -13,7 +13,7 @@ use Rattle.image.specs.declared.Fault.{Fault}
 use Rattle.image.specs.declared.Fault.TheVariants as fault
 use Rattle.image.specs.declared.Found.TheVariants as found
 use Rattle.image.specs.declared.Layout.{Layout}
-use Rattle.image.specs.Layouts.{entries_from, spare_entries, bad_entries, counts_fit, entries_fit}
+use Rattle.image.specs.Layouts.{spare_entries, bad_entries, counts_fit, entries_fit}
 use Rattle.image.specs.FormA.{layout_a, framed_a, formed_a}
 use Rattle.image.specs.FormB.{has_magic, layout_b, run_in, causes_from, cause_entries, causes_in, sum_fits, framed_b, fields_fit, formed_b}
 use Rattle.image.specs.Images.{nothing, loaded, read_a, read_b, read_of, well_formed, table_of, run_of, causes_of, fault_of}

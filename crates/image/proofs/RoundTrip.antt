@@ -1,5 +1,5 @@
 -- What a well-formed image of either form holds. Its laws are those of the layout, which are stated once for both.
-use mathlib.Core.Path.{◌≡◌, refl, ap}
+use mathlib.Core.Path.{◌≡◌, refl}
 use mathlib.Core.Bool.{Bool, true, false, cond}
 use mathlib.Core.List.{List}
 use Prim.Native.Nat.{ℕ, zero, suc, ◌≤◌}
@@ -17,7 +17,7 @@ use Rattle.table.proofs.Keeps.{passes, passed}
 use Rattle.image.specs.declared.Layout.{Layout}
 use Rattle.image.specs.Layouts.{spare_entries, bad_entries, counts_fit, entries_fit, in_array, table_in}
 use Rattle.image.specs.FormA.{layout_a}
-use Rattle.image.specs.FormB.{has_magic, layout_b, causes_from, cause_entries, causes_in}
+use Rattle.image.specs.FormB.{has_magic, layout_b, cause_entries, causes_in}
 use Rattle.image.specs.Images.{well_formed, fault_of, layout_of, table_of, run_of, causes_of, is_table, nothing, holding, read_of}
 use Rattle.image.proofs.Layouts.{entries_length}
 use Rattle.image.proofs.Reading.{causes_of_lem}

@@ -1,7 +1,7 @@
 -- Form B written part by part is the image, and what was added up on the way is its sum.
 use mathlib.Core.Path.{◌≡◌, refl, ap, sym, ◌∙◌}
 use mathlib.Core.List.{List, [], ◌∷◌, ◌++◌, append-nil}
-use Prim.Native.Nat.{ℕ, zero, suc, ◌+◌, ◌-◌, ◌*◌, ◌/◌, ◌%◌, ◌≤◌, ◌<◌}
+use Prim.Native.Nat.{ℕ, suc, ◌+◌, ◌-◌, ◌*◌, ◌/◌, ◌%◌, ◌≤◌, ◌<◌}
 use native.Mathlib.Omega.{arith}
 use native.Mathlib.Numerals.{add-one}
 use lib.ListN.{length, take, drop, get_or, replicate, length-append, length-replicate, drop_of_length-le}
@@ -10,7 +10,7 @@ use Rattle.buffer.specs.Runs.{over, sum}
 use Rattle.buffer.proofs.Over.{grow, over_over}
 use Rattle.buffer.proofs.Sums.{sum_append, sum_zeros}
 use Rattle.image.specs.Layouts.{triple, triples}
-use Rattle.image.specs.FormB.{magic, two_bytes, four_bytes, head_b, quad, quads, listed_part, summed_part, form_b}
+use Rattle.image.specs.FormB.{two_bytes, head_b, quad, quads, listed_part, summed_part, form_b}
 use Rattle.image.proofs.Layouts.{triples_length}
 
 -- THE HEAD: counts and offsets are below 256

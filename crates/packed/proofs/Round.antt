@@ -1,6 +1,6 @@
 -- Packing loses nothing of a record that passes code 1, and what a record's words do not mean is refused.
 use mathlib.Core.Path.{◌≡◌, refl, sym, ap, ◌∙◌}
-use mathlib.Core.Bool.{Bool, true, false, cond, not, ◌&&◌, ◌||◌}
+use mathlib.Core.Bool.{Bool, true, false, not, ◌&&◌, ◌||◌}
 use mathlib.Core.List.{List, [], ◌∷◌, ◌++◌, append_assoc}
 use Prim.Native.Nat.{ℕ, ◌+◌, ◌/◌, ◌%◌, ◌≤◌, ◌<◌}
 use native.Mathlib.Omega.{arith}
@@ -16,14 +16,11 @@ use Rattle.table.specs.Tables.{Shaped, table_ok, causes_ok}
 use Rattle.table.proofs.Keeps.{passes}
 use Rattle.drive.specs.declared.Drive.{Drive}
 use Rattle.drive.specs.declared.State.{State}
-use Rattle.drive.specs.declared.Marks.{Marks}
 use Rattle.drive.specs.declared.Cause.{Cause}
 use Rattle.drive.specs.declared.Cause.TheVariants as cause
-use Rattle.drive.specs.declared.Offer.{Offer}
 use Rattle.drive.specs.declared.Offer.TheVariants as offer
 use Rattle.drive.specs.declared.Ending.{Ending}
 use Rattle.drive.specs.declared.Ending.TheVariants as ending
-use Rattle.drive.specs.declared.Access.{Access}
 use Rattle.drive.specs.declared.Access.TheVariants as access
 use Rattle.drive.specs.declared.Phase.{Phase}
 use Rattle.drive.specs.declared.Phase.TheVariants as phase
@@ -31,7 +28,7 @@ use Rattle.drive.specs.declared.Seen.{Seen}
 use Rattle.drive.specs.declared.Retry.{Retry}
 use Rattle.drive.specs.declared.Target.{Target}
 use Rattle.drive.specs.declared.Trial.{Trial}
-use Rattle.drive.specs.Records.{retry_ok, target_ok, trial_ok, access_ok, phase_ok, state_ok, record_ok}
+use Rattle.drive.specs.Records.{retry_ok, target_ok, trial_ok, phase_ok, state_ok, record_ok}
 use Rattle.drive.specs.Words.{response, cause_number}
 use Rattle.drive.specs.Values.{Bytewise, Typed}
 use Rattle.packed.specs.declared.Stage.{Stage}

@@ -6,14 +6,13 @@ use mathlib.Core.List.{List, [], ◌∷◌}
 use Prim.Native.Nat.{ℕ, zero, suc, ◌<◌}
 use native.Mathlib.Omega.{arith}
 use lib.Dec.{eqb}
-use lib.ListN.{get_or, length, replicate}
+use lib.ListN.{replicate}
 use Rattle.logic.proofs.Bools.{clash}
-use Rattle.table.specs.declared.Table.{Table}
 use Rattle.drive.specs.declared.Drive.{Drive}
 use Rattle.drive.specs.Records.{record_ok}
 use Rattle.drive.specs.Results.{Out}
-use Rattle.drive.specs.Calls.{Call, raise, lower, feed, surface, reset, step_of, start_of, image_out_of}
-use Rattle.drive.specs.Values.{Bytewise, Typed, TypedCall, TypedCalls, NoCode1, Code1Never, record_refused, Code1Exactly}
+use Rattle.drive.specs.Calls.{raise, lower, feed, surface, reset, step_of, start_of, image_out_of}
+use Rattle.drive.specs.Values.{Bytewise, Typed, TypedCalls, NoCode1, Code1Never, record_refused, Code1Exactly}
 use Rattle.drive.specs.Views.{of_answer}
 use Rattle.drive.proofs.Computing.{computed}
 use Rattle.drive.proofs.Examples.{ready}

@@ -1,6 +1,5 @@
 use borrow.Author.Tests.{le-ltb, lt-ltb}
 use Rattle.drive.specs.Access.{start_answered}
-use borrow.Author.Rules.{rules}
 use Rattle.accesses.proofs.count_try.Goals as goal
 
 pub returns-then-k-lt10 : goal.returns-then-k-lt10

@@ -1,6 +1,4 @@
 use mathlib.Core.Path.{sym, ◌∙◌}
-use borrow.Author.Tests.{not-true, not-false}
-use borrow.Author.Rules.{rules}
 use Rattle.drive.specs.Access.{answered, fitting}
 use Rattle.accesses.proofs.fit.Goals as goal
 

@@ -1,8 +1,7 @@
 use Rattle.drive.specs.Access.{follows, write_answered}
-use Rattle.accesses.proofs.Answers.{reading_ok, reread_ok, read_bads}
+use Rattle.accesses.proofs.Answers.{read_bads}
 use mathlib.Core.List.{[]}
 use Rattle.drive.specs.Sparing.{tried, missed}
-use borrow.Author.Rules.{rules}
 use Rattle.accesses.proofs.follow.Goals as goal
 
 pub returns-in-Start : goal.returns-in-Start

@@ -3,7 +3,6 @@ use borrow.Author.Tests.{ne_eqb}
 use Rattle.image.specs.declared.Image.{Image}
 use Rattle.drive.specs.Access.{start_answered}
 use Rattle.accesses.proofs.Answers.{is_formed, found_run}
-use borrow.Author.Rules.{rules}
 use Rattle.accesses.proofs.start.Goals as goal
 
 pub returns-then-a-eq3 : goal.returns-then-a-eq3

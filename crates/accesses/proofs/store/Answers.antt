@@ -1,5 +1,4 @@
 use Rattle.drive.specs.Access.{store_answered}
-use borrow.Author.Rules.{rules}
 use Rattle.accesses.proofs.store.Goals as goal
 
 pub returns : goal.returns

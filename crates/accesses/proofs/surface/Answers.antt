@@ -1,6 +1,5 @@
 use Rattle.drive.specs.Access.{answered}
 use Rattle.accesses.proofs.Answers.{awaited_ok}
-use borrow.Author.Rules.{rules}
 use Rattle.accesses.proofs.surface.Goals as goal
 
 pub fit-requires : goal.fit-requires

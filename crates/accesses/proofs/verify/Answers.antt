@@ -1,6 +1,5 @@
 use borrow.Author.Tests.{eq-eqb, ne_eqb}
 use Rattle.drive.specs.Access.{verify_answered}
-use borrow.Author.Rules.{rules}
 use Rattle.accesses.proofs.verify.Goals as goal
 
 pub returns-then-a-eq3 : goal.returns-then-a-eq3

@@ -1,6 +1,5 @@
 use borrow.Author.Tests.{eq-eqb, ne_eqb}
 use Rattle.drive.specs.Access.{write_answered}
-use borrow.Author.Rules.{rules}
 use Rattle.accesses.proofs.write.Goals as goal
 
 pub returns-then-a-eq0 : goal.returns-then-a-eq0

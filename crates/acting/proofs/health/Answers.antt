@@ -1,5 +1,4 @@
 use Rattle.drive.specs.Handshake.{health}
-use borrow.Author.Rules.{rules}
 use Rattle.acting.proofs.health.Goals as goal
 
 pub returns : goal.returns

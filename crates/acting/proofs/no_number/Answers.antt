@@ -1,5 +1,4 @@
 use Rattle.drive.specs.Handshake.{no_number}
-use borrow.Author.Rules.{rules}
 use Rattle.acting.proofs.no_number.Goals as goal
 
 pub returns : goal.returns

@@ -1,6 +1,5 @@
 use borrow.Author.Tests.{lt-ltb, le-ltb}
 use Rattle.drive.specs.Handshake.{overruns}
-use borrow.Author.Rules.{rules}
 use Rattle.acting.proofs.overrun.Goals as goal
 
 pub returns-then-o-lt9728 : goal.returns-then-o-lt9728

@@ -1,9 +1,7 @@
 use Rattle.drive.specs.Handshake.{writes}
-use native.Mathlib.Omega.{arith}
 use mathlib.Core.Path.{◌≡◌}
-use lib.ListN.{take, length-take}
+use lib.ListN.{take}
 use Rattle.lists.specs.Lists.{member_of}
-use borrow.Author.Rules.{rules}
 use Rattle.acting.proofs.write.Goals as goal
 
 pub returns-then-listed_bad : goal.returns-then-listed_bad

@@ -1,10 +1,5 @@
-use mathlib.Core.Path.{◌≡◌, refl, sym, ◌∙◌}
-use mathlib.Core.Bool.{◌&&◌}
-use Prim.Native.Nat.{◌≤◌, ◌-◌}
-use lib.ListN.{length, drop}
-use Rattle.buffer.specs.Runs.{all_are}
+use mathlib.Core.Path.{sym, ◌∙◌}
 use Rattle.buffer.proofs.Compare.{all_step, all_end}
-use borrow.Author.Rules.{rules}
 use native.Mathlib.Omega.{arith}
 use Rattle.buffer.proofs.all_are.Goals as goal
 

@@ -1,10 +1,7 @@
-use mathlib.Core.Path.{◌≡◌, refl, sym}
-use Prim.Native.Nat.{◌≤◌, ◌-◌}
+use mathlib.Core.Path.{refl, sym}
 use native.Mathlib.Numerals.{add-one}
-use lib.ListN.{length, replicate, length-set, length-replicate}
-use Rattle.buffer.specs.Runs.{over}
+use lib.ListN.{replicate, length-set, length-replicate}
 use Rattle.buffer.proofs.Over.{over_none, over_snoc, replicate_more}
-use borrow.Author.Rules.{rules}
 use native.Mathlib.Omega.{arith}
 use Rattle.buffer.proofs.fill.Goals as goal
 

@@ -1,11 +1,7 @@
-use mathlib.Core.Path.{◌≡◌, refl, sym}
+use mathlib.Core.Path.{◌≡◌}
 use Prim.Native.Nat.{◌≤◌, ◌-◌}
-use native.Mathlib.Numerals.{add-one}
-use lib.ListN.{length, replicate, length-set, length-replicate}
+use lib.ListN.{length, replicate}
 use Rattle.buffer.specs.Runs.{over}
-use Rattle.buffer.proofs.Over.{over_none, over_snoc, replicate_more}
-use borrow.Author.Rules.{rules}
-use native.Mathlib.Omega.{arith}
 use Rattle.buffer.proofs.fill.Given as goal
 
 abbrev pub invariant-loop-i : goal.invariant-loop-i

@@ -1,12 +1,7 @@
-use mathlib.Core.Path.{◌≡◌, refl, sym, ap, ◌∙◌}
+use mathlib.Core.Path.{◌≡◌}
 use Prim.Native.Nat.{◌≤◌, ◌-◌}
-use native.Mathlib.Numerals.{add-one}
-use lib.ListN.{length, take, get_or, length-set}
-use lib.Seq.{take-suc, take_all, length-take-le}
+use lib.ListN.{length, take}
 use Rattle.buffer.specs.Runs.{over}
-use Rattle.buffer.proofs.Over.{over_none, over_snoc}
-use borrow.Author.Rules.{rules}
-use native.Mathlib.Omega.{arith}
 use Rattle.buffer.proofs.put.Given as goal
 
 abbrev pub invariant-loop-i : goal.invariant-loop-i

@@ -1,12 +1,10 @@
-use mathlib.Core.Path.{◌≡◌, refl, sym, ap, ◌∙◌}
-use Prim.Native.Nat.{◌≤◌, ◌-◌, ◌+◌, ◌*◌}
+use mathlib.Core.Path.{refl, sym, ap, ◌∙◌}
 use native.Mathlib.Numerals.{add-one}
-use lib.ListN.{length, take, drop, get_or, length-set}
+use lib.ListN.{take, get_or, length-set}
 use lib.Seq.{take-suc, take_all, length-take-le}
-use Rattle.buffer.specs.Runs.{over, sum}
+use Rattle.buffer.specs.Runs.{over}
 use Rattle.buffer.proofs.Over.{over_none, over_snoc}
 use Rattle.buffer.proofs.Sums.{sum_step, sum_end}
-use borrow.Author.Rules.{rules}
 use native.Mathlib.Omega.{arith}
 use Rattle.buffer.proofs.put_summed.Goals as goal
 

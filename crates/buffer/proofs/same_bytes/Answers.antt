@@ -1,10 +1,5 @@
-use mathlib.Core.Path.{◌≡◌, refl, sym, ◌∙◌}
-use mathlib.Core.Bool.{◌&&◌}
-use Prim.Native.Nat.{◌≤◌, ◌-◌}
-use lib.ListN.{length, drop}
-use Rattle.buffer.specs.Runs.{same}
+use mathlib.Core.Path.{sym, ◌∙◌}
 use Rattle.buffer.proofs.Compare.{same_longer, same_step, same_end}
-use borrow.Author.Rules.{rules}
 use native.Mathlib.Omega.{arith}
 use Rattle.buffer.proofs.same_bytes.Goals as goal
 

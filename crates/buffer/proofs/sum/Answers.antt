@@ -1,9 +1,5 @@
-use mathlib.Core.Path.{◌≡◌, refl, sym, ◌∙◌}
-use Prim.Native.Nat.{◌≤◌, ◌-◌, ◌+◌, ◌*◌}
-use lib.ListN.{length, drop}
-use Rattle.buffer.specs.Runs.{sum}
+use mathlib.Core.Path.{sym, ◌∙◌}
 use Rattle.buffer.proofs.Sums.{sum_step, sum_end}
-use borrow.Author.Rules.{rules}
 use native.Mathlib.Omega.{arith}
 use Rattle.buffer.proofs.sum.Goals as goal
 

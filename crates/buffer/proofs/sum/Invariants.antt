@@ -1,10 +1,7 @@
-use mathlib.Core.Path.{◌≡◌, refl, sym, ◌∙◌}
+use mathlib.Core.Path.{◌≡◌}
 use Prim.Native.Nat.{◌≤◌, ◌-◌, ◌+◌, ◌*◌}
 use lib.ListN.{length, drop}
 use Rattle.buffer.specs.Runs.{sum}
-use Rattle.buffer.proofs.Sums.{sum_step, sum_end}
-use borrow.Author.Rules.{rules}
-use native.Mathlib.Omega.{arith}
 use Rattle.buffer.proofs.sum.Given as goal
 
 abbrev pub invariant-loop-i : goal.invariant-loop-i

@@ -1,7 +1,7 @@
-use mathlib.Core.Path.{◌≡◌, sym, ap, ◌∙◌}
+use mathlib.Core.Path.{sym, ap, ◌∙◌}
 use borrow.Author.Tests.{eq-eqb, ne_eqb}
 use Rattle.image.specs.declared.Image.{Image}
-use Rattle.drive.specs.Calls.{Conversion, refusal_for}
+use Rattle.drive.specs.Calls.{Conversion}
 use Rattle.accesses.proofs.Answers.{is_formed}
 use Rattle.calls.proofs.Loads.{few_found, to_form_a, to_form_b, fault_found_lem, first_short, second_short, no_image_lem, other_form}
 use borrow.Author.Rules.{rules}

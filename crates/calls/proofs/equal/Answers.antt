@@ -1,7 +1,5 @@
 use mathlib.Core.Path.{sym, ◌∙◌}
-use Rattle.drive.specs.Access.{verifies}
 use Rattle.calls.proofs.Buffers.{as_compared}
-use borrow.Author.Rules.{rules}
 use Rattle.calls.proofs.equal.Goals as goal
 
 pub returns-then-verifies : goal.returns-then-verifies

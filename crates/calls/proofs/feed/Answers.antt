@@ -2,7 +2,6 @@ use lib.ListN.{length}
 use Rattle.calls.proofs.Guarded.{sound, refused, given}
 use Rattle.calls.proofs.Keeping.{feed_keeps}
 use Rattle.drive.specs.Calls.{step_of, feed_of}
-use borrow.Author.Rules.{rules}
 use Rattle.calls.proofs.feed.Goals as goal
 
 pub feed-x-requires : goal.feed-x-requires

@@ -1,7 +1,4 @@
-use mathlib.Core.Bool.{◌&&◌}
-use borrow.Author.Tests.{not-true, not-false}
 use Rattle.drive.specs.Records.{record_ok}
-use borrow.Author.Rules.{rules}
 use Rattle.calls.proofs.guard.Goals as goal
 
 pub returns-then-not-lists_ok-causes_ok : goal.returns-then-not-lists_ok-causes_ok

@@ -2,7 +2,6 @@ use lib.ListN.{length}
 use Rattle.calls.proofs.Guarded.{sound, refused, given}
 use Rattle.calls.proofs.Keeping.{lower_keeps}
 use Rattle.drive.specs.Calls.{step_of, lower_of}
-use borrow.Author.Rules.{rules}
 use Rattle.calls.proofs.lower.Goals as goal
 
 pub lower-x-requires : goal.lower-x-requires

@@ -2,7 +2,6 @@ use lib.ListN.{length}
 use Rattle.calls.proofs.Guarded.{sound, refused, given}
 use Rattle.calls.proofs.Keeping.{raise_keeps}
 use Rattle.drive.specs.Calls.{step_of, raise_of}
-use borrow.Author.Rules.{rules}
 use Rattle.calls.proofs.raise.Goals as goal
 
 pub put-requires : goal.put-requires

@@ -2,7 +2,6 @@ use Rattle.calls.proofs.Guarded.{refused, given}
 use Rattle.calls.proofs.Keeping.{reset_keeps, reset_leaves}
 use Rattle.drive.specs.Calls.{step_of, reset_of}
 use mathlib.Core.List.{[]}
-use borrow.Author.Rules.{rules}
 use Rattle.calls.proofs.reset.Goals as goal
 
 pub returns-in-Refuses : goal.returns-in-Refuses

@@ -7,7 +7,6 @@ use mathlib.Core.Bool.{Bool}
 use mathlib.Core.List.{[]}
 use Rattle.drive.specs.Access.{answered}
 use Rattle.records.specs.Turns.{lent}
-use borrow.Author.Rules.{rules}
 use Rattle.calls.proofs.surface.Goals as goal
 
 pub surface-x-requires : goal.surface-x-requires

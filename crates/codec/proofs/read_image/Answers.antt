@@ -1,7 +1,6 @@
 use borrow.Author.Tests.{eq-eqb, ne_eqb}
 use Rattle.image.proofs.Reading.{read_short, read_b_lem, read_a_lem}
-use mathlib.Core.Path.{◌≡◌, sym, ◌∙◌}
-use borrow.Author.Rules.{rules}
+use mathlib.Core.Path.{sym, ◌∙◌}
 use Rattle.codec.proofs.read_image.Goals as goal
 
 pub returns-then-s-ne532 : goal.returns-then-s-ne532

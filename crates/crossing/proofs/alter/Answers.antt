@@ -3,7 +3,6 @@ use mathlib.Core.List.{◌++◌}
 use native.Mathlib.Omega.{arith}
 use lib.ListN.{take}
 use Rattle.drive.specs.declared.Change.{Change}
-use Rattle.calls.specs.declared.tables.Noted.{Noted}
 use Rattle.calls.specs.Gives.{notes_of, altered_of}
 use Rattle.packed.specs.Packing.{unpack_of}
 use Rattle.crossing.specs.Crossing.{note_words}

@@ -5,7 +5,6 @@ use Rattle.drive.specs.declared.State.{State}
 use Rattle.drive.specs.Calls as call
 use Rattle.calls.specs.Gives.{Gives}
 use Rattle.crossing.proofs.Crossed.{of_words}
-use borrow.Author.Rules.{rules}
 use Rattle.crossing.proofs.feed.Goals as goal
 
 pub returns : goal.returns

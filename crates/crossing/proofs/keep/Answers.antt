@@ -1,7 +1,7 @@
 use mathlib.Core.Path.{◌∙◌}
 use native.Mathlib.Omega.{arith}
-use borrow.Author.Tests.{eq-eqb, ne_eqb}
-use Rattle.crossing.proofs.Crossed.{left_where_refused, written_where_not, state_packed}
+use borrow.Author.Tests.{ne_eqb}
+use Rattle.crossing.proofs.Crossed.{written_where_not, state_packed}
 use borrow.Author.Rules.{rules}
 use Rattle.crossing.proofs.keep.Goals as goal
 

@@ -2,13 +2,13 @@ use mathlib.Core.Path.{sym, ap, ◌∙◌}
 use mathlib.Core.List.{List, ◌++◌}
 use Prim.Native.Nat.{ℕ}
 use native.Mathlib.Omega.{arith}
-use borrow.Author.Tests.{eq-eqb, ne_eqb}
+use borrow.Author.Tests.{ne_eqb}
 use lib.ListN.{take, drop}
 use Rattle.calls.specs.declared.tables.Noted.{Noted}
 use Rattle.calls.specs.Gives.{notes_of, altered_of}
 use Rattle.packed.specs.Packing.{pack_state, unpack_of}
 use Rattle.crossing.specs.Crossing.{note_words}
-use Rattle.crossing.proofs.Crossed.{same_where_refused, written_where_not, state_packed, table_stays, both_packed}
+use Rattle.crossing.proofs.Crossed.{written_where_not, state_packed, table_stays, both_packed}
 use borrow.Author.Rules.{rules}
 use Rattle.crossing.proofs.settle.Goals as goal
 

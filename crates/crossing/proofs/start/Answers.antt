@@ -1,14 +1,13 @@
 use mathlib.Core.Path.{ap, ◌∙◌}
 use mathlib.Core.List.{List, ◌++◌}
 use Prim.Native.Nat.{ℕ}
-use borrow.Author.Tests.{eq-eqb, ne_eqb}
+use borrow.Author.Tests.{ne_eqb}
 use lib.ListN.{take, drop}
 use Rattle.drive.specs.declared.Drive.{Drive}
 use Rattle.drive.specs.Calls.{start_of}
 use Rattle.calls.specs.Gives.{notes_of}
 use Rattle.crossing.specs.Crossing.{crossed, note_words}
-use Rattle.crossing.proofs.Crossed.{left_where_refused, written_where_not, shows, both_packed}
-use borrow.Author.Rules.{rules}
+use Rattle.crossing.proofs.Crossed.{written_where_not, shows, both_packed}
 use Rattle.crossing.proofs.start.Goals as goal
 
 pub returns : goal.returns

@@ -4,7 +4,6 @@ use Rattle.table.specs.declared.Table.{Table}
 use Rattle.drive.specs.declared.State.{State}
 use Rattle.calls.specs.Gives.{Answers}
 use Rattle.crossing.proofs.Crossed.{of_words}
-use borrow.Author.Rules.{rules}
 use Rattle.crossing.proofs.surface.Goals as goal
 
 pub returns : goal.returns

@@ -1,4 +1,3 @@
-use borrow.Author.Rules.{rules}
 use borrow.Author.Tests.{lt-ltb, le-ltb}
 use Rattle.geometry.specs.Geometry.{home_of}
 use Rattle.geometry.proofs.home.Goals as goal

@@ -1,5 +1,4 @@
 use Rattle.drive.specs.Handshake.{fed_to}
-use borrow.Author.Rules.{rules}
 use Rattle.handshake.proofs.feed.Goals as goal
 
 pub returns-in-Idle : goal.returns-in-Idle

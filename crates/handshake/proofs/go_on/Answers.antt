@@ -1,5 +1,4 @@
 use Rattle.drive.specs.Handshake.{goes_on}
-use borrow.Author.Rules.{rules}
 use Rattle.handshake.proofs.go_on.Goals as goal
 
 pub returns-in-Command : goal.returns-in-Command

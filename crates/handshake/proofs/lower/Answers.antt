@@ -1,5 +1,4 @@
 use Rattle.drive.specs.Handshake.{lowered}
-use borrow.Author.Rules.{rules}
 use Rattle.handshake.proofs.lower.Goals as goal
 
 pub returns-in-Idle : goal.returns-in-Idle

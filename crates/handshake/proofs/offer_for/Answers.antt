@@ -1,5 +1,4 @@
 use Rattle.drive.specs.Handshake.{offer_for}
-use borrow.Author.Rules.{rules}
 use Rattle.handshake.proofs.offer_for.Goals as goal
 
 pub returns-then-is_read-n : goal.returns-then-is_read-n

@@ -1,5 +1,4 @@
 use Rattle.drive.specs.Handshake.{raised}
-use borrow.Author.Rules.{rules}
 use Rattle.handshake.proofs.raise_command.Goals as goal
 
 pub returns : goal.returns

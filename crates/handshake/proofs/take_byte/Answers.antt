@@ -1,5 +1,4 @@
 use Rattle.drive.specs.Handshake.{lowered}
-use borrow.Author.Rules.{rules}
 use borrow.Author.Tests.{eq-eqb, ne_eqb}
 use Rattle.handshake.proofs.take_byte.Goals as goal
 

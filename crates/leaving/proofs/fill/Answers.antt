@@ -1,8 +1,5 @@
-use native.Mathlib.Omega.{arith}
 use mathlib.Core.Path.{sym}
-use lib.ListN.{length-take}
 use Rattle.leaving.proofs.Buffers.{none_filled}
-use borrow.Author.Rules.{rules}
 use Rattle.leaving.proofs.fill.Goals as goal
 
 pub returns-then-f-ge532 : goal.returns-then-f-ge532

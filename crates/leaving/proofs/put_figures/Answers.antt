@@ -1,6 +1,5 @@
 use mathlib.Core.Path.{refl}
 use Rattle.leaving.proofs.Buffers.{runs_put}
-use borrow.Author.Rules.{rules}
 use Rattle.leaving.proofs.put_figures.Goals as goal
 
 pub returns : goal.returns

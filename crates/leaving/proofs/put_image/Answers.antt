@@ -1,5 +1,4 @@
 use Rattle.leaving.proofs.Buffers.{part_put}
-use borrow.Author.Rules.{rules}
 use Rattle.leaving.proofs.put_image.Goals as goal
 
 pub returns : goal.returns

@@ -1,5 +1,4 @@
 use Rattle.drive.specs.Results.{part_left}
-use borrow.Author.Rules.{rules}
 use Rattle.leaving.proofs.put_part.Goals as goal
 
 pub returns-in-Kept : goal.returns-in-Kept

@@ -1,7 +1,6 @@
 use Rattle.drive.specs.Results.{status_left}
 use Rattle.buffer.specs.Runs.{over}
 use Rattle.drive.specs.Words.{data_of}
-use borrow.Author.Rules.{rules}
 use Rattle.leaving.proofs.put_status.Goals as goal
 
 pub returns-in-Kept : goal.returns-in-Kept

@@ -1,5 +1,4 @@
 use Rattle.leaving.proofs.Buffers.{stored_whole}
-use borrow.Author.Rules.{rules}
 use Rattle.leaving.proofs.write_stored.Goals as goal
 
 pub returns : goal.returns

@@ -1,5 +1,4 @@
 use Rattle.leaving.proofs.Buffers.{image_whole}
-use borrow.Author.Rules.{rules}
 use Rattle.leaving.proofs.write_table.Goals as goal
 
 pub returns : goal.returns

@@ -1,6 +1,5 @@
-use mathlib.Core.Path.{sym, ◌∙◌}
-use Rattle.leaving.proofs.Buffers.{none_zeroed, zeros_end}
-use borrow.Author.Rules.{rules}
+use mathlib.Core.Path.{◌∙◌}
+use Rattle.leaving.proofs.Buffers.{zeros_end}
 use Rattle.leaving.proofs.zero.Goals as goal
 
 pub returns : goal.returns

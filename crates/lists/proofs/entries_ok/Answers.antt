@@ -1,5 +1,4 @@
 use Rattle.lists.specs.Lists.{entries_ok}
-use borrow.Author.Rules.{rules}
 use Rattle.lists.proofs.entries_ok.Goals as goal
 
 pub returns-then-n-eq0 : goal.returns-then-n-eq0

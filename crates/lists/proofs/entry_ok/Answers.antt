@@ -3,9 +3,7 @@ use borrow.Author.Tests.{leb-false, lt-ltb}
 use lib.Dec.{leb}
 use lib.ListN.{get_or}
 use Rattle.logic.proofs.Bools.{or_left, or_right}
-use Rattle.logic.proofs.Walks.{rest}
 use Rattle.lists.proofs.Laws.{new_beside}
-use borrow.Author.Rules.{rules}
 use Rattle.lists.proofs.entry_ok.Goals as goal
 
 pub returns : goal.returns

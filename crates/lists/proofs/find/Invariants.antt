@@ -2,9 +2,6 @@ use mathlib.Core.Path.{◌≡◌}
 use Prim.Native.Nat.{◌+◌, ◌≤◌, ◌-◌}
 use lib.ListN.{length, drop}
 use Rattle.lists.specs.Lists.{index_of}
-use Rattle.lists.proofs.Walk.{index_hit, index_miss, index_end}
-use borrow.Author.Rules.{rules}
-use native.Mathlib.Omega.{arith}
 use Rattle.lists.proofs.find.Given as goal
 
 abbrev pub invariant-loop-i : goal.invariant-loop-i

@@ -1,6 +1,5 @@
 use native.Mathlib.Omega.{arith}
 use Rattle.lists.proofs.Walk.{none_seen}
-use borrow.Author.Rules.{rules}
 use Rattle.lists.proofs.list_ok.Goals as goal
 
 pub pass-requires : goal.pass-requires

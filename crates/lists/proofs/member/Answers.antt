@@ -1,10 +1,5 @@
-use mathlib.Core.Path.{◌≡◌, refl, sym, ◌∙◌}
-use mathlib.Core.Bool.{◌||◌}
-use Prim.Native.Nat.{◌≤◌, ◌-◌}
-use lib.ListN.{length, drop}
-use Rattle.lists.specs.Lists.{member_of}
+use mathlib.Core.Path.{sym, ◌∙◌}
 use Rattle.lists.proofs.Walk.{gathered, gathered_all}
-use borrow.Author.Rules.{rules}
 use native.Mathlib.Omega.{arith}
 use Rattle.lists.proofs.member.Goals as goal
 

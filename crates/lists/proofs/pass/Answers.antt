@@ -1,13 +1,11 @@
-use mathlib.Core.Path.{◌≡◌, refl, sym, ap, ◌∙◌}
-use mathlib.Core.Bool.{Bool, true, false}
+use mathlib.Core.Path.{◌≡◌, refl, sym, ◌∙◌}
+use mathlib.Core.Bool.{Bool, true}
 use Prim.Native.Nat.{ℕ, ◌+◌, ◌≤◌, ◌-◌, ◌<◌, ◌%◌}
 use native.Mathlib.Omega.{arith}
-use borrow.Author.Tests.{not-true, not-false}
 use lib.ListN.{length, drop, get_or, length-set, drop_of_length-le}
 use Rattle.lists.specs.Lists.{entries_ok}
 use Rattle.logic.proofs.Walks.{back}
-use Rattle.lists.proofs.Walk.{fails, Classes, member_none, classes_more}
-use borrow.Author.Rules.{rules}
+use Rattle.lists.proofs.Walk.{fails, member_none, classes_more}
 use Rattle.lists.proofs.pass.Goals as goal
 
 pub loop-i-init : goal.loop-i-init

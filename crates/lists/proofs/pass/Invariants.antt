@@ -1,13 +1,9 @@
-use mathlib.Core.Path.{◌≡◌, refl, sym, ap, ◌∙◌}
-use mathlib.Core.Bool.{Bool, true, false}
-use Prim.Native.Nat.{ℕ, ◌+◌, ◌≤◌, ◌-◌, ◌<◌, ◌%◌}
-use native.Mathlib.Omega.{arith}
-use borrow.Author.Tests.{not-true, not-false}
-use lib.ListN.{length, drop, get_or, length-set, drop_of_length-le}
+use mathlib.Core.Path.{◌≡◌}
+use mathlib.Core.Bool.{true}
+use Prim.Native.Nat.{◌≤◌}
+use lib.ListN.{length, drop}
 use Rattle.lists.specs.Lists.{entries_ok}
-use Rattle.logic.proofs.Walks.{back}
-use Rattle.lists.proofs.Walk.{fails, Classes, member_none, classes_more}
-use borrow.Author.Rules.{rules}
+use Rattle.lists.proofs.Walk.{Classes}
 use Rattle.lists.proofs.pass.Given as goal
 
 abbrev pub invariant-loop-i : goal.invariant-loop-i

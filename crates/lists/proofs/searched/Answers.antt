@@ -1,6 +1,5 @@
 use borrow.Author.Tests.{eq-eqb, ne_eqb}
 use Rattle.lists.specs.Lists.{entry_ok}
-use borrow.Author.Rules.{rules}
 use Rattle.lists.proofs.searched.Goals as goal
 
 pub returns-then-x-eq-DEAD : goal.returns-then-x-eq-DEAD

@@ -3,7 +3,6 @@ use Prim.Native.Nat.{◌/◌, ◌%◌}
 use Rattle.packed.specs.declared.Stage.{Stage}
 use Rattle.packed.specs.Packing.{state_words, pack_state}
 use mathlib.Core.Path.{ap, ◌∙◌}
-use borrow.Author.Rules.{rules}
 use Rattle.packed.proofs.pack_state.Goals as goal
 
 pub returns : goal.returns

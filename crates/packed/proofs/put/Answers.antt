@@ -1,11 +1,8 @@
-use mathlib.Core.Path.{◌≡◌, refl, sym, ap, ◌∙◌}
-use Prim.Native.Nat.{◌≤◌, ◌-◌}
+use mathlib.Core.Path.{refl, sym}
 use native.Mathlib.Numerals.{add-one}
-use lib.ListN.{length, take, get_or, length-set}
-use lib.Seq.{take-suc, take_all, length-take-le}
-use Rattle.buffer.specs.Runs.{over}
+use lib.ListN.{take, get_or, length-set}
+use lib.Seq.{take-suc, length-take-le}
 use Rattle.buffer.proofs.Over.{over_none, over_snoc}
-use borrow.Author.Rules.{rules}
 use native.Mathlib.Omega.{arith}
 use Rattle.packed.proofs.put.Goals as goal
 

@@ -3,7 +3,6 @@ use mathlib.Core.List.{List}
 use Prim.Native.Nat.{ℕ}
 use Rattle.buffer.specs.Runs.{over}
 use Rattle.packed.specs.Packing.{pack_state}
-use borrow.Author.Rules.{rules}
 use Rattle.packed.proofs.put_state.Goals as goal
 
 pub returns : goal.returns

@@ -1,6 +1,5 @@
 use mathlib.Core.Path.{ap, ◌∙◌}
 use Rattle.packed.specs.Packing.{phase_of, state_at}
-use borrow.Author.Rules.{rules}
 use Rattle.packed.proofs.state_at.Goals as goal
 
 pub returns : goal.returns

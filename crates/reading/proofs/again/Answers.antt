@@ -1,5 +1,4 @@
 use Rattle.drive.specs.Access.{reads}
-use borrow.Author.Rules.{rules}
 use Rattle.reading.proofs.again.Goals as goal
 
 pub returns : goal.returns

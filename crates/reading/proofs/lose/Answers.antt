@@ -2,7 +2,6 @@ use mathlib.Core.Path.{sym, ap, ◌∙◌}
 use Rattle.lists.specs.Lists.{member_of}
 use borrow.Author.Tests.{le-ltb, lt-ltb}
 use Rattle.drive.specs.Access.{lost}
-use borrow.Author.Rules.{rules}
 use Rattle.reading.proofs.lose.Goals as goal
 
 pub returns-then-listed_bad : goal.returns-then-listed_bad

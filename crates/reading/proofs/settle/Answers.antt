@@ -1,6 +1,5 @@
 use borrow.Author.Tests.{le-ltb, lt-ltb}
 use Rattle.drive.specs.Access.{settled}
-use borrow.Author.Rules.{rules}
 use Rattle.reading.proofs.settle.Goals as goal
 
 pub returns-then-s-r : goal.returns-then-s-r

@@ -7,7 +7,6 @@ use Rattle.drive.specs.declared.Part.{Part}
 use Rattle.drive.specs.declared.Seen.{Seen}
 use Rattle.drive.specs.declared.State.{State}
 use Rattle.drive.specs.Results.{ended, report, asks_store, stores, wants_store, finish}
-use borrow.Author.Rules.{rules}
 use Rattle.records.proofs.finish.Goals as goal
 
 module _ (l : State) (c : Change) (e : Ending) (s : Seen) (p : Part) (m : Marks) (q : m ≡ ended l.marks c e) where

@@ -1,4 +1,3 @@
-use borrow.Author.Rules.{rules}
 use borrow.Author.Tests.{eq-eqb, ne_eqb}
 use Rattle.drive.specs.Words.{kind_of}
 use Rattle.records.proofs.kind_of.Goals as goal

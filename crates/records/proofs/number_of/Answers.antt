@@ -1,5 +1,4 @@
 use Rattle.drive.specs.Words.{number_of}
-use borrow.Author.Rules.{rules}
 use Rattle.records.proofs.number_of.Goals as goal
 
 pub returns : goal.returns

@@ -1,5 +1,4 @@
 use Rattle.drive.specs.Records.{retry_ok}
-use borrow.Author.Rules.{rules}
 use Rattle.records.proofs.retry_ok.Goals as goal
 
 pub returns : goal.returns

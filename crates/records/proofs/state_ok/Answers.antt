@@ -1,5 +1,4 @@
 use Rattle.drive.specs.Records.{state_ok}
-use borrow.Author.Rules.{rules}
 use Rattle.records.proofs.state_ok.Goals as goal
 
 pub returns : goal.returns

@@ -1,10 +1,4 @@
-use Rattle.drive.specs.Words.{fails, latches, status_of}
-use mathlib.Core.Bool.{◌||◌}
-use native.Mathlib.Omega.{arith}
-use mathlib.Core.Path.{ap}
-use Rattle.drive.specs.declared.Row.{Row}
-use Rattle.records.proofs.Bytes.{bit_fits, row_fits}
-use borrow.Author.Rules.{rules}
+use Rattle.drive.specs.Words.{status_of}
 use Rattle.records.proofs.status_of.Goals as goal
 
 pub returns : goal.returns

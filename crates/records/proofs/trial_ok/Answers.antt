@@ -1,5 +1,4 @@
 use Rattle.drive.specs.Records.{trial_ok}
-use borrow.Author.Rules.{rules}
 use Rattle.records.proofs.trial_ok.Goals as goal
 
 pub returns : goal.returns

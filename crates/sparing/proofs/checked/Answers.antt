@@ -1,7 +1,6 @@
 use borrow.Author.Tests.{eq-eqb, ne_eqb}
 use Rattle.drive.specs.Sparing.{checked}
 use Rattle.sparing.proofs.Fits.{counts_fit_lem}
-use borrow.Author.Rules.{rules}
 use Rattle.sparing.proofs.checked.Goals as goal
 
 pub returns-then-a-eq3 : goal.returns-then-a-eq3

@@ -1,6 +1,5 @@
 use borrow.Author.Tests.{lt-ltb, le-ltb, le-leb, lt-leb}
 use Rattle.drive.specs.Sparing.{judged, missed, verified}
-use borrow.Author.Rules.{rules}
 use Rattle.sparing.proofs.judge.Goals as goal
 
 pub returns-then-r-lt100 : goal.returns-then-r-lt100

@@ -1,6 +1,5 @@
 use Rattle.drive.specs.Sparing.{next_spare}
 use Rattle.table.proofs.Next.{next_at, next_none}
-use borrow.Author.Rules.{rules}
 use Rattle.sparing.proofs.next_spare.Goals as goal
 
 pub returns-in-At : goal.returns-in-At

@@ -1,5 +1,4 @@
 use Rattle.drive.specs.Sparing.{stopped}
-use borrow.Author.Rules.{rules}
 use Rattle.sparing.proofs.stop.Goals as goal
 
 pub returns-then-r : goal.returns-then-r

@@ -1,6 +1,5 @@
 use borrow.Author.Tests.{eq-eqb, ne_eqb}
 use Rattle.drive.specs.Sparing.{tried}
-use borrow.Author.Rules.{rules}
 use Rattle.sparing.proofs.tried.Goals as goal
 
 pub returns-then-a-eq0 : goal.returns-then-a-eq0

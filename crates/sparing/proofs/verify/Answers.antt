@@ -1,7 +1,6 @@
 use mathlib.Core.Path.{sym, ap, ◌∙◌}
 use Rattle.lists.specs.Lists.{member_of}
 use Rattle.drive.specs.Sparing.{verified}
-use borrow.Author.Rules.{rules}
 use Rattle.sparing.proofs.verify.Goals as goal
 
 pub returns-then-r : goal.returns-then-r

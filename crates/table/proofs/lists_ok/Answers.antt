@@ -3,7 +3,6 @@ use borrow.Author.Tests.{eqb-true}
 use Rattle.logic.proofs.Bools.{and_left, and_right}
 use Rattle.lists.specs.Lists.{entries_ok}
 use Rattle.table.specs.Tables.{lists_ok}
-use borrow.Author.Rules.{rules}
 use Rattle.table.proofs.lists_ok.Goals as goal
 
 pub returns-then-n-m : goal.returns-then-n-m

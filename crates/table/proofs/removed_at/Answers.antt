@@ -1,9 +1,5 @@
 use mathlib.Core.Path.{◌≡◌}
-use mathlib.Core.List.{◌++◌}
-use Prim.Native.Nat.{◌≤◌, ◌-◌}
-use lib.ListN.{length, take, drop}
-use Rattle.table.proofs.Arrays.{gap, gap_start, gap_step, gap_end}
-use borrow.Author.Rules.{rules}
+use Rattle.table.proofs.Arrays.{gap_step, gap_end}
 use native.Mathlib.Omega.{arith}
 use Rattle.table.proofs.removed_at.Goals as goal
 

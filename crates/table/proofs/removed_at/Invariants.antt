@@ -2,9 +2,7 @@ use mathlib.Core.Path.{◌≡◌}
 use mathlib.Core.List.{◌++◌}
 use Prim.Native.Nat.{◌≤◌, ◌-◌}
 use lib.ListN.{length, take, drop}
-use Rattle.table.proofs.Arrays.{gap, gap_start, gap_step, gap_end}
-use borrow.Author.Rules.{rules}
-use native.Mathlib.Omega.{arith}
+use Rattle.table.proofs.Arrays.{gap}
 use Rattle.table.proofs.removed_at.Given as goal
 
 abbrev pub invariant-loop-i : goal.invariant-loop-i

@@ -1,7 +1,6 @@
 use borrow.Author.Tests.{lt-ltb, le-ltb}
 use Rattle.lists.proofs.Laws.{member_index}
 use Rattle.table.specs.Tables.{sector_of}
-use borrow.Author.Rules.{rules}
 use Rattle.table.proofs.sector_of.Goals as goal
 
 pub returns-then-k-spares : goal.returns-then-k-spares

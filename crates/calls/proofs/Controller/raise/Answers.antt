@@ -1,6 +1,5 @@
 use mathlib.Core.Path.{◌∙◌}
 use Rattle.drive.specs.Calls.{step_of}
-use borrow.Author.Rules.{rules}
 use Rattle.calls.proofs.Controller.raise.Goals as goal
 
 pub returns : goal.returns

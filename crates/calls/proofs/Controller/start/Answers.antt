@@ -1,8 +1,6 @@
 use borrow.Author.Tests.{eq-eqb, ne_eqb}
-use native.Mathlib.Omega.{arith}
 use Rattle.drive.specs.Calls.{start_of}
 use Rattle.calls.proofs.Buffers.{filled}
-use borrow.Author.Rules.{rules}
 use Rattle.calls.proofs.Controller.start.Goals as goal
 
 pub returns-then-buf-ne536 : goal.returns-then-buf-ne536

@@ -3,7 +3,6 @@ use Rattle.logic.proofs.Bools.{clash}
 use Rattle.image.specs.declared.Image.{Image}
 use Rattle.accesses.proofs.Answers.{is_formed}
 use Rattle.calls.proofs.Loads.{loads}
-use borrow.Author.Rules.{rules}
 use Rattle.calls.proofs.tables.load.Goals as goal
 
 pub returns-in_default : goal.returns-in_default

@@ -1,5 +1,4 @@
 use Rattle.image.specs.Layouts.{entry_at}
-use borrow.Author.Rules.{rules}
 use Rattle.codec.proofs.entries.entry_at.Goals as goal
 
 pub returns : goal.returns

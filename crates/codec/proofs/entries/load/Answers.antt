@@ -1,11 +1,9 @@
-use mathlib.Core.Path.{◌≡◌, refl}
-use mathlib.Core.List.{◌++◌}
-use Prim.Native.Nat.{◌≤◌, ◌-◌, ◌*◌}
+use mathlib.Core.Path.{refl}
+use Prim.Native.Nat.{◌*◌}
 use native.Mathlib.Numerals.{add-one}
-use lib.ListN.{length, drop, length-set}
-use Rattle.image.proofs.Layouts.{mul_below, entries_length, entry_drop, entries_snoc, store_step}
+use lib.ListN.{drop, length-set}
+use Rattle.image.proofs.Layouts.{entries_length, entry_drop, entries_snoc, store_step}
 use Rattle.image.specs.Layouts.{entries_from, entry_at}
-use borrow.Author.Rules.{rules}
 use native.Mathlib.Omega.{arith}
 use Rattle.codec.proofs.entries.load.Goals as goal
 

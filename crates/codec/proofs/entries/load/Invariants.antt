@@ -1,12 +1,8 @@
-use mathlib.Core.Path.{◌≡◌, refl}
+use mathlib.Core.Path.{◌≡◌}
 use mathlib.Core.List.{◌++◌}
-use Prim.Native.Nat.{◌≤◌, ◌-◌, ◌*◌}
-use native.Mathlib.Numerals.{add-one}
-use lib.ListN.{length, drop, length-set}
-use Rattle.image.proofs.Layouts.{mul_below, entries_length, entry_drop, entries_snoc, store_step}
-use Rattle.image.specs.Layouts.{entries_from, entry_at}
-use borrow.Author.Rules.{rules}
-use native.Mathlib.Omega.{arith}
+use Prim.Native.Nat.{◌≤◌, ◌-◌}
+use lib.ListN.{length, drop}
+use Rattle.image.specs.Layouts.{entries_from}
 use Rattle.codec.proofs.entries.load.Given as goal
 
 abbrev pub invariant-loop-k : goal.invariant-loop-k

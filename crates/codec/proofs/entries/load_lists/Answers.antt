@@ -1,5 +1,4 @@
 use Rattle.image.proofs.Reading.{loaded_test}
-use borrow.Author.Rules.{rules}
 use Rattle.codec.proofs.entries.load_lists.Goals as goal
 
 pub returns-then-lists_ok : goal.returns-then-lists_ok

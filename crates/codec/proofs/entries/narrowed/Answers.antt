@@ -1,6 +1,5 @@
 use borrow.Author.Tests.{lt-ltb, le-ltb, eq-eqb, ne_eqb}
 use Rattle.image.specs.Layouts.{narrow}
-use borrow.Author.Rules.{rules}
 use Rattle.codec.proofs.entries.narrowed.Goals as goal
 
 pub returns-then-v-eq16777214 : goal.returns-then-v-eq16777214

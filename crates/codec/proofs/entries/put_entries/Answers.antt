@@ -1,13 +1,12 @@
 use mathlib.Core.Path.{◌≡◌, refl, sym, ap, ◌∙◌}
-use Prim.Native.Nat.{◌≤◌, ◌-◌, ◌+◌, ◌*◌}
+use Prim.Native.Nat.{◌≤◌, ◌+◌, ◌*◌}
 use native.Mathlib.Numerals.{add-one}
 use lib.ListN.{length, take}
-use lib.Seq.{take_all, length-take-le}
+use lib.Seq.{length-take-le}
 use Rattle.buffer.specs.Runs.{over, sum}
 use Rattle.buffer.proofs.Over.{over_none, over_length}
 use Rattle.image.proofs.Layouts.{triples_length, written_step, summed_step}
 use Rattle.image.specs.Layouts.{triples}
-use borrow.Author.Rules.{rules}
 use native.Mathlib.Omega.{arith}
 use Rattle.codec.proofs.entries.put_entries.Goals as goal
 

@@ -1,6 +1,5 @@
 use Rattle.image.specs.Layouts.{triple}
 use native.Mathlib.Omega.{arith}
-use borrow.Author.Rules.{rules}
 use Rattle.codec.proofs.entries.put_entry.Goals as goal
 
 pub returns : goal.returns

@@ -1,5 +1,4 @@
 use Rattle.image.proofs.Writing.{built}
-use borrow.Author.Rules.{rules}
 use Rattle.codec.proofs.form_a.build.Goals as goal
 
 pub returns : goal.returns

@@ -1,5 +1,4 @@
 use Rattle.image.specs.FormA.{framed_a}
-use borrow.Author.Rules.{rules}
 use Rattle.codec.proofs.form_a.is_framed.Goals as goal
 
 pub returns : goal.returns

@@ -3,7 +3,6 @@ use mathlib.Core.List.{[], ◌∷◌}
 use native.Mathlib.Omega.{arith}
 use Rattle.buffer.proofs.Over.{over_over}
 use Rattle.image.specs.FormA.{header}
-use borrow.Author.Rules.{rules}
 use Rattle.codec.proofs.form_a.put_head.Goals as goal
 
 pub returns : goal.returns

@@ -1,5 +1,4 @@
 use Rattle.image.proofs.Writing.{list_written}
-use borrow.Author.Rules.{rules}
 use Rattle.codec.proofs.form_a.put_list.Goals as goal
 
 pub returns : goal.returns

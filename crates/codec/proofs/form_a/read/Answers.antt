@@ -1,12 +1,8 @@
-use mathlib.Core.Path.{◌≡◌, sym, ap, ◌∙◌}
-use mathlib.Core.Bool.{true, false}
-use borrow.Author.Tests.{not-true, not-false}
-use borrow.Author.Rules.{rules}
-use native.Mathlib.Omega.{arith}
+use mathlib.Core.Path.{sym, ap, ◌∙◌}
 use Rattle.image.specs.declared.Layout.{Layout}
 use Rattle.image.specs.Layouts.{counts_fit}
-use Rattle.image.specs.FormA.{layout_a, framed_a}
-use Rattle.image.proofs.Reading.{few_spares, few_bads, a_long, a_unframed, a_framed}
+use Rattle.image.specs.FormA.{framed_a}
+use Rattle.image.proofs.Reading.{a_long, a_unframed, a_framed}
 use Rattle.codec.proofs.form_a.read.Goals as goal
 
 pub returns-then-not-counts_fit : goal.returns-then-not-counts_fit

@@ -1,5 +1,4 @@
 use Rattle.image.proofs.WritingB.{built}
-use borrow.Author.Rules.{rules}
 use Rattle.codec.proofs.form_b.build.Goals as goal
 
 pub returns : goal.returns

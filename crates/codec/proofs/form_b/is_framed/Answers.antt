@@ -1,8 +1,7 @@
-use mathlib.Core.Path.{◌≡◌, ap}
+use mathlib.Core.Path.{◌≡◌}
 use Prim.Native.Nat.{◌+◌, ◌-◌, ◌*◌}
 use native.Mathlib.Omega.{arith}
 use Rattle.image.specs.FormB.{framed_b}
-use borrow.Author.Rules.{rules}
 use Rattle.codec.proofs.form_b.is_framed.Goals as goal
 
 pub returns : goal.returns

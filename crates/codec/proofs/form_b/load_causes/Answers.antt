@@ -1,12 +1,9 @@
-use mathlib.Core.Path.{◌≡◌, refl}
-use mathlib.Core.List.{◌++◌}
-use Prim.Native.Nat.{◌≤◌, ◌-◌, ◌*◌, ◌+◌}
+use mathlib.Core.Path.{refl}
 use native.Mathlib.Numerals.{add-one}
-use lib.ListN.{length, drop, replicate, length-set}
+use lib.ListN.{drop, replicate, length-set}
 use Rattle.image.proofs.Layouts.{store_step}
 use Rattle.image.proofs.ReadingB.{causes_length, causes_snoc}
 use Rattle.image.specs.FormB.{causes_from}
-use borrow.Author.Rules.{rules}
 use native.Mathlib.Omega.{arith}
 use Rattle.codec.proofs.form_b.load_causes.Goals as goal
 

@@ -1,13 +1,8 @@
-use mathlib.Core.Path.{◌≡◌, refl}
+use mathlib.Core.Path.{◌≡◌}
 use mathlib.Core.List.{◌++◌}
-use Prim.Native.Nat.{◌≤◌, ◌-◌, ◌*◌, ◌+◌}
-use native.Mathlib.Numerals.{add-one}
-use lib.ListN.{length, drop, replicate, length-set}
-use Rattle.image.proofs.Layouts.{store_step}
-use Rattle.image.proofs.ReadingB.{causes_length, causes_snoc}
+use Prim.Native.Nat.{◌≤◌, ◌-◌}
+use lib.ListN.{length, drop, replicate}
 use Rattle.image.specs.FormB.{causes_from}
-use borrow.Author.Rules.{rules}
-use native.Mathlib.Omega.{arith}
 use Rattle.codec.proofs.form_b.load_causes.Given as goal
 
 abbrev pub invariant-loop-k : goal.invariant-loop-k

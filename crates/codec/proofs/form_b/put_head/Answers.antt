@@ -1,6 +1,5 @@
 use native.Mathlib.Omega.{arith}
 use Rattle.image.proofs.WritingB.{head_bytes_lem}
-use borrow.Author.Rules.{rules}
 use Rattle.codec.proofs.form_b.put_head.Goals as goal
 
 pub returns : goal.returns

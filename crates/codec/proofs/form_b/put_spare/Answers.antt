@@ -1,6 +1,5 @@
 use Rattle.image.specs.Layouts.{triple}
 use Rattle.image.specs.FormB.{quad}
-use borrow.Author.Rules.{rules}
 use native.Mathlib.Omega.{arith}
 use Rattle.codec.proofs.form_b.put_spare.Goals as goal
 

@@ -1,5 +1,4 @@
 use Rattle.image.specs.FormB.{two_bytes}
-use borrow.Author.Rules.{rules}
 use Rattle.codec.proofs.form_b.put_sum.Goals as goal
 
 pub returns : goal.returns

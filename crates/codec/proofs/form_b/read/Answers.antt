@@ -1,13 +1,8 @@
-use mathlib.Core.Path.{◌≡◌, sym, ap, ◌∙◌}
-use mathlib.Core.Bool.{true, false}
-use borrow.Author.Tests.{not-true, not-false}
-use borrow.Author.Rules.{rules}
-use native.Mathlib.Omega.{arith}
-use Rattle.table.specs.Tables.{causes_ok}
+use mathlib.Core.Path.{sym, ap, ◌∙◌}
 use Rattle.image.specs.declared.Layout.{Layout}
 use Rattle.image.specs.Layouts.{counts_fit}
-use Rattle.image.specs.FormB.{layout_b, framed_b}
-use Rattle.image.proofs.Reading.{few_spares, few_bads, causes_in_lem, causes_of_lem, b_sum, b_long, b_unframed, b_causes, b_framed}
+use Rattle.image.specs.FormB.{framed_b}
+use Rattle.image.proofs.Reading.{causes_in_lem, causes_of_lem, b_sum, b_long, b_unframed, b_causes, b_framed}
 use Rattle.codec.proofs.form_b.read.Goals as goal
 
 pub returns-then-not-sum_fits : goal.returns-then-not-sum_fits

@@ -2,7 +2,6 @@ use mathlib.Core.Path.{sym}
 use lib.Seq.{length-take-le}
 use native.Mathlib.Omega.{arith}
 use Rattle.image.specs.FormB.{sum_fits}
-use borrow.Author.Rules.{rules}
 use Rattle.codec.proofs.form_b.sum_fits.Goals as goal
 
 pub slice_bounds-sum-end : goal.slice_bounds-sum-end

@@ -1,6 +1,5 @@
 use native.Mathlib.Omega.{arith}
 use Rattle.image.specs.FormB.{two_at}
-use borrow.Author.Rules.{rules}
 use Rattle.codec.proofs.form_b.two_at.Goals as goal
 
 pub returns : goal.returns

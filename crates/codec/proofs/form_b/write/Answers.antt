@@ -1,6 +1,5 @@
 use borrow.Author.Tests.{eq-eqb, ne_eqb, le-leb, lt-leb}
 use Rattle.image.specs.Images.{written_b}
-use borrow.Author.Rules.{rules}
 use Rattle.codec.proofs.form_b.write.Goals as goal
 
 pub returns-then-out-ne532 : goal.returns-then-out-ne532

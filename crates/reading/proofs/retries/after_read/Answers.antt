@@ -1,6 +1,5 @@
 use borrow.Author.Tests.{eq-eqb, ne_eqb}
 use Rattle.drive.specs.Retries.{after_read}
-use borrow.Author.Rules.{rules}
 use Rattle.reading.proofs.retries.after_read.Goals as goal
 
 pub returns-then-r : goal.returns-then-r

@@ -1,5 +1,4 @@
 use Rattle.drive.specs.Retries.{failed}
-use borrow.Author.Rules.{rules}
 use Rattle.reading.proofs.retries.fail.Goals as goal
 
 pub returns : goal.returns

@@ -1,4 +1,3 @@
-use borrow.Author.Tests.{eq-eqb, ne_eqb}
 use Rattle.reading.proofs.Fits.{spent_fits}
 use native.Mathlib.Omega.{arith}
 use Rattle.reading.proofs.retries.spent_after.Goals as goal

@@ -1,6 +1,5 @@
 use borrow.Author.Tests.{lt-ltb, le-ltb}
 use Rattle.table.specs.Tables.{causes_killed}
-use borrow.Author.Rules.{rules}
 use Rattle.table.proofs.Table.kill_cause.Goals as goal
 
 pub returns-then-n-ge32 : goal.returns-then-n-ge32

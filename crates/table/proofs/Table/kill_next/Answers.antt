@@ -1,6 +1,5 @@
 use borrow.Author.Tests.{lt-ltb, le-ltb}
 use Rattle.table.specs.Tables.{killed_next}
-use borrow.Author.Rules.{rules}
 use Rattle.table.proofs.Table.kill_next.Goals as goal
 
 pub returns-then-n-ge32 : goal.returns-then-n-ge32

@@ -2,7 +2,6 @@ use borrow.Author.Tests.{lt-ltb, le-ltb}
 use lib.ListN.{take, length-take}
 use Rattle.lists.proofs.Laws.{index_most}
 use Rattle.table.specs.Tables.{causes_listed}
-use borrow.Author.Rules.{rules}
 use native.Mathlib.Omega.{arith}
 use Rattle.table.proofs.Table.list_causes.Goals as goal
 

@@ -1,6 +1,5 @@
 use borrow.Author.Tests.{lt-ltb, le-ltb}
 use Rattle.table.specs.Tables.{with_bad}
-use borrow.Author.Rules.{rules}
 use Rattle.table.proofs.Table.with_bad.Goals as goal
 
 pub returns-then-m-ge100 : goal.returns-then-m-ge100

@@ -1,10 +1,6 @@
 use borrow.Author.Tests.{lt-ltb, le-ltb}
-use mathlib.Core.Path.{◌≡◌}
-use lib.ListN.{length, length-take}
 use Rattle.lists.proofs.Laws.{member_index}
 use Rattle.table.specs.Tables.{without_bad, bad_list}
-use borrow.Author.Rules.{rules}
-use native.Mathlib.Omega.{arith}
 use Rattle.table.proofs.Table.without_bad.Goals as goal
 
 pub returns-then-list-k : goal.returns-then-list-k
