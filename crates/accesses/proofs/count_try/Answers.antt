@@ -1,3 +1,4 @@
+-- `accesses::count_try` meets its contract.
 use borrow.Author.Tests.{le-ltb, lt-ltb}
 use Rattle.drive.specs.Access.{start_answered}
 use Rattle.accesses.proofs.count_try.Goals as goal

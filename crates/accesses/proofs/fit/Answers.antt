@@ -1,3 +1,4 @@
+-- `accesses::fit` meets its contract: each test in turn.
 use mathlib.Core.Path.{sym, ◌∙◌}
 use Rattle.drive.specs.Access.{answered, fitting}
 use Rattle.accesses.proofs.fit.Goals as goal

@@ -1,3 +1,4 @@
+-- `accesses::follow` meets its contract.
 use Rattle.drive.specs.Access.{follows, write_answered}
 use Rattle.accesses.proofs.Answers.{read_bads}
 use mathlib.Core.List.{[]}

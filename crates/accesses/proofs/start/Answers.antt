@@ -1,3 +1,4 @@
+-- `accesses::start` meets its contract: the table exactly for a well-formed image.
 use mathlib.Core.Path.{ap}
 use borrow.Author.Tests.{ne_eqb}
 use Rattle.image.specs.declared.Image.{Image}

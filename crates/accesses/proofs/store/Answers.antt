@@ -1,3 +1,4 @@
+-- `accesses::store` meets its contract.
 use Rattle.drive.specs.Access.{store_answered}
 use Rattle.accesses.proofs.store.Goals as goal
 

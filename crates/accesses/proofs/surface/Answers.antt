@@ -1,3 +1,4 @@
+-- `accesses::surface` meets its contract.
 use Rattle.drive.specs.Access.{answered}
 use Rattle.accesses.proofs.Answers.{awaited_ok}
 use Rattle.accesses.proofs.surface.Goals as goal

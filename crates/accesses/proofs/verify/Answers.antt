@@ -1,3 +1,4 @@
+-- `accesses::verify` meets its contract.
 use borrow.Author.Tests.{eq-eqb, ne_eqb}
 use Rattle.drive.specs.Access.{verify_answered}
 use Rattle.accesses.proofs.verify.Goals as goal

@@ -1,3 +1,4 @@
+-- `accesses::write` meets its contract.
 use borrow.Author.Tests.{eq-eqb, ne_eqb}
 use Rattle.drive.specs.Access.{write_answered}
 use Rattle.accesses.proofs.write.Goals as goal

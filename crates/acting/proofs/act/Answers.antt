@@ -1,3 +1,4 @@
+-- `acting::act` meets its contract: each return follows the tests that were passed.
 use mathlib.Core.Path.{sym, ◌∙◌}
 use native.Mathlib.Omega.{arith}
 use borrow.Author.Tests.{lt-ltb, le-ltb, ltb-true}

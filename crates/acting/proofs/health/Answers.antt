@@ -1,3 +1,4 @@
+-- `acting::health` meets its contract.
 use Rattle.drive.specs.Handshake.{health}
 use Rattle.acting.proofs.health.Goals as goal
 

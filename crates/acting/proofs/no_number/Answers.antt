@@ -1,3 +1,4 @@
+-- `acting::no_number` meets its contract.
 use Rattle.drive.specs.Handshake.{no_number}
 use Rattle.acting.proofs.no_number.Goals as goal
 

@@ -1,3 +1,4 @@
+-- `acting::overrun` meets its contract.
 use borrow.Author.Tests.{lt-ltb, le-ltb}
 use Rattle.drive.specs.Handshake.{overruns}
 use Rattle.acting.proofs.overrun.Goals as goal

@@ -1,3 +1,4 @@
+-- `acting::write` meets its contract.
 use Rattle.drive.specs.Handshake.{writes}
 use mathlib.Core.Path.{◌≡◌}
 use lib.ListN.{take}

@@ -1,3 +1,4 @@
+-- `buffer::all_are` meets its contract: ok gathers what was passed.
 use mathlib.Core.Path.{sym, ◌∙◌}
 use Rattle.buffer.proofs.Compare.{all_step, all_end}
 use native.Mathlib.Omega.{arith}

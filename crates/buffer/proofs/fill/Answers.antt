@@ -1,3 +1,4 @@
+-- `buffer::fill` meets its contract: v is written i times already.
 use mathlib.Core.Path.{refl, sym}
 use native.Mathlib.Numerals.{add-one}
 use lib.ListN.{replicate, length-set, length-replicate}

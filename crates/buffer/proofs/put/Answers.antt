@@ -1,3 +1,4 @@
+-- `buffer::put` meets its contract: the first i of the run are written already.
 use mathlib.Core.Path.{refl, sym}
 use native.Mathlib.Numerals.{add-one}
 use lib.ListN.{take, get_or, length-set}

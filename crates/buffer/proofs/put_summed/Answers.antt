@@ -1,3 +1,4 @@
+-- `buffer::put_summed` meets its contract: the first i of the run are written already, and t is their sum.
 use mathlib.Core.Path.{refl, sym, ap, ◌∙◌}
 use native.Mathlib.Numerals.{add-one}
 use lib.ListN.{take, get_or, length-set}

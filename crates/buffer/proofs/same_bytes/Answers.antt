@@ -1,3 +1,4 @@
+-- `buffer::same_bytes` meets its contract: ok gathers what was passed of both.
 use mathlib.Core.Path.{sym, ◌∙◌}
 use Rattle.buffer.proofs.Compare.{same_longer, same_step, same_end}
 use native.Mathlib.Omega.{arith}

@@ -1,3 +1,4 @@
+-- `buffer::sum` meets its contract: t is the sum of what was passed.
 use mathlib.Core.Path.{sym, ◌∙◌}
 use Rattle.buffer.proofs.Sums.{sum_step, sum_end}
 use native.Mathlib.Omega.{arith}

@@ -1,3 +1,4 @@
+-- `calls::convert` meets its contract: the lengths, then what the reader found, then the form decide.
 use mathlib.Core.Path.{sym, ap, ◌∙◌}
 use borrow.Author.Tests.{eq-eqb, ne_eqb}
 use Rattle.image.specs.declared.Image.{Image}

@@ -1,3 +1,4 @@
+-- `calls::equal` meets its contract.
 use mathlib.Core.Path.{sym, ◌∙◌}
 use Rattle.calls.proofs.Buffers.{as_compared}
 use Rattle.calls.proofs.equal.Goals as goal

@@ -1,3 +1,4 @@
+-- `calls::guard` meets its contract.
 use Rattle.drive.specs.Records.{record_ok}
 use Rattle.calls.proofs.guard.Goals as goal
 

@@ -1,3 +1,4 @@
+-- `calls::lower` meets its contract.
 use lib.ListN.{length}
 use Rattle.calls.proofs.Guarded.{sound, refused, given}
 use Rattle.calls.proofs.Keeping.{lower_keeps}

@@ -1,3 +1,4 @@
+-- `calls::raise` meets its contract.
 use lib.ListN.{length}
 use Rattle.calls.proofs.Guarded.{sound, refused, given}
 use Rattle.calls.proofs.Keeping.{raise_keeps}

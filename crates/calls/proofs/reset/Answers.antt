@@ -1,3 +1,4 @@
+-- `calls::reset` meets its contract.
 use Rattle.calls.proofs.Guarded.{refused, given}
 use Rattle.calls.proofs.Keeping.{reset_keeps, reset_leaves}
 use Rattle.drive.specs.Calls.{step_of, reset_of}

@@ -1,3 +1,4 @@
+-- `calls::surface` meets its contract.
 use lib.ListN.{length}
 use Rattle.calls.proofs.Guarded.{sound, surface_refused, surface_given}
 use Rattle.calls.proofs.Keeping.{no_spares, answered_formed}

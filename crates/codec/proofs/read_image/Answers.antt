@@ -1,3 +1,4 @@
+-- `codec::read_image` meets its contract: the length, then the form decides.
 use borrow.Author.Tests.{eq-eqb, ne_eqb}
 use Rattle.image.proofs.Reading.{read_short, read_b_lem, read_a_lem}
 use mathlib.Core.Path.{sym, ◌∙◌}

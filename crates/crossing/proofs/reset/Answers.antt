@@ -1,3 +1,4 @@
+-- `crossing::reset` meets its contract.
 use mathlib.Core.List.{List}
 use Prim.Native.Nat.{ℕ}
 use Rattle.table.specs.declared.Table.{Table}

@@ -1,3 +1,4 @@
+-- `geometry::home` meets its contract: one test, of which each answer is a case of `home_of`.
 use borrow.Author.Tests.{lt-ltb, le-ltb}
 use Rattle.geometry.specs.Geometry.{home_of}
 use Rattle.geometry.proofs.home.Goals as goal

@@ -1,3 +1,4 @@
+-- `handshake::feed` meets its contract.
 use Rattle.drive.specs.Handshake.{fed_to}
 use Rattle.handshake.proofs.feed.Goals as goal
 

@@ -1,3 +1,4 @@
+-- `handshake::go_on` meets its contract.
 use Rattle.drive.specs.Handshake.{goes_on}
 use Rattle.handshake.proofs.go_on.Goals as goal
 

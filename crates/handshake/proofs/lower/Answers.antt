@@ -1,3 +1,4 @@
+-- `handshake::lower` meets its contract.
 use Rattle.drive.specs.Handshake.{lowered}
 use Rattle.handshake.proofs.lower.Goals as goal
 

@@ -1,3 +1,4 @@
+-- `handshake::offer_for` meets its contract.
 use Rattle.drive.specs.Handshake.{offer_for}
 use Rattle.handshake.proofs.offer_for.Goals as goal
 

@@ -1,3 +1,4 @@
+-- `handshake::raise` meets its contract.
 use Rattle.drive.specs.Handshake.{raised}
 use Rattle.handshake.proofs.raise.Goals as goal
 

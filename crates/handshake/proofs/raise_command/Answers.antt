@@ -1,3 +1,4 @@
+-- `handshake::raise_command` meets its contract.
 use Rattle.drive.specs.Handshake.{raised}
 use Rattle.handshake.proofs.raise_command.Goals as goal
 

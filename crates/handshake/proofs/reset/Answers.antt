@@ -1,3 +1,4 @@
+-- `handshake::reset` meets its contract.
 use Rattle.drive.specs.Handshake.{rested}
 use Rattle.handshake.proofs.reset.Goals as goal
 

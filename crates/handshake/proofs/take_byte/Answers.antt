@@ -1,3 +1,4 @@
+-- `handshake::take_byte` meets its contract.
 use Rattle.drive.specs.Handshake.{lowered}
 use borrow.Author.Tests.{eq-eqb, ne_eqb}
 use Rattle.handshake.proofs.take_byte.Goals as goal

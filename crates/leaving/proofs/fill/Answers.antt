@@ -1,3 +1,4 @@
+-- `leaving::fill` meets its contract: no more is written than there is room for.
 use mathlib.Core.Path.{sym}
 use Rattle.leaving.proofs.Buffers.{none_filled}
 use Rattle.leaving.proofs.fill.Goals as goal

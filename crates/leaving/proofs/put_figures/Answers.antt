@@ -1,3 +1,4 @@
+-- `leaving::put_figures` meets its contract.
 use mathlib.Core.Path.{refl}
 use Rattle.leaving.proofs.Buffers.{runs_put}
 use Rattle.leaving.proofs.put_figures.Goals as goal

@@ -1,3 +1,4 @@
+-- `leaving::put_image` meets its contract.
 use Rattle.leaving.proofs.Buffers.{part_put}
 use Rattle.leaving.proofs.put_image.Goals as goal
 

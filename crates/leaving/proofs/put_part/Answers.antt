@@ -1,3 +1,4 @@
+-- `leaving::put_part` meets its contract.
 use Rattle.drive.specs.Results.{part_left}
 use Rattle.leaving.proofs.put_part.Goals as goal
 

@@ -1,3 +1,4 @@
+-- `leaving::put_status` meets its contract.
 use Rattle.drive.specs.Results.{status_left}
 use Rattle.buffer.specs.Runs.{over}
 use Rattle.drive.specs.Words.{data_of}

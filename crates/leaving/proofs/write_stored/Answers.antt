@@ -1,3 +1,4 @@
+-- `leaving::write_stored` meets its contract.
 use Rattle.leaving.proofs.Buffers.{stored_whole}
 use Rattle.leaving.proofs.write_stored.Goals as goal
 

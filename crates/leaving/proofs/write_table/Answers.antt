@@ -1,3 +1,4 @@
+-- `leaving::write_table` meets its contract.
 use Rattle.leaving.proofs.Buffers.{image_whole}
 use Rattle.leaving.proofs.write_table.Goals as goal
 

@@ -1,3 +1,4 @@
+-- `leaving::zero` meets its contract: the zeros reach the end.
 use mathlib.Core.Path.{◌∙◌}
 use Rattle.leaving.proofs.Buffers.{zeros_end}
 use Rattle.leaving.proofs.zero.Goals as goal

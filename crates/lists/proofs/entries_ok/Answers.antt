@@ -1,3 +1,4 @@
+-- `lists::entries_ok` meets its contract: the list is cut from its array, and an empty one passes.
 use Rattle.lists.specs.Lists.{entries_ok}
 use Rattle.lists.proofs.entries_ok.Goals as goal
 

@@ -1,3 +1,4 @@
+-- `lists::entry_ok` meets its contract: a block that the rest cannot hold may be before it.
 use mathlib.Core.Path.{sym}
 use borrow.Author.Tests.{leb-false, lt-ltb}
 use lib.Dec.{leb}

@@ -1,3 +1,4 @@
+-- `lists::find` meets its contract: x is at none of the places passed.
 use Rattle.lists.proofs.Walk.{index_hit, index_miss, index_end}
 use native.Mathlib.Omega.{arith}
 use Rattle.lists.proofs.find.Goals as goal

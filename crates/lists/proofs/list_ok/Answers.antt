@@ -1,3 +1,4 @@
+-- `lists::list_ok` meets its contract: no class is seen at first.
 use native.Mathlib.Omega.{arith}
 use Rattle.lists.proofs.Walk.{none_seen}
 use Rattle.lists.proofs.list_ok.Goals as goal

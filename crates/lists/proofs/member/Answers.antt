@@ -1,3 +1,4 @@
+-- `lists::member` meets its contract: hit gathers what was passed.
 use mathlib.Core.Path.{sym, ◌∙◌}
 use Rattle.lists.proofs.Walk.{gathered, gathered_all}
 use native.Mathlib.Omega.{arith}

@@ -1,3 +1,4 @@
+-- `lists::pass` meets its contract: from place i on the entries pass, and a class not seen has none of them.
 use mathlib.Core.Path.{◌≡◌, refl, sym, ◌∙◌}
 use mathlib.Core.Bool.{Bool, true}
 use Prim.Native.Nat.{ℕ, ◌+◌, ◌≤◌, ◌-◌, ◌<◌, ◌%◌}

@@ -1,3 +1,4 @@
+-- `lists::searched` meets its contract, test by test.
 use borrow.Author.Tests.{eq-eqb, ne_eqb}
 use Rattle.lists.specs.Lists.{entry_ok}
 use Rattle.lists.proofs.searched.Goals as goal

@@ -1,3 +1,4 @@
+-- `packed::pack_state` meets its contract.
 use mathlib.Core.List.{[], ◌∷◌}
 use Prim.Native.Nat.{◌/◌, ◌%◌}
 use Rattle.packed.specs.declared.Stage.{Stage}

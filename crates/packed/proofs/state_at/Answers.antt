@@ -1,3 +1,4 @@
+-- `packed::state_at` meets its contract.
 use mathlib.Core.Path.{ap, ◌∙◌}
 use Rattle.packed.specs.Packing.{phase_of, state_at}
 use Rattle.packed.proofs.state_at.Goals as goal

@@ -1,3 +1,4 @@
+-- `print_parity::put_lines` meets its contract: the lines of the first n entries are written already.
 use mathlib.Core.Path.{◌≡◌, sym, ap, ◌∙◌}
 use Prim.Native.Nat.{◌+◌}
 use native.Mathlib.Omega.{arith}

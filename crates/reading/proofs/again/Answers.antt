@@ -1,3 +1,4 @@
+-- `reading::again` meets its contract.
 use Rattle.drive.specs.Access.{reads}
 use Rattle.reading.proofs.again.Goals as goal
 

@@ -1,3 +1,4 @@
+-- `reading::kept_part` meets its contract.
 use Rattle.drive.specs.Access.{kept_part}
 use Rattle.reading.proofs.kept_part.Goals as goal
 

@@ -1,3 +1,4 @@
+-- `reading::lose` meets its contract.
 use mathlib.Core.Path.{sym, ap, ◌∙◌}
 use Rattle.lists.specs.Lists.{member_of}
 use borrow.Author.Tests.{le-ltb, lt-ltb}

@@ -1,3 +1,4 @@
+-- `reading::read` meets its contract: each outcome's turn.
 use mathlib.Core.Path.{sym}
 use Rattle.drive.specs.Access.{reads}
 use Rattle.reading.proofs.read.Goals as goal

@@ -1,3 +1,4 @@
+-- `reading::settle` meets its contract.
 use borrow.Author.Tests.{le-ltb, lt-ltb}
 use Rattle.drive.specs.Access.{settled}
 use Rattle.reading.proofs.settle.Goals as goal

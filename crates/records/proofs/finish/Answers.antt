@@ -1,3 +1,4 @@
+-- `records::finish` meets its contract.
 use mathlib.Core.Path.{◌≡◌, sym, ◌∙◌}
 use mathlib.Core.Bool.{true, false}
 use Rattle.drive.specs.declared.Change.{Change}

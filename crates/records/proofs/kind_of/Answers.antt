@@ -1,3 +1,4 @@
+-- `records::kind_of` meets its contract.
 use borrow.Author.Tests.{eq-eqb, ne_eqb}
 use Rattle.drive.specs.Words.{kind_of}
 use Rattle.records.proofs.kind_of.Goals as goal

@@ -1,3 +1,4 @@
+-- `records::number_of` meets its contract.
 use Rattle.drive.specs.Words.{number_of}
 use Rattle.records.proofs.number_of.Goals as goal
 

@@ -1,3 +1,4 @@
+-- `records::retry_ok` meets its contract.
 use Rattle.drive.specs.Records.{retry_ok}
 use Rattle.records.proofs.retry_ok.Goals as goal
 

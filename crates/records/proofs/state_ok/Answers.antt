@@ -1,3 +1,4 @@
+-- `records::state_ok` meets its contract.
 use Rattle.drive.specs.Records.{state_ok}
 use Rattle.records.proofs.state_ok.Goals as goal
 

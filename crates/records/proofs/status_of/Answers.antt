@@ -1,3 +1,4 @@
+-- `records::status_of` meets its contract.
 use Rattle.drive.specs.Words.{status_of}
 use Rattle.records.proofs.status_of.Goals as goal
 

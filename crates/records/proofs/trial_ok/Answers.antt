@@ -1,3 +1,4 @@
+-- `records::trial_ok` meets its contract.
 use Rattle.drive.specs.Records.{trial_ok}
 use Rattle.records.proofs.trial_ok.Goals as goal
 

@@ -1,3 +1,4 @@
+-- `sparing::checked` meets its contract.
 use borrow.Author.Tests.{eq-eqb, ne_eqb}
 use Rattle.drive.specs.Sparing.{checked}
 use Rattle.sparing.proofs.Fits.{counts_fit_lem}

@@ -1,3 +1,4 @@
+-- `sparing::judge` meets its contract.
 use borrow.Author.Tests.{lt-ltb, le-ltb, le-leb, lt-leb}
 use Rattle.drive.specs.Sparing.{judged, missed, verified}
 use Rattle.sparing.proofs.judge.Goals as goal

@@ -1,3 +1,4 @@
+-- `sparing::last_after` meets its contract.
 use borrow.Author.Tests.{eq-eqb, ne_eqb}
 use Rattle.drive.specs.Sparing.{last_after}
 use Rattle.sparing.proofs.last_after.Goals as goal

@@ -1,3 +1,4 @@
+-- `sparing::miss` meets its contract.
 use Rattle.drive.specs.Sparing.{missed}
 use Rattle.sparing.proofs.miss.Goals as goal
 

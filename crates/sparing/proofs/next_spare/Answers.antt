@@ -1,3 +1,4 @@
+-- `sparing::next_spare` meets its contract.
 use Rattle.drive.specs.Sparing.{next_spare}
 use Rattle.table.proofs.Next.{next_at, next_none}
 use Rattle.sparing.proofs.next_spare.Goals as goal

@@ -1,3 +1,4 @@
+-- `sparing::stop` meets its contract.
 use Rattle.drive.specs.Sparing.{stopped}
 use Rattle.sparing.proofs.stop.Goals as goal
 

@@ -1,3 +1,4 @@
+-- `sparing::tried` meets its contract.
 use borrow.Author.Tests.{eq-eqb, ne_eqb}
 use Rattle.drive.specs.Sparing.{tried}
 use Rattle.sparing.proofs.tried.Goals as goal

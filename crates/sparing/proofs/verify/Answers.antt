@@ -1,3 +1,4 @@
+-- `sparing::verify` meets its contract.
 use mathlib.Core.Path.{sym, ap, ◌∙◌}
 use Rattle.lists.specs.Lists.{member_of}
 use Rattle.drive.specs.Sparing.{verified}

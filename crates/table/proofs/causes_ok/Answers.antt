@@ -1,3 +1,4 @@
+-- `table::causes_ok` meets its contract: ok gathers what was passed.
 use mathlib.Core.Path.{sym, ap, ◌∙◌}
 use Rattle.table.specs.Tables.{causes_ok}
 use Rattle.table.proofs.Causes.{causes_step, causes_end}

@@ -1,3 +1,4 @@
+-- `table::lists_ok` meets its contract: two empty lists pass, and else there is a chain of tests.
 use lib.Dec.{eqb}
 use borrow.Author.Tests.{eqb-true}
 use Rattle.logic.proofs.Bools.{and_left, and_right}

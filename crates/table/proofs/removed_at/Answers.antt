@@ -1,3 +1,4 @@
+-- `table::removed_at` meets its contract: up to place i the array has its gap already.
 use mathlib.Core.Path.{◌≡◌}
 use Rattle.table.proofs.Arrays.{gap_step, gap_end}
 use native.Mathlib.Omega.{arith}

@@ -1,3 +1,4 @@
+-- `table::sector_of` meets its contract: a place below the length is a member.
 use borrow.Author.Tests.{lt-ltb, le-ltb}
 use Rattle.lists.proofs.Laws.{member_index}
 use Rattle.table.specs.Tables.{sector_of}

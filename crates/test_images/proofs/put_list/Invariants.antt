@@ -1,3 +1,4 @@
+-- `test_images::put_list` is safe and ends.
 use Prim.Native.Nat.{◌≤◌, ◌-◌}
 use mathlib.Core.Path.{◌≡◌}
 use lib.ListN.{length}

@@ -1,3 +1,4 @@
+-- `test_images::put_spares` is safe and ends.
 use Prim.Native.Nat.{◌≤◌, ◌-◌}
 use mathlib.Core.Path.{◌≡◌}
 use lib.ListN.{length}

@@ -1,3 +1,4 @@
+-- `test_script::letter` meets its contract.
 use borrow.Author.Tests.{le-leb, lt-leb}
 use Rattle.test_script.specs.Reading.{name_on}
 use Rattle.test_script.proofs.letter.Goals as goal

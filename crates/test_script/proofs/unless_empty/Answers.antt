@@ -1,3 +1,4 @@
+-- `test_script::unless_empty` meets its contract.
 use borrow.Author.Tests.{eq-eqb, ne_eqb}
 use Rattle.test_script.specs.Reading.{unless_empty}
 use Rattle.test_script.proofs.unless_empty.Goals as goal

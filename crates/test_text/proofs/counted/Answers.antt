@@ -1,3 +1,4 @@
+-- `test_text::counted` meets its contract.
 use borrow.Author.Tests.{eq-eqb, ne_eqb}
 use Rattle.test_text.specs.Reading.{counted_run}
 use Rattle.test_text.proofs.counted.Goals as goal

@@ -1,3 +1,4 @@
+-- `test_text::decimal_digit` meets its contract.
 use mathlib.Core.Path.{sym, ◌∙◌}
 use native.Mathlib.Omega.{arith}
 use Rattle.test_text.specs.Reading.{decimal_digit}

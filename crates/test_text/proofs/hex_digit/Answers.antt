@@ -1,3 +1,4 @@
+-- `test_text::hex_digit` meets its contract, range by range.
 use mathlib.Core.Path.{sym, ◌∙◌}
 use native.Mathlib.Omega.{arith}
 use Rattle.test_text.specs.Reading.{hex_digit}

@@ -1,3 +1,4 @@
+-- `test_text::keep_run` meets its contract.
 use Prim.Native.Nat.{◌+◌}
 use native.Mathlib.Omega.{arith}
 use lib.ListN.{length}

@@ -1,3 +1,4 @@
+-- `test_text::star` meets its contract.
 use borrow.Author.Tests.{eq-eqb, ne_eqb}
 use Rattle.test_text.specs.Reading.{starred}
 use Rattle.test_text.proofs.star.Goals as goal

@@ -1,3 +1,4 @@
+-- `calls::Controller::feed` meets its contract.
 use mathlib.Core.Path.{◌∙◌}
 use Rattle.drive.specs.Calls.{step_of}
 use Rattle.calls.proofs.Controller.feed.Goals as goal

@@ -1,3 +1,4 @@
+-- `calls::Controller::lower` meets its contract.
 use mathlib.Core.Path.{◌∙◌}
 use Rattle.drive.specs.Calls.{step_of}
 use Rattle.calls.proofs.Controller.lower.Goals as goal

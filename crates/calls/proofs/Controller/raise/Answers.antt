@@ -1,3 +1,4 @@
+-- `calls::Controller::raise` meets its contract.
 use mathlib.Core.Path.{◌∙◌}
 use Rattle.drive.specs.Calls.{step_of}
 use Rattle.calls.proofs.Controller.raise.Goals as goal

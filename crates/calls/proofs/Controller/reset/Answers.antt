@@ -1,3 +1,4 @@
+-- `calls::Controller::reset` meets its contract.
 use mathlib.Core.Path.{◌∙◌}
 use Rattle.drive.specs.Calls.{step_of}
 use Rattle.calls.proofs.Controller.reset.Goals as goal

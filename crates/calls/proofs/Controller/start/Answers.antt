@@ -1,3 +1,4 @@
+-- `calls::Controller::start` meets its contract.
 use borrow.Author.Tests.{eq-eqb, ne_eqb}
 use Rattle.drive.specs.Calls.{start_of}
 use Rattle.calls.proofs.Buffers.{filled}

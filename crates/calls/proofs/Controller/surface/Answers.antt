@@ -1,3 +1,4 @@
+-- `calls::Controller::surface` meets its contract.
 use mathlib.Core.Path.{◌∙◌}
 use Rattle.drive.specs.Calls.{step_of}
 use Rattle.calls.proofs.Controller.surface.Goals as goal

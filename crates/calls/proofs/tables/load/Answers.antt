@@ -1,3 +1,4 @@
+-- `calls::tables::load` meets its contract: a well-formed image is found.
 use mathlib.Core.Path.{ap}
 use Rattle.logic.proofs.Bools.{clash}
 use Rattle.image.specs.declared.Image.{Image}

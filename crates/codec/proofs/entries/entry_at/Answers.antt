@@ -1,3 +1,4 @@
+-- `codec::entries::entry_at` meets its contract: three bytes, each its own value.
 use Rattle.image.specs.Layouts.{entry_at}
 use Rattle.codec.proofs.entries.entry_at.Goals as goal
 

@@ -1,3 +1,4 @@
+-- `codec::entries::load` meets its contract: the first k entries are stored already.
 use mathlib.Core.Path.{refl}
 use Prim.Native.Nat.{◌*◌}
 use native.Mathlib.Numerals.{add-one}

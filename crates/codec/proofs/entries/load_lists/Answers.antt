@@ -1,3 +1,4 @@
+-- `codec::entries::load_lists` meets its contract: each array holds its list, and the test is that of the lists.
 use Rattle.image.proofs.Reading.{loaded_test}
 use Rattle.codec.proofs.entries.load_lists.Goals as goal
 

@@ -1,3 +1,4 @@
+-- `codec::entries::narrowed` meets its contract, test by test.
 use borrow.Author.Tests.{lt-ltb, le-ltb, eq-eqb, ne_eqb}
 use Rattle.image.specs.Layouts.{narrow}
 use Rattle.codec.proofs.entries.narrowed.Goals as goal

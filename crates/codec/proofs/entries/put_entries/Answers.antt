@@ -1,3 +1,4 @@
+-- `codec::entries::put_entries` meets its contract: the first k entries are written already, and t is the sum of their bytes.
 use mathlib.Core.Path.{◌≡◌, refl, sym, ap, ◌∙◌}
 use Prim.Native.Nat.{◌≤◌, ◌+◌, ◌*◌}
 use native.Mathlib.Numerals.{add-one}

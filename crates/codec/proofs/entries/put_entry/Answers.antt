@@ -1,3 +1,4 @@
+-- `codec::entries::put_entry` meets its contract.
 use Rattle.image.specs.Layouts.{triple}
 use native.Mathlib.Omega.{arith}
 use Rattle.codec.proofs.entries.put_entry.Goals as goal

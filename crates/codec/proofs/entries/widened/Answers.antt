@@ -1,3 +1,4 @@
+-- `codec::entries::widened` meets its contract.
 use borrow.Author.Tests.{eq-eqb, ne_eqb}
 use native.Mathlib.Omega.{arith}
 use Rattle.image.specs.Layouts.{wide}

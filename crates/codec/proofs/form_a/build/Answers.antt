@@ -1,3 +1,4 @@
+-- `codec::form_a::build` meets its contract: head, both lists and the zeros, each written after the last.
 use Rattle.image.proofs.Writing.{built}
 use Rattle.codec.proofs.form_a.build.Goals as goal
 

@@ -1,3 +1,4 @@
+-- `codec::form_a::is_framed` meets its contract, test by test.
 use Rattle.image.specs.FormA.{framed_a}
 use Rattle.codec.proofs.form_a.is_framed.Goals as goal
 

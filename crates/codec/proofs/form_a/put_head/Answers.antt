@@ -1,3 +1,4 @@
+-- `codec::form_a::put_head` meets its contract: the counts after the header.
 use mathlib.Core.Path.{refl}
 use mathlib.Core.List.{[], ◌∷◌}
 use native.Mathlib.Omega.{arith}

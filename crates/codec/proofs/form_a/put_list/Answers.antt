@@ -1,3 +1,4 @@
+-- `codec::form_a::put_list` meets its contract: the entries, then their mark.
 use Rattle.image.proofs.Writing.{list_written}
 use Rattle.codec.proofs.form_a.put_list.Goals as goal
 

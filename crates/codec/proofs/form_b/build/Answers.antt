@@ -1,3 +1,4 @@
+-- `codec::form_b::build` meets its contract: head, both lists, the zeros and the sum, each written after the last.
 use Rattle.image.proofs.WritingB.{built}
 use Rattle.codec.proofs.form_b.build.Goals as goal
 

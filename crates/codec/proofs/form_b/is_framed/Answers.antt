@@ -1,3 +1,4 @@
+-- `codec::form_b::is_framed` meets its contract, test by test.
 use mathlib.Core.Path.{◌≡◌}
 use Prim.Native.Nat.{◌+◌, ◌-◌, ◌*◌}
 use native.Mathlib.Omega.{arith}

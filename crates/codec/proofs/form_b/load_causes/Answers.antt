@@ -1,3 +1,4 @@
+-- `codec::form_b::load_causes` meets its contract: the first k causes are stored already.
 use mathlib.Core.Path.{refl}
 use native.Mathlib.Numerals.{add-one}
 use lib.ListN.{drop, replicate, length-set}

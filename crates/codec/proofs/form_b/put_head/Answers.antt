@@ -1,3 +1,4 @@
+-- `codec::form_b::put_head` meets its contract.
 use native.Mathlib.Omega.{arith}
 use Rattle.image.proofs.WritingB.{head_bytes_lem}
 use Rattle.codec.proofs.form_b.put_head.Goals as goal

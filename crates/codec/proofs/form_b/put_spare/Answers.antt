@@ -1,3 +1,4 @@
+-- `codec::form_b::put_spare` meets its contract.
 use Rattle.image.specs.Layouts.{triple}
 use Rattle.image.specs.FormB.{quad}
 use native.Mathlib.Omega.{arith}

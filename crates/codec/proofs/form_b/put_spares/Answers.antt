@@ -1,3 +1,4 @@
+-- `codec::form_b::put_spares` meets its contract: the first k entries are written already, and t is the sum of their bytes.
 use mathlib.Core.Path.{◌≡◌, refl, sym, ap, ◌∙◌}
 use Prim.Native.Nat.{◌≤◌, ◌+◌, ◌*◌}
 use lib.ListN.{length, take}

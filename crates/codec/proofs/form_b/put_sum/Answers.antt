@@ -1,3 +1,4 @@
+-- `codec::form_b::put_sum` meets its contract.
 use Rattle.image.specs.FormB.{two_bytes}
 use Rattle.codec.proofs.form_b.put_sum.Goals as goal
 

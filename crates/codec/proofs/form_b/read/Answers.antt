@@ -1,3 +1,4 @@
+-- `codec::form_b::read` meets its contract: each test in turn decides.
 use mathlib.Core.Path.{sym, ap, ◌∙◌}
 use Rattle.image.specs.declared.Layout.{Layout}
 use Rattle.image.specs.Layouts.{counts_fit}

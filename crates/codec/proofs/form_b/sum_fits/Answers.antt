@@ -1,3 +1,4 @@
+-- `codec::form_b::sum_fits` meets its contract.
 use mathlib.Core.Path.{sym}
 use lib.Seq.{length-take-le}
 use native.Mathlib.Omega.{arith}

@@ -1,3 +1,4 @@
+-- `codec::form_b::two_at` meets its contract.
 use native.Mathlib.Omega.{arith}
 use Rattle.image.specs.FormB.{two_at}
 use Rattle.codec.proofs.form_b.two_at.Goals as goal

@@ -1,3 +1,4 @@
+-- `codec::form_b::write` meets its contract, test by test.
 use borrow.Author.Tests.{eq-eqb, ne_eqb, le-leb, lt-leb}
 use Rattle.image.specs.Images.{written_b}
 use Rattle.codec.proofs.form_b.write.Goals as goal

@@ -1,3 +1,4 @@
+-- `reading::retries::after_read` meets its contract.
 use borrow.Author.Tests.{eq-eqb, ne_eqb}
 use Rattle.drive.specs.Retries.{after_read}
 use Rattle.reading.proofs.retries.after_read.Goals as goal

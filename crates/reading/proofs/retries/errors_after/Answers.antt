@@ -1,3 +1,4 @@
+-- `reading::retries::errors_after` meets its contract: a reread is counted in left, so there is room for one error more.
 use mathlib.Core.Path.{sym, ◌∙◌}
 use Rattle.reading.proofs.Fits.{errors_fit, reread_left}
 use native.Mathlib.Omega.{arith}

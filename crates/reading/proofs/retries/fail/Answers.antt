@@ -1,3 +1,4 @@
+-- `reading::retries::fail` meets its contract, part by part.
 use Rattle.drive.specs.Retries.{failed}
 use Rattle.reading.proofs.retries.fail.Goals as goal
 

@@ -1,3 +1,4 @@
+-- `reading::retries::go_on_reading` meets its contract: a chain of tests.
 use borrow.Author.Tests.{lt-ltb, le-ltb}
 use Rattle.drive.specs.Retries.{goes_on_reading}
 use Rattle.reading.proofs.retries.go_on_reading.Goals as goal

@@ -1,3 +1,4 @@
+-- `reading::retries::spent_after` meets its contract: at most 89 is spent before it.
 use Rattle.reading.proofs.Fits.{spent_fits}
 use native.Mathlib.Omega.{arith}
 use Rattle.reading.proofs.retries.spent_after.Goals as goal

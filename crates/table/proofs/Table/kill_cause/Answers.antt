@@ -1,3 +1,4 @@
+-- `Table::kill_cause` meets its contract: with room or without.
 use borrow.Author.Tests.{lt-ltb, le-ltb}
 use Rattle.table.specs.Tables.{causes_killed}
 use Rattle.table.proofs.Table.kill_cause.Goals as goal

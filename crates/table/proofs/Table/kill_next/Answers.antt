@@ -1,3 +1,4 @@
+-- `Table::kill_next` meets its contract: with room or without.
 use borrow.Author.Tests.{lt-ltb, le-ltb}
 use Rattle.table.specs.Tables.{killed_next}
 use Rattle.table.proofs.Table.kill_next.Goals as goal

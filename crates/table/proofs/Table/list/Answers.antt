@@ -1,3 +1,4 @@
+-- `Table::list` meets its contract: the old place is at most the count.
 use borrow.Author.Tests.{lt-ltb, le-ltb}
 use lib.ListN.{take, length-take}
 use Rattle.lists.proofs.Laws.{index_most}

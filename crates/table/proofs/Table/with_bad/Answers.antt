@@ -1,3 +1,4 @@
+-- `Table::with_bad` meets its contract: with room or without.
 use borrow.Author.Tests.{lt-ltb, le-ltb}
 use Rattle.table.specs.Tables.{with_bad}
 use Rattle.table.proofs.Table.with_bad.Goals as goal

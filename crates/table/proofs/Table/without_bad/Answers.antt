@@ -1,3 +1,4 @@
+-- `Table::without_bad` meets its contract: a place below the list's length is a member.
 use borrow.Author.Tests.{lt-ltb, le-ltb}
 use Rattle.lists.proofs.Laws.{member_index}
 use Rattle.table.specs.Tables.{without_bad, bad_list}

@@ -1,3 +1,4 @@
+-- `test_script::Line::take` meets its contract.
 use borrow.Author.Tests.{le-leb, lt-leb}
 use Rattle.test_script.specs.Reading.{counted, laid}
 use Rattle.test_script.proofs.Line.take.Goals as goal

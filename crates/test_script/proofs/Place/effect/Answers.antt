@@ -1,3 +1,4 @@
+-- `test_script::Place::effect` meets its contract.
 use Rattle.test_script.specs.Reading.{named}
 use Rattle.test_script.proofs.Place.effect.Goals as goal
 

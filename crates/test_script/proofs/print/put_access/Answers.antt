@@ -1,3 +1,4 @@
+-- `test_script::print::put_access` meets its contract.
 use Rattle.test_script.specs.Texts.{access_text}
 use Rattle.test_text.proofs.Laying.{after}
 use Rattle.test_script.proofs.print.put_access.Goals as goal

@@ -1,3 +1,4 @@
+-- `test_script::print::put_call` meets its contract.
 use Rattle.test_script.specs.Texts.{call_text}
 use Rattle.test_text.proofs.Laying.{after}
 use Rattle.test_script.proofs.print.put_call.Goals as goal

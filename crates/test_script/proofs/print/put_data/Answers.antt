@@ -1,3 +1,4 @@
+-- `test_script::print::put_data` meets its contract.
 use Rattle.logic.proofs.Walks.{rest}
 use Rattle.drive.specs.Words.{data_of}
 use Rattle.test_script.proofs.print.put_data.Goals as goal

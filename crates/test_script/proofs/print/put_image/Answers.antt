@@ -1,3 +1,4 @@
+-- `test_script::print::put_image` meets its contract.
 use Rattle.test_script.specs.Texts.{image_text}
 use Rattle.test_text.proofs.Laying.{after}
 use Rattle.test_script.proofs.print.put_image.Goals as goal

@@ -1,3 +1,4 @@
+-- `test_script::print::put_offer` meets its contract.
 use Rattle.test_script.specs.Texts.{offer_text}
 use Rattle.test_text.proofs.Laying.{after}
 use Rattle.test_script.proofs.print.put_offer.Goals as goal

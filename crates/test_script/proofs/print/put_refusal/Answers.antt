@@ -1,3 +1,4 @@
+-- `test_script::print::put_refusal` meets its contract.
 use Rattle.test_script.specs.Texts.{refusal_text}
 use Rattle.test_text.proofs.Laying.{after}
 use Rattle.test_script.proofs.print.put_refusal.Goals as goal

@@ -1,3 +1,4 @@
+-- `test_script::print::put_status` meets its contract.
 use Rattle.test_script.specs.Texts.{status_text}
 use Rattle.test_text.proofs.Laying.{after}
 use Rattle.test_script.proofs.print.put_status.Goals as goal

@@ -1,3 +1,5 @@
+-- `test_script::sum::adler` meets its contract: what is left, added to the sums so far, gives the whole sum.
+-- 1044481 is the low sum of 4096 bytes at most
 use mathlib.Core.Path.{sym, ◌∙◌}
 use native.Mathlib.Omega.{arith}
 use Rattle.test_script.proofs.Sums.{sum_on, sum_end}

@@ -1,3 +1,4 @@
+-- `test_text::Bytes::step` meets its contract.
 use borrow.Author.Tests.{eq-eqb, ne_eqb}
 use Rattle.test_text.specs.Reading.{line_on}
 use Rattle.test_text.proofs.Bytes.step.Goals as goal

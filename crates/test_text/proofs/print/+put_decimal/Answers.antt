@@ -1,3 +1,4 @@
+-- The proof of the cycle of calls {put_decimal}. The measure is n.
 use mathlib.Core.List.{[], ◌∷◌}
 use Prim.Native.Nat.{◌+◌, ◌/◌, ◌%◌}
 use native.Mathlib.Omega.{arith}

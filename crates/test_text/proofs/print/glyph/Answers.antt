@@ -1,3 +1,4 @@
+-- `test_text::print::glyph` meets its contract.
 use borrow.Author.Tests.{lt-ltb, le-ltb}
 use Rattle.test_text.specs.Printing.{glyph_of}
 use Rattle.test_text.proofs.print.glyph.Goals as goal

@@ -1,3 +1,4 @@
+-- `test_text::print::push` meets its contract.
 use borrow.Author.Tests.{lt-ltb, le-ltb}
 use lib.Seq.{set_out}
 use Rattle.test_text.specs.Printing.{laid}

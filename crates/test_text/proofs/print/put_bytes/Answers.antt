@@ -1,3 +1,4 @@
+-- `test_text::print::put_bytes` meets its contract: what is left to lay makes up the whole.
 use mathlib.Core.Path.{◌∙◌}
 use Prim.Native.Nat.{◌+◌}
 use native.Mathlib.Omega.{arith}

@@ -1,3 +1,4 @@
+-- `test_text::print::put_hex` meets its contract.
 use Rattle.test_text.proofs.Laying.{after}
 use Rattle.test_text.proofs.print.put_hex.Goals as goal
 

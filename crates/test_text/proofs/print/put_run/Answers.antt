@@ -1,3 +1,4 @@
+-- `test_text::print::put_run` meets its contract.
 use borrow.Author.Tests.{eq-eqb, ne_eqb}
 use Rattle.test_text.specs.Printing.{run_text}
 use Rattle.test_text.proofs.Laying.{after}

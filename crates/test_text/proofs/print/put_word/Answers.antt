@@ -1,3 +1,4 @@
+-- `test_text::print::put_word` meets its contract.
 use native.Mathlib.Omega.{arith}
 use borrow.Author.Rules.{rules}
 use Rattle.test_text.proofs.Laying.{laid_none, word_on}

@@ -1,3 +1,4 @@
+-- `test_text::print::run_at` meets its contract.
 use native.Mathlib.Omega.{arith}
 use lib.ListN.{get_or}
 use Rattle.test_text.proofs.Runs.{run_on, run_off, run_end}
