@@ -17,7 +17,7 @@ const CRATES: &str = "logic:\ngeometry:\nboard: geometry\nbuffer: logic # bytes\
 /// Begins a stand-in for the prover, which tells of a crate before notes about it.
 const BEGIN: &str = r#"
 if [ "$*" = version ]; then echo kit; exit; fi
-[ "$*" = lib ] || exit 9
+[ "$*" = "lib --cpu x86-64" ] || exit 9
 crate() {
     echo "rt: chose --jobs 2 for $1"
     echo "note: $1 is looked at"

@@ -115,9 +115,9 @@ fn what_the_tables_name_is_declared() {
 fn a_wrong_name_type_or_file_is_noticed() {
     let theorems = document("docs/DESIGN.md");
     for (right, wrong) in [
-        ("read-written", "read-writen"),
+        ("read_written", "read_writen"),
         ("unpacked", "unpackt"),
-        ("demand-3 : Demand3", "demand-3 : Demand1"),
+        ("demand_3 : Demand3", "demand_3 : Demand1"),
         ("demands/proofs/Allowed", "demands/proofs/Alowed"),
         ("ShutOut", "ShutOt"),
     ] {

@@ -36,7 +36,7 @@ pub struct Checkout {
 /// Stands in for the prover: makes a library, unless there is a file `wrong` or `empty`.
 pub const PROVER: &str = r#"
 if [ "$*" = version ]; then cat "$room/kit"; exit; fi
-[ "$*" = lib ] && [ "$PWD" = "$room/checkout/crates/bumivondra" ] || exit 9
+[ "$*" = "lib --cpu x86-64" ] && [ "$PWD" = "$room/checkout/crates/bumivondra" ] || exit 9
 echo proved >>"$room/proofs"
 [ ! -e "$room/wrong" ] || exit 1
 [ ! -e "$room/empty" ] || exit 0
