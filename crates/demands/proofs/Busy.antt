@@ -48,7 +48,7 @@ use Rattle.drive.specs.Run.{Event}
 use Rattle.drive.specs.Views.{Bytes, Where, at, of_answer}
 use Rattle.records.proofs.Ladders.{finish_cases, NextSpare, Missed, Stopped, Verified, Settled, settled_cases, Lost, lost_cases, GoesOnReading}
 use Rattle.demands.proofs.Statuses.{is_move, good_is, moves_is, data_ended}
-use Rattle.demands.proofs.Sim.{state_of, world_of, history_of, Blocky, place_of, Books, Quiet, Own, Ground, Sound, resting, Bound, Spot, Sole, rereads, verifying, trying, checking, placed, Owes, nothing, bytes as own-bytes, Closing, at_rest, at_work, at_store, at_inj, entry_of, Good, ev}
+use Rattle.demands.proofs.Sim.{state_of, world_of, history_of, Blocky, place_of, Books, Quiet, Own, Ground, Sound, resting, Bound, Spot, Sole, rereads, verifying, trying, checking, placed, Owes, nothing, bytes as own_bytes, Closing, at_rest, at_work, at_store, at_inj, entry_of, Good, ev}
 use Rattle.demands.proofs.Books.{same_block, held_inj, put_same, books_table, books_weaken, books_in, books_dead, books_moved}
 use Rattle.demands.proofs.Entries.{fits_silent, entry_none, candidates_kept, places_kept, no_learn, reported, reported_fits}
 
@@ -94,7 +94,7 @@ owes_own {t} {σ} {pl} {ca} {mv} {b} {rd} {u} {mine} {wr} wt bd k = go rd refl
   where
     go : (q : Bool) → rd ≡ q → Owes t σ pl ca mv b rd u mine wr
     go true q = nothing (inl q) (books_in b (data_of u) (bd.as_read q) k)
-    go false q = own-bytes wt q (bd.as_write q) k
+    go false q = own_bytes wt q (bd.as_write q) k
 
 -- A COMMAND AT ITS END that may have written, and a read that has not.
 module _ {t : Table} {σ : Sectors} {pl : Block → Where} {ca : Block → List Bytes} {mv : Bool} {b : Block} {rd : Bool} {u mine : Bytes} {e : Ending} {wr : Bool} {lr : Where} where

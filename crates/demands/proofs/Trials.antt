@@ -81,11 +81,11 @@ decides t cs l u bs r free h =
     (record {
       again = λ e. clash e (le-ltb r.rereads 100 h);
       passes = λ e p.
-          let good-end = passed t cs l u bs (listed_then t r) r.failures free p in
+          let good_end = passed t cs l u bs (listed_then t r) r.failures free p in
           record {
-            moved = λ g. good-end (change.Move r.block r.before r.present) ending.Moved r.seen refl refl;
-            listed = λ g i. good-end (change.Remove r.block) ending.Good r.seen refl refl;
-            stays = λ g i. good-end change.Keep ending.Good r.seen refl refl;
+            moved = λ g. good_end (change.Move r.block r.before r.present) ending.Moved r.seen refl refl;
+            listed = λ g i. good_end (change.Remove r.block) ending.Good r.seen refl refl;
+            stays = λ g i. good_end change.Keep ending.Good r.seen refl refl;
           };
       fails = λ e p.
           record {

@@ -80,9 +80,9 @@ pub record StatusWritten : Type 0 where
   pub written : after (writes 1 (done ∷ [])) ≡ 0 ∷ 0 ∷ 0 ∷ 0 ∷ short
   pub verified : after (writes 2 (done ∷ surface 0 short ∷ [])) ≡ 0 ∷ 0 ∷ 0 ∷ 0 ∷ short
   pub broken_off_lem : after (raise ∷ lower 0xAA ∷ []) ≡ 0x80 ∷ 0 ∷ 0 ∷ 0 ∷ replicate 532 5
-  pub of_FFFFFE : after (reads_number 0xFE) ≡ 0 ∷ 0 ∷ 0 ∷ 0 ∷ replicate 532 5
-  pub of_FFFFFF : after (reads_number 0xFF) ≡ 0 ∷ 0 ∷ 0 ∷ 0 ∷ form_a [] []
-  pub of_FFFFFD : after (reads_number 0xFD) ≡ 0 ∷ 0 ∷ 0 ∷ 0 ∷ 32 ∷ 0 ∷ 0 ∷ 0 ∷ replicate 528 0
+  pub of_fffffe : after (reads_number 0xFE) ≡ 0 ∷ 0 ∷ 0 ∷ 0 ∷ replicate 532 5
+  pub of_ffffff : after (reads_number 0xFF) ≡ 0 ∷ 0 ∷ 0 ∷ 0 ∷ form_a [] []
+  pub of_fffffd : after (reads_number 0xFD) ≡ 0 ∷ 0 ∷ 0 ∷ 0 ∷ 32 ∷ 0 ∷ 0 ∷ 0 ∷ replicate 528 0
   pub of_no_number : after (reads_number 0xFC) ≡ 1 ∷ 0 ∷ 0x40 ∷ 0 ∷ replicate 532 5
   -- the store's answer leaves the data part, whatever it is
   pub unstored : after (asks 0 0 (replicate 11 timeout ++ (timeout ∷ []))) ≡ 0x05 ∷ 0 ∷ 0 ∷ 0 ∷ replicate 532 5
@@ -90,7 +90,7 @@ pub record StatusWritten : Type 0 where
 
 pub status_written : StatusWritten
 unfolding computed
-status_written = record { read = refl; lost = refl; written = refl; verified = refl; broken_off_lem = refl; of_FFFFFE = refl; of_FFFFFF = refl; of_FFFFFD = refl; of_no_number = refl; unstored = refl; unsettled = refl }
+status_written = record { read = refl; lost = refl; written = refl; verified = refl; broken_off_lem = refl; of_fffffe = refl; of_ffffff = refl; of_fffffd = refl; of_no_number = refl; unstored = refl; unsettled = refl }
 
 -- Holds a drive whose read of block 0 was lost: the block is in the bad list, and the store is awaited.
 abbrev lost_block : Drive

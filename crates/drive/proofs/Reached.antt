@@ -193,7 +193,7 @@ abbrev reread_failed : Table → List ℕ → Bool → List ℕ → Sector → B
 reread_failed t cs changed u s spare n = given t cs changed u (access.TrialRead (trial s spare n)) 1 (brought 1)
 
 -- A trial that fails leads to what the hundredth failure gives.
-module _ (t : Table) (cs : List ℕ) (changed : Bool) (u : List ℕ) (ok : table_ok t ≡ true) (noted-ok : causes_ok (take t.nspares cs) ≡ true) (long : length u ≡ 536) (s : Sector) (spare : Bool)
+module _ (t : Table) (cs : List ℕ) (changed : Bool) (u : List ℕ) (ok : table_ok t ≡ true) (noted_ok : causes_ok (take t.nspares cs) ≡ true) (long : length u ≡ 536) (s : Sector) (spare : Bool)
     (fits : (k : ℕ) → k ≤ 100 → trial_ok t.nspares (trial s spare k) ≡ true) where
   another : (k : ℕ) → k < 99 → reread_failed t cs changed u s spare k ≡ asks_reread t cs changed u s spare (k + 1)
   unfolding follows checked last_after judged part_left status_left
@@ -203,14 +203,14 @@ module _ (t : Table) (cs : List ℕ) (changed : Bool) (u : List ℕ) (ok : table
       → Leads y rest w → Leads (asks_reread t cs changed u s spare k) (replicate (suc n) crc ++ rest) w
   hundred_fail zero k h e r l =
       let q : k ≡ 99 = omega arith in
-      rw q (answers t cs changed u ok noted-ok long (access.TrialRead (trial s spare 99)) _ 1 (brought 1) (fits 99 (omega arith)) refl e r l)
+      rw q (answers t cs changed u ok noted_ok long (access.TrialRead (trial s spare 99)) _ 1 (brought 1) (fits 99 (omega arith)) refl e r l)
   hundred_fail (suc n) k h e r l =
-      answers t cs changed u ok noted-ok long (access.TrialRead (trial s spare k)) _ 1 (brought 1) (fits k (omega arith)) refl (another k (omega arith)) refl (hundred_fail n (k + 1) (omega arith) e r l)
+      answers t cs changed u ok noted_ok long (access.TrialRead (trial s spare k)) _ 1 (brought 1) (fits k (omega arith)) refl (another k (omega arith)) refl (hundred_fail n (k + 1) (omega arith) e r l)
 
   trial_fails : {rest : List Call} {y w : Out} → reread_failed t cs changed u s spare 99 ≡ y → (of_answer y.step.answer).refused ≡ false
       → Leads y rest w → Leads (asks_write t cs changed u s spare) (surface 0 [] ∷ (replicate 100 crc ++ rest)) w
   unfolding follows tried part_left status_left
-  trial_fails e r l = answers t cs changed u ok noted-ok long (access.TrialWrite (trial s spare 0)) _ 0 [] (fits 0 (omega arith)) refl refl refl (hundred_fail 99 0 refl e r l)
+  trial_fails e r l = answers t cs changed u ok noted_ok long (access.TrialWrite (trial s spare 0)) _ 0 [] (fits 0 (omega arith)) refl refl refl (hundred_fail 99 0 refl e r l)
 
 -- THE SPARES
 

@@ -272,14 +272,14 @@ agree start w H (t ∷ ts) part place candidates h =
     let said = said_in (line_of m x) in
     let more = agrees start (after w m x) (past start H (line_of m x)) ts part place candidates in
     let rest = and_right (permitted w m x) (same_said said t.says && more) h in
-    let after-it = agree start (after w m x) (past start H (line_of m x)) ts part place candidates (and_right (same_said said t.says) more rest) in
+    let after_it = agree start (after w m x) (past start H (line_of m x)) ts part place candidates (and_right (same_said said t.says) more rest) in
     let same_answer = same_said_lem said t.says (and_left (same_said said t.says) more rest) in
     record {
-      lawful = and_true (permitted w m x) (is_lawful (after w m x) (moments ts)) (and_left (permitted w m x) (same_said said t.says && more) h) after-it.lawful;
-      says = ap (λ (a : Said). a ∷ told (lines (after w m x) (moments ts))) same_answer ∙ ap (λ (l : List Said). t.says ∷ l) after-it.says;
-      part_left = after-it.part_left;
-      place_left = after-it.place_left;
-      candidates_left = after-it.candidates_left;
+      lawful = and_true (permitted w m x) (is_lawful (after w m x) (moments ts)) (and_left (permitted w m x) (same_said said t.says && more) h) after_it.lawful;
+      says = ap (λ (a : Said). a ∷ told (lines (after w m x) (moments ts))) same_answer ∙ ap (λ (l : List Said). t.says ∷ l) after_it.says;
+      part_left = after_it.part_left;
+      place_left = after_it.place_left;
+      candidates_left = after_it.candidates_left;
     }
 
 -- Plays a run, and tests what it says of itself.

@@ -18,7 +18,7 @@ pub record Examples : Type 0 where
   pub entry_01 : parity_of 0x01 ≡ 0
   pub entry_03 : parity_of 0x03 ≡ 1
   pub entry_80 : parity_of 0x80 ≡ 0
-  pub entry_FF : parity_of 0xFF ≡ 1
+  pub entry_ff : parity_of 0xFF ≡ 1
   pub half_are_set : entries_set 256 ≡ 128
   pub lowest_bit : bit_at 0 0x01 ≡ 1
   pub highest_bit : bit_at 7 0x80 ≡ 1
@@ -39,7 +39,7 @@ examples =
       entry_01 = refl;
       entry_03 = refl;
       entry_80 = refl;
-      entry_FF = refl;
+      entry_ff = refl;
       half_are_set = refl;
       lowest_bit = refl;
       highest_bit = refl;

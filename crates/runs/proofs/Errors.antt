@@ -74,17 +74,17 @@ store_fails = (record { phase = refl; first = refl; clean = refl }, (record { ac
 
 -- WHAT THE STATEMENT SAYS of them: the first read does not count, nor does a further read or a store.
 pub one_of_two_rereads : Status4 → (errors_after ready 2 (crc ∷ late ∷ good ∷ []) ≡ 1) × (errors_after ready 2 (crc ∷ good ∷ crc ∷ []) ≡ 1)
-one_of_two_rereads is-E = (
-  is-E (asked ready 2).step.drive (asked ready 2).bytes (first 2) crc (late ∷ good ∷ []) first_fails.0 first_fails.1,
-  is-E (asked ready 2).step.drive (asked ready 2).bytes (first 2) crc (good ∷ crc ∷ []) second_fails.0 second_fails.1,
+one_of_two_rereads is_e = (
+  is_e (asked ready 2).step.drive (asked ready 2).bytes (first 2) crc (late ∷ good ∷ []) first_fails.0 first_fails.1,
+  is_e (asked ready 2).step.drive (asked ready 2).bytes (first 2) crc (good ∷ crc ∷ []) second_fails.0 second_fails.1,
 )
 
 pub further_reads_do_not_count : Status4 → errors_after ready 2 (crc ∷ late ∷ crc ∷ crc ∷ good ∷ []) ≡ 2
-further_reads_do_not_count is-E =
-    is-E (asked ready 2).step.drive (asked ready 2).bytes (first 2) crc (late ∷ crc ∷ crc ∷ good ∷ []) both_fail.0 both_fail.1
+further_reads_do_not_count is_e =
+    is_e (asked ready 2).step.drive (asked ready 2).bytes (first 2) crc (late ∷ crc ∷ crc ∷ good ∷ []) both_fail.0 both_fail.1
 
 pub a_store_does_not_count : Status4 → errors_after changed 2 (good ∷ late ∷ []) ≡ 0
-a_store_does_not_count is-E = is-E (asked changed 2).step.drive (asked changed 2).bytes (first 2) good (late ∷ []) store_fails.0 store_fails.1
+a_store_does_not_count is_e = is_e (asked changed 2).step.drive (asked changed 2).bytes (first 2) good (late ∷ []) store_fails.0 store_fails.1
 
 -- So the calls leave it.
 pub status_4_so :
