@@ -7,15 +7,17 @@ ghost use Rattle.drive.specs.Results.{clean, finish};
 ghost use Rattle.drive.specs.Handshake.{first_read, first_write, first_trial, writes, asks_buffer, asks_table, asks_health, no_number, health, overruns, acted};
 ghost use Rattle.drive.specs.declared.Change.TheVariants as change;
 ghost use Rattle.drive.specs.declared.Part.TheVariants as part;
-ghost use Rattle.records.specs.Turns.{lent};
+ghost use Rattle.table.specs.Tables.{spare_list};
 
 use drive::{
     Access, Answer, Change, Ending, Four, Kind, Marks, Order, Part, Phase, Retry, State, Target,
     Turn,
 };
 use geometry::Block;
+use table::Bounded;
 
-// Says whether a number is the buffer's.
+// Says whether a number is the buffer's. This and the next three are tests of their own and no enum of numbers, since `acted` asks
+// for them between its other rules.
 fn asks_buffer(v: u32) -> bool
     ensures { result ≡ asks_buffer v }
 {
@@ -37,6 +39,7 @@ fn asks_health(v: u32) -> bool
 }
 
 // Says whether a number is nothing's, in a command of this kind.
+#[tactic(auto, unfolding(drive::specs::Handshake::no_number))]
 fn no_number(k: Kind, v: u32) -> bool
     ensures { result ≡ no_number k v }
 {
@@ -51,15 +54,16 @@ fn block_of(o: Order) -> Block
     Block(o.number as u16)
 }
 
-// Returns the figures of the health block, with n spares and m bad blocks listed.
-fn health(n: usize, m: usize, marks: Marks) -> Four
-    requires { (n ≤ 32) × (m ≤ 100) }
-    ensures { result ≡ health n m marks }
+// Returns the figures of the health block.
+#[tactic(auto, unfolding(drive::specs::Handshake::health))]
+fn health(t: &Bounded, marks: Marks) -> Four
+    ensures { result ≡ health t.now.nspares t.now.nbads marks }
 {
-    let unused = table::unused(n);
+    let lists = t.lent;
+    let unused = table::unused(lists.nspares);
     let latch = records::bit(marks.latch, 1);
     let unstored = records::bit(marks.changed, 1);
-    Four(unused as u8, m as u8, latch, unstored)
+    Four(unused as u8, lists.nbads as u8, latch, unstored)
 }
 
 // Ends a command for a block that fails without an access.
@@ -70,6 +74,7 @@ fn fail(l: State, e: Ending) -> Turn
 }
 
 // Ends a command that was fed too much.
+#[tactic(auto, unfolding(drive::specs::Handshake::overruns))]
 fn overrun(o: Order, l: State) -> Turn
     ensures { result ≡ overruns o l }
 {
@@ -80,103 +85,98 @@ fn overrun(o: Order, l: State) -> Turn
 }
 
 // Asks for a read command's first read.
-fn first_read(o: Order, l: State, spares: &[u16]) -> Turn
-    requires { (o.number < 9728) × (length spares.now ≤ 32) }
-    ensures { result ≡ first_read o l spares.now }
+fn first_read(o: Order, l: State, t: &Bounded) -> Turn
+    requires { o.number < 9728 }
+    ensures { result ≡ first_read o l (spare_list t.now) }
 {
-    let b = block_of(o);
-    let s = table::sector_of(spares, b);
-    let seen = records::clean();
+    let block = block_of(o);
+    let sector = t.lent.sector_of(block);
     let r = Retry {
-        block: b,
-        sector: s,
+        block,
+        sector,
         first: true,
         left: o.retries,
         spent: 0,
         threshold: o.threshold,
         good: false,
-        seen: seen,
+        seen: records::clean(),
     };
     records::say(
         records::in_phase(l, Phase::Awaiting(Access::Read(r))),
-        Answer::Read(s),
+        Answer::Read(sector),
     )
 }
 
 // Asks for a write command's write; a write/verify reads it back.
-fn first_write(o: Order, l: State, spares: &[u16]) -> Turn
-    requires { (o.number < 9728) × (length spares.now ≤ 32) }
-    ensures { result ≡ first_write o l spares.now }
+fn first_write(o: Order, l: State, t: &Bounded) -> Turn
+    requires { o.number < 9728 }
+    ensures { result ≡ first_write o l (spare_list t.now) }
 {
-    let b = block_of(o);
-    let s = table::sector_of(spares, b);
-    let k = o.kind;
+    let block = block_of(o);
+    let sector = t.lent.sector_of(block);
     let w = Target {
-        block: b,
-        sector: s,
-        verify: !records::is_write(k),
+        block,
+        sector,
+        verify: !records::is_write(o.kind),
     };
     records::say(
         records::in_phase(l, Phase::Awaiting(Access::Write(w))),
-        Answer::Write(s),
+        Answer::Write(sector),
     )
 }
 
 // Begins with the trial of the present sector.
-fn first_trial(o: Order, l: State, spares: &[u16]) -> Turn
-    requires { (o.number < 9728) × (length spares.now ≤ 32) }
-    ensures { result ≡ first_trial o l spares.now }
+fn first_trial(o: Order, l: State, t: &Bounded) -> Turn
+    requires { o.number < 9728 }
+    ensures { result ≡ first_trial o l (spare_list t.now) }
 {
     let b = block_of(o);
-    let s = table::sector_of(spares, b);
-    let r = records::on_present(b, s, records::clean());
+    let r = records::on_present(b, t.lent.sector_of(b), records::clean());
     sparing::begin(l, Change::Keep, r, Part::Kept)
 }
 
 // Writes a block: any write to a listed bad block begins with a trial.
-fn write<'a>(o: Order, l: State, spares: &'a [u16], n: usize, bads: &'a [u16], m: usize) -> Turn
-    requires { (o.number < 9728) × (n ≤ 32) }
-    ensures { result ≡ writes o l (lent spares.now n bads.now m) }
+#[tactic(auto, unfolding(drive::specs::Handshake::writes))]
+fn write(o: Order, l: State, t: &Bounded) -> Turn
+    requires { o.number < 9728 }
+    ensures { result ≡ writes o l t.now }
 {
-    if table::listed_bad(lists::cut(bads, m), block_of(o)) {
-        return first_trial(o, l, lists::cut(spares, n));
+    if t.lent.lists_bad(block_of(o)) {
+        return first_trial(o, l, t);
     }
-    first_write(o, l, lists::cut(spares, n))
+    first_write(o, l, t)
 }
 
-// Acts on a command, by the first rule that applies. The first n of spares and the first m of bads are
-// the table's lists.
-pub fn act<'a>(o: Order, l: State, spares: &'a [u16], n: usize, bads: &'a [u16], m: usize) -> Turn
-    requires { (n ≤ 32) × (m ≤ 100) }
-    ensures { result ≡ acted o l (lent spares.now n bads.now m) }
+// Acts on a command, by the first rule that applies.
+#[tactic(auto, unfolding(drive::specs::Handshake::acted))]
+pub fn act(o: Order, l: State, t: &Bounded) -> Turn
+    ensures { result ≡ acted o l t.now }
 {
     let v = o.number;
-    let k = o.kind;
-    let marks = l.marks;
-    let reads = records::is_read(k);
+    let reads = records::is_read(o.kind);
     if 532 < l.fed {
         return overrun(o, l);
     }
-    if no_number(k, v) {
+    if no_number(o.kind, v) {
         return records::ends(l, Ending::NoNumber, Part::Kept);
     }
     if asks_buffer(v) {
         return records::ends(l, Ending::Good, Part::Kept);
     }
-    if !marks.known {
+    if !l.marks.known {
         return records::ends(l, Ending::NoTable(!reads), Part::Kept);
     }
     if asks_table(v) {
         return records::ends(l, Ending::Good, Part::Image);
     }
     if asks_health(v) {
-        return records::ends(l, Ending::Good, Part::Figures(health(n, m, marks)));
+        return records::ends(l, Ending::Good, Part::Figures(health(t, l.marks)));
     }
     if reads {
-        return first_read(o, l, lists::cut(spares, n));
+        return first_read(o, l, t);
     }
-    if marks.latch {
+    if l.marks.latch {
         return fail(l, Ending::Latched);
     }
-    write(o, l, spares, n, bads, m)
+    write(o, l, t)
 }

@@ -32,6 +32,9 @@ unfolding same
 same_end true a b i h k = rw (drop_of_length-le a h, drop_of_length-le b k)
 same_end false a b i h k = refl
 
+-- a walk that compares with one byte
+pub ruleset gathering = (all_step, all_end)
+
 -- runs that pass are equal, and equal ones pass
 pub same_equal : (a b : List ℕ) → same a b ≡ true → a ≡ b
 unfolding same
@@ -54,6 +57,9 @@ same_longer a b n = go (same a b) refl
     go : (t : Bool) → same a b ≡ t → t ≡ false
     go true e = absurd (n (ap length (same_equal a b e)))
     go false e = refl
+
+-- a walk that compares two runs, of which one may be longer
+pub ruleset comparing = (same_step, same_end, same_longer)
 
 pub all_replicate : (v : ℕ) (l : List ℕ) → all_are v l ≡ true → l ≡ replicate (length l) v
 unfolding all_are

@@ -7,13 +7,16 @@ use lib.ListN.{length, drop, get_or, replicate, drop_of_length-le}
 use Rattle.logic.proofs.Walks.{step}
 use Rattle.buffer.specs.Runs.{sum}
 
-pub sum_step : (t : ℕ) (s : List ℕ) (i : ℕ) → i < length s → t + get_or s i 0 + sum (drop (i + 1) s) ≡ t + sum (drop i s)
+pub sum_step : (s : List ℕ) (i : ℕ) → i < length s → sum (drop i s) ≡ get_or s i 0 + sum (drop (i + 1) s)
 unfolding sum
-sum_step t s i h = rw (step s i h) (omega arith)
+sum_step s i h = rw (step s i h)
 
-pub sum_end : (t : ℕ) (s : List ℕ) (i : ℕ) → length s ≤ i → t + sum (drop i s) ≡ t
+pub sum_end : (s : List ℕ) (i : ℕ) → length s ≤ i → sum (drop i s) ≡ 0
 unfolding sum
-sum_end t s i h = rw (drop_of_length-le s h) (omega arith)
+sum_end s i h = rw (drop_of_length-le s h)
+
+-- a walk that adds up
+pub ruleset adding = (sum_step, sum_end)
 
 -- The sum of two runs is that of both.
 pub sum_append : (a b : List ℕ) → sum (a ++ b) ≡ sum a + sum b

@@ -2,7 +2,7 @@
 use Rattle.std.specs.Prelude.{ℕ, ◌+◌, Bool, true, false, ◌&&◌, List, [], ◌∷◌, ◌++◌, length, take, drop, eqb}
 
 -- out with the run written from place at on: what is before and after it stays
-unfoldable pub over : ℕ → List ℕ → List ℕ → List ℕ
+unfoldable pub over : {A : Type 0} → ℕ → List A → List A → List A
 over at run out = take at out ++ run ++ drop (at + length run) out
 
 -- two runs are the same

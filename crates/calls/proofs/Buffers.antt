@@ -1,20 +1,26 @@
--- What the code compares is the data part; what it zeroes at the start is the whole buffer.
-use mathlib.Core.Path.{◌≡◌, ap, ◌∙◌}
-use mathlib.Core.Bool.{Bool}
-use mathlib.Core.List.{List, ◌++◌, append-nil}
-use Prim.Native.Nat.{ℕ, ◌+◌, ◌-◌, ◌≤◌}
+-- What the code compares is the data part.
+use mathlib.Core.Path.{◌≡◌, refl, ◌∙◌}
+use mathlib.Core.Bool.{Bool, true, false}
+use mathlib.Core.List.{List}
+use Prim.Native.Nat.{ℕ, ◌-◌, ◌≤◌, min}
+use borrow.Author.Tests.{leb-true, leb-false}
+use lib.Dec.{leb}
 use native.Mathlib.Omega.{arith}
-use lib.ListN.{length, take, drop, replicate, length-replicate, drop_of_length-le}
+use lib.ListN.{length, take, drop, drop_of_length-le}
 use Rattle.logic.proofs.Walks.{rest}
-use Rattle.buffer.specs.Runs.{same, over}
 use Rattle.drive.specs.Words.{data_of}
 
-pub as_compared : (bs u : List ℕ) {r : Bool} → r ≡ same bs (take (length u - 4) (drop 4 u)) → same bs (data_of u) ≡ r
+pub as_compared : (u : List ℕ) (m : ℕ) → m ≡ min 4 (length u) → take (length u - m) (drop m u) ≡ data_of u
 unfolding data_of
-as_compared bs u e = rw (e, rest u 4)
-
-pub filled : (n v : ℕ) (u : List ℕ) → length u ≡ n → over 0 (replicate n v) u ≡ replicate n v
-unfolding over
-filled n v u h =
-    let k : length u ≤ 0 + length (replicate n v) = omega (arith, length-replicate {A = ℕ} n v) in
-    ap (λ (r : List ℕ). replicate n v ++ r) (drop_of_length-le u k) ∙ append-nil (replicate n v)
+as_compared u m e = rest u m ∙ by (leb 4 (length u)) refl
+  where
+    by : (b : Bool) → leb 4 (length u) ≡ b → drop m u ≡ drop 4 u
+    by true p =
+        let k = leb-true 4 (length u) p in
+        let h : m ≡ 4 = omega arith in
+        rw h
+    by false p =
+        let k = leb-false 4 (length u) p in
+        let h : length u ≤ m = omega arith in
+        let i : length u ≤ 4 = omega arith in
+        rw (drop_of_length-le u h, drop_of_length-le u i)

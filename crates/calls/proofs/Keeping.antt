@@ -1,7 +1,7 @@
--- Raise, lower, feed and reset keep the table; only a well-formed image is loaded; a reset leaves the buffer.
-use mathlib.Core.Path.{◌≡◌, refl, sym, ap, ◌∙◌}
-use mathlib.Core.Bool.{Bool, true}
-use mathlib.Core.List.{List, []}
+-- Raise, lower, feed and reset keep the table; only a well-formed image is loaded.
+use mathlib.Core.Path.{◌≡◌, refl}
+use mathlib.Core.Bool.{Bool}
+use mathlib.Core.List.{List}
 use Prim.Native.Nat.{ℕ}
 use lib.Dec.{eqb}
 use lib.ListN.{length}
@@ -19,15 +19,10 @@ use Rattle.drive.specs.declared.Phase.TheVariants as phase
 use Rattle.drive.specs.declared.State.{State}
 use Rattle.drive.specs.declared.Turn.{Turn}
 use Rattle.drive.specs.Words.{order_of}
-use Rattle.drive.specs.Results.{part_left, status_left, leave}
 use Rattle.drive.specs.Handshake.{raised, acted, goes_on, lowered, fed_to, rested}
-use Rattle.drive.specs.Retries.{after_read}
-use Rattle.drive.specs.Sparing.{tried, judged, checked, missed, verified}
-use Rattle.drive.specs.Access.{asks_read, fitting, kept_part, write_answered, follows, answered}
-use Rattle.records.specs.Turns.{lent}
+use Rattle.drive.specs.Access.{asks_read, follows, answered}
 use Rattle.records.proofs.Ladders.{acted_cases, lowered_cases, fitting_cases, start_cases}
 use Rattle.records.proofs.Shapes.{finish_change, no_load}
-use Rattle.accesses.proofs.Answers.{read_bads}
 use Rattle.calls.specs.Gives.{Formed}
 
 -- THE TABLE IS KEPT
@@ -90,18 +85,6 @@ reset_keeps phase.Command l = refl
 reset_keeps phase.Data l = refl
 reset_keeps (phase.Awaiting x) l = refl
 
--- A reset leaves the buffer.
-rest_leaves : (p : Phase) (l : State) (t : Table) (bs u : List ℕ) → u ≡ leave (rested p l).leaves t bs u
-unfolding rested part_left status_left
-rest_leaves phase.Idle l t bs u = refl
-rest_leaves (phase.Offered o) l t bs u = refl
-rest_leaves phase.Command l t bs u = refl
-rest_leaves phase.Data l t bs u = refl
-rest_leaves (phase.Awaiting x) l t bs u = refl
-
-pub reset_leaves : {y : Turn} (p : Phase) (l : State) (t : Table) (bs u : List ℕ) → y ≡ rested p l → u ≡ leave y.leaves t bs u
-reset_leaves p l t bs u e = rw e (rest_leaves p l t bs u)
-
 -- ONLY A WELL-FORMED IMAGE IS LOADED
 module _ (bs : List ℕ) where
   abbrev Loads : Turn → Type 0
@@ -126,19 +109,3 @@ module _ (bs : List ℕ) where
   answered_formed phase.Data l t a q = refl
   answered_formed (phase.Awaiting x) l t a q =
       fitting_cases Loads (asks_read x) l a (length bs) _ (record { answer = λ e. refl; bytes = λ e f. refl; fits = λ e f. follow_formed x l t a q })
-
--- Of the table an answer needs no more than the number of spares and the bad list.
-pub no_spares : (p : Phase) (l : State) (s b : List ℕ) (n m a : ℕ) (bs : List ℕ) (q : Bool) → answered p l (lent [] n b m) a bs q ≡ answered p l (lent s n b m) a bs q
-unfolding answered follows write_answered tried checked judged missed verified
-no_spares phase.Idle l s b n m a bs q = refl
-no_spares (phase.Offered o) l s b n m a bs q = refl
-no_spares phase.Command l s b n m a bs q = refl
-no_spares phase.Data l s b n m a bs q = refl
-no_spares (phase.Awaiting (access.Start k)) l s b n m a bs q = refl
-no_spares (phase.Awaiting (access.Store k)) l s b n m a bs q = refl
-no_spares (phase.Awaiting (access.Read r)) l s b n m a bs q =
-    ap (fitting true l a (length bs)) (sym (read_bads (after_read r a) l [] b n m (kept_part r a)) ∙ read_bads (after_read r a) l s b n m (kept_part r a))
-no_spares (phase.Awaiting (access.Write w)) l s b n m a bs q = refl
-no_spares (phase.Awaiting (access.Verify w)) l s b n m a bs q = refl
-no_spares (phase.Awaiting (access.TrialWrite r)) l s b n m a bs q = refl
-no_spares (phase.Awaiting (access.TrialRead r)) l s b n m a bs q = refl

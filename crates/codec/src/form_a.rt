@@ -4,6 +4,7 @@ ghost use Rattle.buffer.specs.Runs.{over};
 ghost use Rattle.image.specs.FormA.{list_part, head, form_a, has_header, mark_at, zeros_from, framed_a, layout_a};
 ghost use Rattle.image.specs.Images.{written_a, read_a};
 
+use crate::entries;
 use buffer::{all_are, fill, put, same_bytes};
 use image::{Fault, Image, Layout};
 
@@ -15,7 +16,7 @@ fn put_list(out: &mut [u8], at: usize, list: &[u16])
     requires { (at + 3 * length list.now + 3 ≤ length out.old) × (length list.now ≤ 100) }
     ensures { out.new ≡ over at (list_part list.now) out.old }
 {
-    let _ = crate::entries::put_entries(out, at, list);
+    let _ = entries::put_entries(out, at, list);
     fill(out, at + 3 * list.len(), 3, 255);
 }
 
@@ -48,16 +49,9 @@ fn build(spares: &[u16], bads: &[u16], out: &mut [u8])
 pub fn write(spares: &[u16], bads: &[u16], out: &mut [u8])
     ensures { out.new ≡ written_a spares.now bads.now out.old }
 {
-    if out.len() != 532 {
-        return;
+    if entries::writable(spares, bads, out) {
+        build(spares, bads, out);
     }
-    if 32 < spares.len() {
-        return;
-    }
-    if 100 < bads.len() {
-        return;
-    }
-    build(spares, bads, out);
 }
 
 // Says whether s begins with the header.
@@ -99,8 +93,8 @@ fn layout(s: &[u8]) -> Layout
     requires { length s.now ≡ 532 }
     ensures { result ≡ layout_a s.now }
 {
-    let n = s[24] as usize;
-    let m = s[25] as usize;
+    let n = usize::from(s[24]);
+    let m = usize::from(s[25]);
     Layout {
         nspares: n,
         nbads: m,
@@ -111,16 +105,20 @@ fn layout(s: &[u8]) -> Layout
 }
 
 // Returns the table of an image, with no run number and no causes.
-pub fn read(s: &[u8]) -> Image
+pub fn read(s: &[u8]) -> Result<Image, Fault>
     requires { length s.now ≡ 532 }
     ensures { result ≡ read_a s.now }
 {
     let a = layout(s);
-    if !crate::entries::counts_fit(a) {
-        return crate::entries::no_image(Fault::Form);
+    if !entries::counts_fit(a) || !is_framed(s, a.nspares, a.nbads) {
+        return Err(Fault::Form);
     }
-    if !is_framed(s, a.nspares, a.nbads) {
-        return crate::entries::no_image(Fault::Form);
-    }
-    crate::entries::load_lists(s, a, 0, [0; 32], Fault::Form)
+    let Some(table) = entries::load_table(s, a) else {
+        return Err(Fault::Form);
+    };
+    Ok(Image {
+        table,
+        causes: [0; 32],
+        run: 0,
+    })
 }

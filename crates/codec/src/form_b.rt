@@ -5,6 +5,7 @@ ghost use Rattle.buffer.specs.Runs.{over, sum};
 ghost use Rattle.image.specs.FormB.{two_bytes, head_b, quad, quads, form_b, two_at, four_at, layout_b, causes_from, causes_in, sum_fits, framed_b};
 ghost use Rattle.image.specs.Images.{written_b, read_b};
 
+use crate::entries;
 use buffer::{all_are, fill, put, put_summed};
 use image::{Fault, Image, Layout};
 
@@ -13,16 +14,17 @@ fn put_head(out: &mut [u8], run: u32, n: usize, m: usize) -> u32
     requires { (16 ≤ length out.old) × (n ≤ 32) × (m ≤ 100) }
     ensures { (out.new ≡ over 0 (head_b run n m) out.old) × (result ≡ sum (head_b run n m)) × (result ≤ 4080) }
 {
+    let [high, upper, lower, low] = run.to_be_bytes();
     let second = 16 + 4 * n;
     let bytes = [
         0xF0,
         0x78,
         0x3C,
         0x1E,
-        (run / 16777216 % 256) as u8,
-        (run / 65536 % 256) as u8,
-        (run / 256 % 256) as u8,
-        (run % 256) as u8,
+        high,
+        upper,
+        lower,
+        low,
         0,
         n as u8,
         0,
@@ -40,17 +42,8 @@ fn put_spare(out: &mut [u8], at: usize, x: u16, cause: u16) -> u32
     requires { at + 4 ≤ length out.old }
     ensures { (out.new ≡ over at (quad x cause) out.old) × (result ≡ sum (quad x cause)) × (result ≤ 1020) }
 {
-    let v = crate::entries::widened(x);
-    put_summed(
-        out,
-        at,
-        &[
-            (v / 65536 % 256) as u8,
-            (v / 256 % 256) as u8,
-            (v % 256) as u8,
-            (cause % 256) as u8,
-        ],
-    )
+    let [_, high, middle, low] = entries::widened(x).to_be_bytes();
+    put_summed(out, at, &[high, middle, low, (cause % 256) as u8])
 }
 
 // Writes the spare entries and their causes from place `at` on, and returns the sum of their bytes.
@@ -59,10 +52,9 @@ fn put_spares(out: &mut [u8], at: usize, list: &[u16], causes: &[u16]) -> u32
     ensures { (out.new ≡ over at (quads list.now causes.now) out.old) × (result ≡ sum (quads list.now causes.now)) × (result ≤ 1020 * length list.now) }
 {
     let mut t = 0;
-    let mut k = 0;
-    while k < list.len() {
-        t += put_spare(out, at + 4 * k, list[k], causes[k]);
-        k += 1;
+    // The causes by an index: two slices zipped are no form that tools/cross knows.
+    for (k, x) in list.iter().enumerate() {
+        t += put_spare(out, at + 4 * k, *x, causes[k]);
     }
     t
 }
@@ -72,8 +64,7 @@ fn put_sum(out: &mut [u8], t: u32)
     requires { length out.old ≡ 532 }
     ensures { out.new ≡ over 530 (two_bytes (t % 65536)) out.old }
 {
-    let v = t % 65536;
-    put(out, 530, &[(v / 256 % 256) as u8, (v % 256) as u8]);
+    put(out, 530, &((t % 65536) as u16).to_be_bytes());
 }
 
 // Writes the image part by part, and adds up the sum on the way.
@@ -87,7 +78,7 @@ fn build(run: u32, spares: &[u16], causes: &[u16], bads: &[u16], out: &mut [u8])
     let b = 3 * m;
     let s1 = put_head(out, run, n, m);
     let s2 = put_spares(out, 16, spares, causes);
-    let s3 = crate::entries::put_entries(out, 16 + a, bads);
+    let s3 = entries::put_entries(out, 16 + a, bads);
     fill(out, 16 + a + b, 514 - a - b, 0);
     put_sum(out, s1 + s2 + s3);
 }
@@ -98,19 +89,9 @@ fn build(run: u32, spares: &[u16], causes: &[u16], bads: &[u16], out: &mut [u8])
 pub fn write(run: u32, spares: &[u16], causes: &[u16], bads: &[u16], out: &mut [u8])
     ensures { out.new ≡ written_b run spares.now causes.now bads.now out.old }
 {
-    if out.len() != 532 {
-        return;
+    if entries::writable(spares, bads, out) && causes.len() == spares.len() {
+        build(run, spares, causes, bads, out);
     }
-    if 32 < spares.len() {
-        return;
-    }
-    if 100 < bads.len() {
-        return;
-    }
-    if causes.len() != spares.len() {
-        return;
-    }
-    build(run, spares, causes, bads, out);
 }
 
 // Returns the number of the two bytes from place k on.
@@ -118,7 +99,7 @@ fn two_at(s: &[u8], k: usize) -> u32
     requires { k + 2 ≤ length s.now }
     ensures { (result ≡ two_at s.now k) × (result < 65536) }
 {
-    crate::entries::broad(s[k]) * 256 + crate::entries::broad(s[k + 1])
+    u32::from(u16::from_be_bytes([s[k], s[k + 1]]))
 }
 
 // Returns the number of the four bytes from place k on.
@@ -126,7 +107,7 @@ fn four_at(s: &[u8], k: usize) -> u32
     requires { k + 4 ≤ length s.now }
     ensures { result ≡ four_at s.now k }
 {
-    two_at(s, k) * 65536 + two_at(s, k + 2)
+    u32::from_be_bytes([s[k], s[k + 1], s[k + 2], s[k + 3]])
 }
 
 // Says whether the last two bytes are the sum of all before.
@@ -169,33 +150,34 @@ fn load_causes(s: &[u8], n: usize) -> [u16; 32]
     ensures { result ≡ causes_from n (drop 16 s.now) ++ drop n (replicate 32 0) }
 {
     let mut out = [0u16; 32];
-    let mut k = 0;
-    while k < n {
-        out[k] = s[19 + 4 * k] as u16;
-        k += 1;
+    for k in 0..n {
+        out[k] = u16::from(s[19 + 4 * k]);
     }
     out
 }
 
 // Returns the table, run number and causes of bytes that begin as form B does.
-pub fn read(s: &[u8]) -> Image
+pub fn read(s: &[u8]) -> Result<Image, Fault>
     requires { length s.now ≡ 532 }
     ensures { result ≡ read_b s.now }
 {
     if !sum_fits(s) {
-        return crate::entries::no_image(Fault::Sum);
+        return Err(Fault::Sum);
     }
     let a = layout(s);
-    if !crate::entries::counts_fit(a) {
-        return crate::entries::no_image(Fault::Field);
-    }
-    if !is_framed(s, a.nspares, a.nbads) {
-        return crate::entries::no_image(Fault::Field);
+    if !entries::counts_fit(a) || !is_framed(s, a.nspares, a.nbads) {
+        return Err(Fault::Field);
     }
     let causes = load_causes(s, a.nspares);
     if !table::causes_ok(&causes, a.nspares) {
-        return crate::entries::no_image(Fault::Field);
+        return Err(Fault::Field);
     }
-    let run = four_at(s, 4);
-    crate::entries::load_lists(s, a, run, causes, Fault::Field)
+    let Some(table) = entries::load_table(s, a) else {
+        return Err(Fault::Field);
+    };
+    Ok(Image {
+        table,
+        causes,
+        run: four_at(s, 4),
+    })
 }

@@ -9,6 +9,11 @@ ghost use Rattle.image.specs.Images.{read_of};
 use buffer::same_bytes;
 use image::{Fault, Image};
 
+// The two forms have a reader and a writer each. Each step of one differs from that of the other, and no caller takes a form as a
+// parameter, so that a trait over both would be longer: what is the same is in `entries`.
+//
+// The readers take a slice with a `requires`, and no array: what try_from makes of a slice is a byte with a pointer, which lies at
+// another place on a 32-bit board, and cross/forms has no such line.
 pub mod entries;
 pub mod form_a;
 pub mod form_b;
@@ -22,11 +27,11 @@ pub fn is_form_b(s: &[u8]) -> bool
 }
 
 // Returns the table, run number and causes of an image of either form. A slice of another length is none.
-pub fn read_image(s: &[u8]) -> Image
+pub fn read_image(s: &[u8]) -> Result<Image, Fault>
     ensures { result ≡ read_of s.now }
 {
     if s.len() != 532 {
-        return entries::no_image(Fault::Form);
+        return Err(Fault::Form);
     }
     if is_form_b(s) {
         return form_b::read(s);

@@ -1,33 +1,24 @@
 -- What C is shown of a call, put together from what its parts say.
-use mathlib.Core.Path.{◌≡◌, refl, sym, ap, subst, ◌∙◌}
+use mathlib.Core.Path.{◌≡◌, refl, sym, ap, ◌∙◌}
 use mathlib.Core.Bool.{Bool, true, false}
 use mathlib.Core.List.{List, ◌++◌}
 use Prim.Native.Nat.{ℕ, ◌≤◌}
 use lib.Dec.{eqb}
 use lib.ListN.{length, take, drop, get_or, take-append-drop}
 use lib.Seq.{get_or-drop, drop-drop}
-use Rattle.table.specs.declared.Table.{Table}
 use Rattle.drive.specs.declared.State.{State}
 use Rattle.drive.specs.declared.Step.{Step}
+use Rattle.drive.specs.declared.Change.{Change}
 use Rattle.drive.specs.declared.Answer.{Answer}
 use Rattle.drive.specs.declared.Answer.TheVariants as answer
 use Rattle.drive.specs.Views.{of_answer}
 use Rattle.drive.specs.Results.{Out}
-use Rattle.records.specs.Turns.{lent}
 use Rattle.calls.specs.declared.tables.Noted.{Noted}
-use Rattle.calls.specs.Gives.{record_of, notes_of, Returns}
-use Rattle.packed.specs.Packing.{pack_state, pack_of, unpack_of, spares_at, bads_at, causes_at, table_at, state_at}
+use Rattle.calls.specs.Gives.{record_of, notes_of, altered_of, Returns}
+use Rattle.packed.specs.Packing.{pack_state, pack_of, unpack_of, causes_at, table_at}
 use Rattle.packed.proofs.Round.{table_words}
 use Rattle.crossing.specs.declared.Reply.{Reply}
 use Rattle.crossing.specs.Crossing.{reply_of, shown, kept, crossed, note_words}
-
--- THE LISTS, THE CAUSES AND THE STATE THAT ARE LENT TO A CALL are those of the words.
-module _ (w : List ℕ) {s b k : List ℕ} {n m : ℕ} {l : State} where
-  pub of_words :
-      (P : Table → List ℕ → State → Type 0) → s ≡ spares_at w → n ≡ get_or w 23 0 → b ≡ bads_at w → m ≡ get_or w 24 0 → k ≡ causes_at w → l ≡ state_at w
-      → P (lent s n b m) k l → P (table_at w) (causes_at w) (state_at w)
-  unfolding table_at
-  of_words P es en eb em ek el p = subst (λ (x : Table × (List ℕ × State)). P x.0 x.1.0 x.1.1) (λ i. (lent (es i) (en i) (eb i) (em i), (ek i, el i))) p
 
 -- THE REPLY: its kind is 6 exactly for a refusal.
 refused_kind : (a : Answer) → eqb (reply_of a).kind 6 ≡ (of_answer a).refused
@@ -43,16 +34,13 @@ module _ (a : Answer) {r : Reply} (is : r ≡ reply_of a) where
   kind_so : (t : Bool) → eqb r.kind 6 ≡ t → (of_answer a).refused ≡ t
   kind_so t e = sym (refused_kind a) ∙ ap (λ (r : Reply). eqb r.kind 6) (sym is) ∙ e
 
-  -- Where it was 6 the words stay, whatever else would be written,
+  -- Where it was 6 the words stay, whatever else would be written.
   pub left_where_refused : (w v : List ℕ) → eqb r.kind 6 ≡ true → w ≡ kept a w v
   left_where_refused w v e = rw (kind_so true e)
 
-  pub same_where_refused : (w v v' : List ℕ) → eqb r.kind 6 ≡ true → kept a w v ≡ kept a w v'
-  same_where_refused w v v' e = sym (left_where_refused w v e) ∙ left_where_refused w v' e
-
-  -- and else they are written.
-  pub written_where_not : (w v : List ℕ) → eqb r.kind 6 ≡ false → v ≡ kept a w v
-  written_where_not w v e = rw (kind_so false e)
+-- The words after an answer that is no refusal are those that were written.
+pub written : (a : Answer) (w v : List ℕ) → false ≡ (of_answer a).refused → v ≡ kept a w v
+written a w v e = rw (sym e)
 
 -- Its parts make what C is shown of a result.
 pub shows : (w v u : List ℕ) (x : Out) (s : Step) (r : Reply) → Returns x s u → r ≡ reply_of s.answer → v ≡ kept s.answer w (pack_of s.drive) → shown r v u ≡ crossed w x
@@ -82,3 +70,14 @@ table_stays w l =
 pub both_packed : (r : List ℕ) (l : State) (k : Noted) → take 23 (pack_state l ++ r) ++ note_words k ≡ pack_of (record_of k.table k.causes l)
 unfolding pack_of pack_state
 both_packed r l k = refl
+
+-- A change of the table, on words with a new state, is packed beside that state.
+pub change_packed : (w : List ℕ) → length w ≡ 189 → get_or w 23 0 ≤ 65535 → get_or w 24 0 ≤ 65535 → (l : State) (c : Change) (bs v : List ℕ)
+    → v ≡ pack_of (record_of (table_at w) (causes_at w) l)
+    → take 23 v ++ note_words (altered_of c (notes_of (unpack_of v)) bs)
+    ≡ pack_of (record_of (altered_of c (notes_of (unpack_of w)) bs).table (altered_of c (notes_of (unpack_of w)) bs).causes l)
+change_packed w h a b l c bs v e =
+    let s = e ∙ sym (state_packed w h a b l) in
+    ap (λ (v : List ℕ). take 23 v ++ note_words (altered_of c (notes_of (unpack_of v)) bs)) s
+    ∙ ap (λ (k : Noted). take 23 (pack_state l ++ drop 23 w) ++ note_words (altered_of c k bs)) (table_stays w l)
+    ∙ both_packed (drop 23 w) l (altered_of c (notes_of (unpack_of w)) bs)

@@ -1,4 +1,5 @@
 -- A command under way, what it asked for, and the surface's answer to it: how it ends, and how it goes on.
+use Rattle.std.specs.Prelude.{None}
 use mathlib.Core.Path.{◌≡◌, refl, sym, subst, ap, ◌∙◌}
 use mathlib.Core.Bool.{Bool, true, false, cond, not, ◌&&◌, ◌||◌}
 use mathlib.Core.Logic.{◌⊎◌, inl, inr}
@@ -26,7 +27,6 @@ use Rattle.drive.specs.declared.Trial.{Trial}
 use Rattle.drive.specs.declared.Access.TheVariants as access
 use Rattle.drive.specs.declared.Part.{Part}
 use Rattle.drive.specs.declared.Part.TheVariants as part
-use Rattle.drive.specs.declared.Status.TheVariants as status
 use Rattle.drive.specs.declared.Turn.{Turn}
 use Rattle.drive.specs.declared.Phase.{Phase}
 use Rattle.drive.specs.declared.Phase.TheVariants as phase
@@ -194,7 +194,7 @@ module _ {A : Answer} (j : Job A) where
 
   -- Asks for more, with the data part as v says.
   abbrev pub asks : Phase → Answer → Part → Turn
-  asks q x v = record { state = in_phase l₂ q; answer = x; change = change.Keep; leaves = record { status = status.Kept; part = v } }
+  asks q x v = record { state = in_phase l₂ q; answer = x; change = change.Keep; leaves = record { status = None; part = v } }
 
   -- IT REPORTS: good only with the places stored.
   pub reports_end : (m : Marks) (ch : Change) (e : Ending) (s : Seen) (unstored unsettled : Bool) (v : Part) → m.known ≡ true → Sound m → (unstored ≡ false → m.moved ≡ false)

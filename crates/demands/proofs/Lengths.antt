@@ -1,4 +1,5 @@
 -- NO CALL CHANGES THE LENGTH OF THE LENT BUFFER: whatever a turn leaves in 536 bytes are 536 bytes.
+use Rattle.std.specs.Prelude.{Option, None, Some}
 use mathlib.Core.Path.{◌≡◌, refl, sym, ◌∙◌}
 use mathlib.Core.Bool.{true}
 use mathlib.Core.List.{List, ◌++◌}
@@ -13,8 +14,7 @@ use Rattle.image.specs.FormA.{image_a}
 use Rattle.image.proofs.Writing.{image_length}
 use Rattle.buffer.specs.Runs.{over}
 use Rattle.drive.specs.declared.Drive.{Drive}
-use Rattle.drive.specs.declared.Status.{Status}
-use Rattle.drive.specs.declared.Status.TheVariants as status
+use Rattle.drive.specs.declared.Four.{Four}
 use Rattle.drive.specs.declared.Part.{Part}
 use Rattle.drive.specs.declared.Part.TheVariants as part
 use Rattle.drive.specs.declared.Turn.{Turn}
@@ -49,10 +49,10 @@ part_long (part.Zeroed f) t bs u k h = omega (arith, length-append (take (4 + f)
 part_long part.Image t bs u k h = data_long u (image_a t) h (image_long t k)
 part_long (part.Figures x) t bs u k h = data_long u _ h refl
 
-status_long : (s : Status) (u : List ℕ) → Long u → Long (status_left s u)
+status_long : (s : Option Four) (u : List ℕ) → Long u → Long (status_left s u)
 unfolding status_left data_of
-status_long status.Kept u h = h
-status_long (status.Written x) u h = omega (arith, length-drop 4 u)
+status_long None u h = h
+status_long (Some x) u h = omega (arith, length-drop 4 u)
 
 -- Each of raise, lower, feed, surface and reset keeps it, refused or not.
 module _ (d : Drive) (u : List ℕ) where

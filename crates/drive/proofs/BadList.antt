@@ -1,4 +1,5 @@
 -- The bad list and the store, computed.
+use Rattle.std.specs.Prelude.{None, Some}
 use mathlib.Core.Path.{◌≡◌, refl}
 use mathlib.Core.Bool.{Bool, true, false}
 use mathlib.Core.List.{List, [], ◌∷◌, ◌++◌}
@@ -16,7 +17,6 @@ use Rattle.drive.specs.declared.Ending.{Ending}
 use Rattle.drive.specs.declared.Ending.TheVariants as ending
 use Rattle.drive.specs.declared.Change.{Change}
 use Rattle.drive.specs.declared.Change.TheVariants as change
-use Rattle.drive.specs.declared.Status.TheVariants as status
 use Rattle.drive.specs.declared.Part.TheVariants as part
 use Rattle.drive.specs.declared.Turn.{Turn}
 use Rattle.drive.specs.Results.{with_marks, clean, finish}
@@ -107,10 +107,10 @@ Marks x c mark latch = (x.change ≡ c) × (x.state.marks.changed ≡ mark) × (
 
 -- Says that it is finished with this status 2, or that the store is asked for, with this ending to tell.
 abbrev Tells : Turn → ℕ → ℕ → Type 0
-Tells x one two = (x.answer ≡ answer.Finished) × (x.leaves.status ≡ status.Written (record { 0 = one; 1 = two; 2 = 0x00; 3 = 0 }))
+Tells x one two = (x.answer ≡ answer.Finished) × (x.leaves.status ≡ Some (record { 0 = one; 1 = two; 2 = 0x00; 3 = 0 }))
 
 abbrev Stores : Turn → Ending → Seen → Type 0
-Stores x e s = (x.answer ≡ answer.Store) × (x.leaves.status ≡ status.Kept) × (x.state.phase ≡ phase.Awaiting (access.Store (record { ending = e; seen = s })))
+Stores x e s = (x.answer ≡ answer.Store) × (x.leaves.status ≡ None) × (x.state.phase ≡ phase.Awaiting (access.Store (record { ending = e; seen = s })))
 
 pub record Full : Type 0 where
   pub entered_at_99 : Marks (lost_with false (up_from 100 99) 99) (change.Enter key) true false × Stores (lost_with false (up_from 100 99) 99) ending.Failed lost_read.seen

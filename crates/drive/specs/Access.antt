@@ -1,6 +1,6 @@
 -- Document 01: the surface answered an access. The codes 4 and 5, the start's reads, "Read", and "Write" with
 -- request 4 of document 02; the store with request 7.
-use Rattle.std.specs.Prelude.{Bool, true, cond, not, ◌&&◌, ◌||◌, List, ℕ, ◌+◌, ltb, leb, eqb, length}
+use Rattle.std.specs.Prelude.{Bool, true, cond, not, ◌&&◌, ◌||◌, List, ℕ, ◌+◌, ltb, leb, eqb, length, None}
 use Rattle.geometry.specs.Geometry.{table_sector}
 use Rattle.lists.specs.Lists.{member_of}
 use Rattle.table.specs.declared.Table.{Table}
@@ -24,7 +24,6 @@ use Rattle.drive.specs.declared.Cause.TheVariants as cause
 use Rattle.drive.specs.declared.Change.TheVariants as change
 use Rattle.drive.specs.declared.Part.{Part}
 use Rattle.drive.specs.declared.Part.TheVariants as part
-use Rattle.drive.specs.declared.Status.TheVariants as status
 use Rattle.drive.specs.declared.Turn.{Turn}
 use Rattle.drive.specs.Records.{awaits, of_access}
 use Rattle.drive.specs.Results.{in_phase, with_marks, with_run, refuse, say, report, finish, untouched, clean, on_present}
@@ -116,7 +115,7 @@ settled l r p =
 unfoldable pub reads : Outcome → State → Table → Part → Turn
 reads (outcome.Done r) l t p = finish l change.Keep ending.Good r.seen p
 reads (outcome.Again r) l t p =
-    record { state = in_phase l (phase.Awaiting (access.Read r)); answer = answer.Read r.sector; change = change.Keep; leaves = record { status = status.Kept; part = p } }
+    record { state = in_phase l (phase.Awaiting (access.Read r)); answer = answer.Read r.sector; change = change.Keep; leaves = record { status = None; part = p } }
 reads (outcome.Settle r) l t p = settled l r p
 reads (outcome.Lost r) l t p = lost l t r p
 reads (outcome.Stop r) l t p = finish l change.Keep ending.Latched r.seen p

@@ -1,5 +1,5 @@
 -- Document 01, "Calls" and "Acting on a command", with requests 1, 3 and 7 of document 02: raise, lower, feed and reset.
-use Rattle.std.specs.Prelude.{Bool, true, false, cond, not, ◌&&◌, ◌||◌, List, ℕ, ◌+◌, ◌-◌, min, ltb, leb, eqb, length, take}
+use Rattle.std.specs.Prelude.{Bool, true, false, cond, not, ◌&&◌, ◌||◌, List, ℕ, ◌+◌, ◌-◌, min, ltb, leb, eqb, length, take, None, Some}
 use Rattle.geometry.specs.Geometry.{is_block}
 use Rattle.lists.specs.Lists.{member_of}
 use Rattle.table.specs.declared.Table.{Table}
@@ -17,7 +17,6 @@ use Rattle.drive.specs.declared.Refusal.TheVariants as refusal
 use Rattle.drive.specs.declared.Ending.TheVariants as ending
 use Rattle.drive.specs.declared.Change.TheVariants as change
 use Rattle.drive.specs.declared.Four.{Four}
-use Rattle.drive.specs.declared.Status.TheVariants as status
 use Rattle.drive.specs.declared.Part.TheVariants as part
 use Rattle.drive.specs.declared.Turn.{Turn}
 use Rattle.drive.specs.declared.Kind.{Kind}
@@ -59,7 +58,7 @@ offers l o = say (opened l o (kept_bytes o l.count)) (answer.Offer o)
 -- now zeroed at the raise that offers 06."
 abbrev pub offers_act : State → Turn
 offers_act l =
-    record { state = in_phase l (phase.Offered offer.Act); answer = answer.Offer offer.Act; change = change.Keep; leaves = record { status = status.Kept; part = part.Zeroed l.fed } }
+    record { state = in_phase l (phase.Offered offer.Act); answer = answer.Offer offer.Act; change = change.Keep; leaves = record { status = None; part = part.Zeroed l.fed } }
 
 -- Returns what a raise does in each phase.
 unfoldable pub raised : Phase → State → Turn
@@ -154,7 +153,7 @@ goes_on offer.Act l t = acted (order_of l.command) l t
 -- Breaks the handshake off. "Any other byte: status 80 00 00 00, idle, finished."
 abbrev pub broken_off : State → Turn
 broken_off l =
-    record { state = in_phase l phase.Idle; answer = answer.Finished; change = change.Keep; leaves = record { status = status.Written (record { 0 = 0x80; 1 = 0x00; 2 = 0x00; 3 = 0x00 }); part = part.Kept } }
+    record { state = in_phase l phase.Idle; answer = answer.Finished; change = change.Keep; leaves = record { status = Some (record { 0 = 0x80; 1 = 0x00; 2 = 0x00; 3 = 0x00 }); part = part.Kept } }
 
 -- Returns what a lower does in each phase.
 unfoldable pub lowered : Phase → State → Table → ℕ → Turn
@@ -180,7 +179,7 @@ fed_data l n =
       state = record { phase = phase.Data; marks = l.marks; command = l.command; count = l.count; fed = min 533 (l.fed + n); run = l.run };
       answer = answer.Wait;
       change = change.Keep;
-      leaves = record { status = status.Kept; part = part.Filled l.fed };
+      leaves = record { status = None; part = part.Filled l.fed };
     }
 
 -- Returns what a feed does in each phase.

@@ -1,5 +1,5 @@
 -- What a rule decides (a turn), and what a call gives: the next record, the answer, and the buffer's bytes.
-use Rattle.std.specs.Prelude.{Bool, true, false, cond, not, ◌&&◌, ◌||◌, List, [], ◌∷◌, ◌++◌, ℕ, ◌+◌, ◌-◌, eqb, take, replicate}
+use Rattle.std.specs.Prelude.{Bool, true, false, cond, not, ◌&&◌, ◌||◌, List, [], ◌∷◌, ◌++◌, ℕ, ◌+◌, ◌-◌, eqb, take, replicate, Option, None, Some}
 use Rattle.geometry.specs.declared.Block.{Block}
 use Rattle.geometry.specs.declared.Sector.{Sector}
 use Rattle.table.specs.declared.Table.{Table}
@@ -26,8 +26,6 @@ use Rattle.drive.specs.declared.Cause.TheVariants as cause
 use Rattle.drive.specs.declared.Change.{Change}
 use Rattle.drive.specs.declared.Change.TheVariants as change
 use Rattle.drive.specs.declared.Four.{Four}
-use Rattle.drive.specs.declared.Status.{Status}
-use Rattle.drive.specs.declared.Status.TheVariants as status
 use Rattle.drive.specs.declared.Part.{Part}
 use Rattle.drive.specs.declared.Part.TheVariants as part
 use Rattle.drive.specs.declared.Leaves.{Leaves}
@@ -80,9 +78,9 @@ part_left part.Image t bs u = with_data u (image_a t)
 part_left (part.Figures x) t bs u = with_data u (four x ++ replicate 528 0x00)
 
 -- Returns the buffer with what becomes of its status.
-unfoldable pub status_left : Status → List ℕ → List ℕ
-status_left status.Kept u = u
-status_left (status.Written x) u = four x ++ data_of u
+unfoldable pub status_left : Option Four → List ℕ → List ℕ
+status_left None u = u
+status_left (Some x) u = four x ++ data_of u
 
 -- Returns the buffer that a turn leaves.
 abbrev pub leave : Leaves → Table → List ℕ → List ℕ → List ℕ
@@ -90,7 +88,7 @@ leave x t bs u = status_left x.status (part_left x.part t bs u)
 
 -- Leaves all of the buffer as it is.
 abbrev pub untouched : Leaves
-untouched = record { status = status.Kept; part = part.Kept }
+untouched = record { status = None; part = part.Kept }
 
 -- Returns the whole result of a turn.
 abbrev pub out_of : Table → List ℕ → List ℕ → List ℕ → Turn → Out
@@ -165,7 +163,7 @@ report l m c e s unstored unsettled p =
       state = with_marks l (reported m) phase.Idle;
       answer = answer.Finished;
       change = c;
-      leaves = record { status = status.Written (status_of e s unstored unsettled m.fresh); part = p };
+      leaves = record { status = Some (status_of e s unstored unsettled m.fresh); part = p };
     }
 
 -- Finishes a command with no access and no store: it is for no block, or no table is known. Nothing was met, and the table stays.
@@ -183,7 +181,7 @@ asks_store l m c e s p =
       state = with_marks (numbered l) m (phase.Awaiting (access.Store (record { ending = e; seen = s })));
       answer = answer.Store;
       change = c;
-      leaves = record { status = status.Kept; part = p };
+      leaves = record { status = None; part = p };
     }
 
 -- Says whether a command that ends with these marks stores the table: "ends with unstored changes"; "Under the latch none is made"

@@ -1,7 +1,7 @@
 -- Document 02, request 4: sparing. A sector trial is one write, then a hundred rereads; more than 30 failures fail it. A read at
 -- the threshold, a write/verify whose first verify failed and a write to a listed bad block begin with the trial of the
 -- present sector; each next unused spare gets one.
-use Rattle.std.specs.Prelude.{Bool, true, cond, ℕ, ◌+◌, ltb, leb, eqb}
+use Rattle.std.specs.Prelude.{Bool, true, cond, ℕ, ◌+◌, ltb, leb, eqb, None}
 use Rattle.geometry.specs.Geometry.{spare_of}
 use Rattle.geometry.specs.declared.Block.{Block}
 use Rattle.geometry.specs.declared.Sector.{Sector}
@@ -19,7 +19,6 @@ use Rattle.drive.specs.declared.Cause.{Cause}
 use Rattle.drive.specs.declared.Cause.TheVariants as cause
 use Rattle.drive.specs.declared.Change.{Change}
 use Rattle.drive.specs.declared.Change.TheVariants as change
-use Rattle.drive.specs.declared.Status.TheVariants as status
 use Rattle.drive.specs.declared.Part.{Part}
 use Rattle.drive.specs.declared.Part.TheVariants as part
 use Rattle.drive.specs.declared.Turn.{Turn}
@@ -29,7 +28,7 @@ use Rattle.drive.specs.Retries.{met}
 -- Begins a trial: asks for its write. "the block is rewritten"
 abbrev pub begin : State → Change → Trial → Part → Turn
 begin l c r p =
-    record { state = with_marks l (altered l.marks c) (phase.Awaiting (access.TrialWrite r)); answer = answer.Write r.sector; change = c; leaves = record { status = status.Kept; part = p } }
+    record { state = with_marks l (altered l.marks c) (phase.Awaiting (access.TrialWrite r)); answer = answer.Write r.sector; change = c; leaves = record { status = None; part = p } }
 
 -- THE NEXT SPARE
 

@@ -2,11 +2,16 @@
 // the calls do with them, and the crates above hold the code.
 #![tactic(auto)]
 
+ghost use Rattle.std.specs.Prelude.{◌≡◌};
+ghost use Rattle.drive.specs.Words.{response, cause_number, code_of};
+ghost use Rattle.drive.specs.Calls.{refusal_for};
+
 use geometry::{Block, Sector};
+use image::Fault;
 use table::Table;
 
 // Holds what a command has met so far. errors is document 01's E: how many of the R rereads failed.
-#[derive(Clone, Copy)]
+#[derive(Clone, Copy, Default)]
 pub struct Seen {
     pub errors: u8,
     pub crc: bool,
@@ -15,7 +20,8 @@ pub struct Seen {
 
 // Holds a read command under way. first: its first read is awaited, and left is R. Otherwise left counts
 // the rereads left, the awaited one included; where it is 0, a further read is awaited, and spent is
-// what further reads have cost. threshold is T. good: the data part holds good bytes.
+// what further reads have cost. threshold is T. good: the data part holds good bytes. first stands beside the numbers, and is no
+// kind that has them: code 1 passes each mix (`retry_ok`).
 #[derive(Clone, Copy)]
 pub struct Retry {
     pub block: Block,
@@ -71,6 +77,20 @@ pub enum Kind {
     Other,
 }
 
+// Returns the number of a cause.
+impl From<Cause> for u16 {
+    ghost from_gives = { λ x r. r ≡ cause_number x };
+
+    fn from(x: Cause) -> u16 {
+        match x {
+            Cause::Unknown => 0,
+            Cause::Crc => 1,
+            Cause::Timeout => 2,
+            Cause::NoSettle => 3,
+        }
+    }
+}
+
 // Holds a decoded command: what it asks for, the number in its block field, R and T.
 #[derive(Clone, Copy)]
 pub struct Order {
@@ -89,6 +109,21 @@ pub enum Offer {
     Write,
     Verify,
     Act,
+}
+
+// Returns the response byte of an offer.
+impl From<Offer> for u8 {
+    ghost from_gives = { λ x r. r ≡ response x };
+
+    fn from(x: Offer) -> u8 {
+        match x {
+            Offer::Command => 0x01,
+            Offer::Read => 0x02,
+            Offer::Write => 0x03,
+            Offer::Verify => 0x04,
+            Offer::Act => 0x06,
+        }
+    }
 }
 
 // Holds a command's end, while its store is awaited: how it ended, and what it has met.
@@ -124,8 +159,9 @@ pub enum Phase {
 
 // Holds five marks. known: there is a table. changed: it has changes that are not stored. moved: some
 // block's place is not stored. latch: an answer 3 has ended a command since the last start. fresh: no
-// command finished since the last start or reset.
-#[derive(Clone, Copy)]
+// command finished since the last start or reset. known is no Option of a table: the record has one in either case, and code 1
+// tests it (`record_ok`).
+#[derive(Clone, Copy, Default)]
 pub struct Marks {
     pub known: bool,
     pub changed: bool,
@@ -146,8 +182,9 @@ pub struct State {
     pub run: u32,
 }
 
-// Holds the record. The table is first, so that a call can hand it on in one copy. The cause of a spare
-// entry is at the entry's place.
+// Holds the record. The table is first, so that a call can hand it on in one copy. The cause of a spare entry is at the entry's
+// place, and is a number: a C program may lend any, and code 1 refuses those above 3. The causes are an array beside the table's,
+// as the words of C have them.
 #[derive(Clone, Copy)]
 pub struct Drive {
     pub table: Table,
@@ -166,6 +203,37 @@ pub enum Refusal {
     Form,
     Sum,
     Field,
+}
+
+// Returns the code of a refusal.
+impl From<Refusal> for u32 {
+    ghost from_gives = { λ x r. r ≡ code_of x };
+
+    fn from(x: Refusal) -> u32 {
+        match x {
+            Refusal::Record => 1,
+            Refusal::Buffer => 2,
+            Refusal::Place => 3,
+            Refusal::Answer => 4,
+            Refusal::Bytes => 5,
+            Refusal::Form => 6,
+            Refusal::Sum => 7,
+            Refusal::Field => 8,
+        }
+    }
+}
+
+// Returns the refusal of bytes that are no image.
+impl From<Fault> for Refusal {
+    ghost from_gives = { λ x r. r ≡ refusal_for x };
+
+    fn from(x: Fault) -> Refusal {
+        match x {
+            Fault::Form => Refusal::Form,
+            Fault::Sum => Refusal::Sum,
+            Fault::Field => Refusal::Field,
+        }
+    }
 }
 
 // Names what a call answers.
@@ -220,13 +288,6 @@ pub enum Change {
 #[derive(Clone, Copy)]
 pub struct Four(pub u8, pub u8, pub u8, pub u8);
 
-// Names what becomes of the buffer's status bytes.
-#[derive(Clone, Copy)]
-pub enum Status {
-    Kept,
-    Written(Four),
-}
-
 // Names what becomes of the buffer's data part: it stays, the bytes lent with the call fill it from a
 // byte on, it is zeroed from a byte on, it is form A of the table, it is four figures and zeros.
 #[derive(Clone, Copy)]
@@ -238,10 +299,10 @@ pub enum Part {
     Figures(Four),
 }
 
-// Holds what a call leaves in the buffer.
+// Holds what a call leaves in the buffer. status: the status bytes that it writes; without one they stay.
 #[derive(Clone, Copy)]
 pub struct Leaves {
-    pub status: Status,
+    pub status: Option<Four>,
     pub part: Part,
 }
 

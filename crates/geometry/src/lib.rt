@@ -27,14 +27,15 @@ pub fn is_sector(s: Sector) -> bool
 }
 
 // Returns the sector of a block that was never moved.
+#[tactic(auto, unfolding(crate::specs::Geometry::home_of))]
 pub fn home(b: Block) -> Sector
     ensures { result ≡ home_of b }
 {
-    let n = b.0 as u32;
-    if n < 4928 { Sector(n) } else { Sector(n + 64) }
+    let n = u32::from(b.0);
+    Sector(if n < 4928 { n } else { n + 64 })
 }
 
-// Returns the sector of spare k.
+// Returns the sector of spare k. A u32 has no From of a usize, and below 32 the cast loses no bit.
 pub fn spare(k: usize) -> Sector
     requires { k < 32 }
     ensures { result ≡ spare_of k }

@@ -1,30 +1,25 @@
 // The host's calls (document 01, "Calls"): raise, lower, feed and reset.
 #![tactic(auto)]
 
-ghost use Rattle.std.specs.Prelude.{◌≡◌, ◌≤◌, min};
+ghost use Rattle.std.specs.Prelude.{◌≡◌, ◌≤◌};
 ghost use Rattle.drive.specs.Words.{order_of};
 ghost use Rattle.drive.specs.Handshake.{offer_for, kept_bytes, offers_act, raised, acted, goes_on, broken_off, lowered, fed_command, fed_data, fed_to, at_rest, rested};
 ghost use Rattle.drive.specs.declared.Phase.TheVariants as phase;
-ghost use Rattle.records.specs.Turns.{lent};
 
-use drive::{
-    Answer, Change, Four, Kind, Leaves, Marks, Offer, Part, Phase, Refusal, State, Status, Turn,
-};
+use drive::{Answer, Change, Four, Kind, Leaves, Marks, Offer, Part, Phase, Refusal, State, Turn};
+use table::Bounded;
 
 // Returns the offer for a command of n bytes.
+#[tactic(auto, unfolding(drive::specs::Handshake::offer_for))]
 fn offer_for(k: Kind, n: usize) -> Offer
     ensures { result ≡ offer_for k n }
 {
-    if records::is_read(k) & (6 <= n) {
-        return Offer::Read;
+    match k {
+        Kind::Read if 6 <= n => Offer::Read,
+        Kind::Write if 4 <= n => Offer::Write,
+        Kind::Verify if 4 <= n => Offer::Verify,
+        _ => Offer::Command,
     }
-    if records::is_write(k) & (4 <= n) {
-        return Offer::Write;
-    }
-    if records::is_verify(k) & (4 <= n) {
-        return Offer::Verify;
-    }
-    Offer::Command
 }
 
 // Returns how many command bytes are kept with an offer: 01 drops them.
@@ -33,20 +28,16 @@ fn kept_bytes(o: Offer, n: usize) -> usize
 {
     match o {
         Offer::Command => 0,
-        Offer::Read => n,
-        Offer::Write => n,
-        Offer::Verify => n,
-        Offer::Act => n,
+        Offer::Read | Offer::Write | Offer::Verify | Offer::Act => n,
     }
 }
 
 // Makes the offer for the command that was fed.
+#[tactic(auto, unfolding(drive::specs::Handshake::raised))]
 fn raise_command(l: State) -> Turn
     ensures { result ≡ raised phase.Command l }
 {
-    let c = l.command;
-    let k = records::order_of(c).kind;
-    let o = offer_for(k, l.count);
+    let o = offer_for(records::order_of(l.command).kind, l.count);
     records::offer(l, o, kept_bytes(o, l.count))
 }
 
@@ -54,52 +45,48 @@ fn raise_command(l: State) -> Turn
 fn raise_data(l: State) -> Turn
     ensures { result ≡ offers_act l }
 {
-    let f = l.fed;
     Turn {
         state: records::in_phase(l, Phase::Offered(Offer::Act)),
         answer: Answer::Offer(Offer::Act),
         change: Change::Keep,
         leaves: Leaves {
-            status: Status::Kept,
-            part: Part::Zeroed(f),
+            status: None,
+            part: Part::Zeroed(l.fed),
         },
     }
 }
 
 // Raises the CMD line.
+#[tactic(auto, unfolding(drive::specs::Handshake::raised))]
 pub fn raise(l: State) -> Turn
     ensures { result ≡ raised l.phase l }
 {
-    let p = l.phase;
-    match p {
+    match l.phase {
         Phase::Idle => records::offer(l, Offer::Command, 0),
-        Phase::Offered(_) => records::refuse(l, Refusal::Place),
         Phase::Command => raise_command(l),
         Phase::Data => raise_data(l),
-        Phase::Awaiting(_) => records::refuse(l, Refusal::Place),
+        Phase::Offered(_) | Phase::Awaiting(_) => records::refuse(l, Refusal::Place),
     }
 }
 
 // Acts on the command that was fed.
-fn act<'a>(l: State, spares: &'a [u16], n: usize, bads: &'a [u16], m: usize) -> Turn
-    requires { (n ≤ 32) × (m ≤ 100) }
-    ensures { result ≡ acted (order_of l.command) l (lent spares.now n bads.now m) }
+fn act(l: State, t: &Bounded) -> Turn
+    ensures { result ≡ acted (order_of l.command) l t.now }
 {
-    let c = l.command;
-    acting::act(records::order_of(c), l, spares, n, bads, m)
+    acting::act(records::order_of(l.command), l, t)
 }
 
 // Goes on with an offer that the host accepted.
-fn go_on<'a>(o: Offer, l: State, spares: &'a [u16], n: usize, bads: &'a [u16], m: usize) -> Turn
-    requires { (n ≤ 32) × (m ≤ 100) }
-    ensures { result ≡ goes_on o l (lent spares.now n bads.now m) }
+#[tactic(auto, unfolding(drive::specs::Handshake::goes_on))]
+fn go_on(o: Offer, l: State, t: &Bounded) -> Turn
+    ensures { result ≡ goes_on o l t.now }
 {
     match o {
         Offer::Command => records::say(records::in_phase(l, Phase::Command), Answer::Wait),
-        Offer::Read => act(l, spares, n, bads, m),
-        Offer::Write => records::say(records::in_phase(l, Phase::Data), Answer::Wait),
-        Offer::Verify => records::say(records::in_phase(l, Phase::Data), Answer::Wait),
-        Offer::Act => act(l, spares, n, bads, m),
+        Offer::Write | Offer::Verify => {
+            records::say(records::in_phase(l, Phase::Data), Answer::Wait)
+        }
+        Offer::Read | Offer::Act => act(l, t),
     }
 }
 
@@ -112,43 +99,33 @@ fn break_off(l: State) -> Turn
         answer: Answer::Finished,
         change: Change::Keep,
         leaves: Leaves {
-            status: Status::Written(Four(0x80, 0x00, 0x00, 0x00)),
+            status: Some(Four(0x80, 0x00, 0x00, 0x00)),
             part: Part::Kept,
         },
     }
 }
 
 // Takes the host's byte after an offer.
-fn take_byte<'a>(
-    o: Offer,
-    l: State,
-    spares: &'a [u16],
-    n: usize,
-    bads: &'a [u16],
-    m: usize,
-    b: u8,
-) -> Turn
-    requires { (n ≤ 32) × (m ≤ 100) }
-    ensures { result ≡ lowered (phase.Offered o) l (lent spares.now n bads.now m) b }
+#[tactic(auto, unfolding(drive::specs::Handshake::lowered))]
+fn take_byte(o: Offer, l: State, t: &Bounded, b: u8) -> Turn
+    ensures { result ≡ lowered (phase.Offered o) l t.now b }
 {
     if b == 0x55 {
-        return go_on(o, l, spares, n, bads, m);
+        return go_on(o, l, t);
     }
     break_off(l)
 }
 
-// Lowers the CMD line with byte b. The first n of spares and the first m of bads are the table's lists.
-pub fn lower<'a>(l: State, spares: &'a [u16], n: usize, bads: &'a [u16], m: usize, b: u8) -> Turn
-    requires { (n ≤ 32) × (m ≤ 100) }
-    ensures { result ≡ lowered l.phase l (lent spares.now n bads.now m) b }
+// Lowers the CMD line with byte b.
+#[tactic(auto, unfolding(drive::specs::Handshake::lowered))]
+pub fn lower(l: State, t: &Bounded, b: u8) -> Turn
+    ensures { result ≡ lowered l.phase l t.now b }
 {
-    let p = l.phase;
-    match p {
-        Phase::Idle => records::refuse(l, Refusal::Place),
-        Phase::Offered(o) => take_byte(o, l, spares, n, bads, m, b),
-        Phase::Command => records::refuse(l, Refusal::Place),
-        Phase::Data => records::refuse(l, Refusal::Place),
-        Phase::Awaiting(_) => records::refuse(l, Refusal::Place),
+    match l.phase {
+        Phase::Offered(o) => take_byte(o, l, t, b),
+        Phase::Idle | Phase::Command | Phase::Data | Phase::Awaiting(_) => {
+            records::refuse(l, Refusal::Place)
+        }
     }
 }
 
@@ -157,27 +134,16 @@ fn feed_command(l: State, bytes: &[u8]) -> Turn
     requires { l.count ≤ 6 }
     ensures { result ≡ fed_command l bytes.now }
 {
-    let m = l.marks;
-    let n = l.count;
-    let kept = records::cut(bytes, 6 - n);
-    let mut c = l.command;
-    buffer::put(&mut c, n, kept);
+    let kept = buffer::cut(bytes, 6 - l.count);
+    let mut command = l.command;
+    buffer::put(&mut command, l.count, kept);
     let next = State {
         phase: Phase::Command,
-        marks: m,
-        command: c,
-        count: n + kept.len(),
-        fed: l.fed,
-        run: l.run,
+        command,
+        count: l.count + kept.len(),
+        ..l
     };
     records::say(next, Answer::Wait)
-}
-
-// Returns the smaller of two numbers.
-fn smaller(a: usize, b: usize) -> usize
-    ensures { result ≡ min a b }
-{
-    if a < b { a } else { b }
 }
 
 // Takes n data bytes, and counts them up to 533.
@@ -185,39 +151,31 @@ fn feed_data(l: State, n: usize) -> Turn
     requires { l.fed ≤ 533 }
     ensures { result ≡ fed_data l n }
 {
-    let m = l.marks;
-    let c = l.command;
-    let f = l.fed;
     Turn {
         state: State {
             phase: Phase::Data,
-            marks: m,
-            command: c,
-            count: l.count,
-            fed: f + smaller(533 - f, n),
-            run: l.run,
+            fed: l.fed + (533 - l.fed).min(n),
+            ..l
         },
         answer: Answer::Wait,
         change: Change::Keep,
         leaves: Leaves {
-            status: Status::Kept,
-            part: Part::Filled(f),
+            status: None,
+            part: Part::Filled(l.fed),
         },
     }
 }
 
 // Takes the bytes that the host feeds.
+#[tactic(auto, unfolding(drive::specs::Handshake::fed_to))]
 pub fn feed(l: State, bytes: &[u8]) -> Turn
     requires { (l.count ≤ 6) × (l.fed ≤ 533) }
     ensures { result ≡ fed_to l.phase l bytes.now }
 {
-    let p = l.phase;
-    match p {
-        Phase::Idle => records::refuse(l, Refusal::Place),
-        Phase::Offered(_) => records::refuse(l, Refusal::Place),
+    match l.phase {
         Phase::Command => feed_command(l, bytes),
         Phase::Data => feed_data(l, bytes.len()),
-        Phase::Awaiting(_) => records::refuse(l, Refusal::Place),
+        Phase::Idle | Phase::Offered(_) | Phase::Awaiting(_) => records::refuse(l, Refusal::Place),
     }
 }
 
@@ -225,27 +183,20 @@ pub fn feed(l: State, bytes: &[u8]) -> Turn
 fn rest(l: State) -> Turn
     ensures { result ≡ at_rest l }
 {
-    let m = l.marks;
     let due = Marks {
-        known: m.known,
-        changed: m.changed,
-        moved: m.moved,
-        latch: m.latch,
         fresh: true,
+        ..l.marks
     };
     records::say(records::with_marks(l, due, Phase::Idle), Answer::Wait)
 }
 
 // Resets a drive that is idle or in the handshake.
+#[tactic(auto, unfolding(drive::specs::Handshake::rested))]
 pub fn reset(l: State) -> Turn
     ensures { result ≡ rested l.phase l }
 {
-    let p = l.phase;
-    match p {
-        Phase::Idle => rest(l),
-        Phase::Offered(_) => rest(l),
-        Phase::Command => rest(l),
-        Phase::Data => rest(l),
+    match l.phase {
+        Phase::Idle | Phase::Offered(_) | Phase::Command | Phase::Data => rest(l),
         Phase::Awaiting(_) => records::refuse(l, Refusal::Place),
     }
 }

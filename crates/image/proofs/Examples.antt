@@ -4,11 +4,11 @@ use mathlib.Core.Bool.{Bool, true, not, ◌&&◌}
 use mathlib.Core.List.{List, [], ◌∷◌, ◌++◌}
 use Prim.Native.Nat.{ℕ, zero, suc, ◌%◌}
 use lib.ListN.{take, drop, replicate}
+use Rattle.std.specs.Prelude.{Err}
 use Rattle.lists.specs.Lists.{member_of, entry_ok, entries_ok, dead}
 use Rattle.table.specs.Tables.{causes_ok, spare_list, bad_list}
 use Rattle.buffer.specs.Runs.{same, all_are, sum}
 use Rattle.image.specs.declared.Fault.TheVariants as fault
-use Rattle.image.specs.declared.Found.TheVariants as found
 use Rattle.image.specs.Layouts.{wide, triple, triples, narrow, entry_at, entries_from, entries_fit}
 use Rattle.image.specs.FormA.{list_part, framed_part, form_a, framed_a, formed_a}
 use Rattle.image.specs.FormB.{two_bytes, head_b, quad, quads, listed_part, summed_part, form_b, two_at, causes_from, sum_fits, framed_b, fields_fit, formed_b}
@@ -86,7 +86,7 @@ sized n m = form_b 0xFFFFFFFF (replicate n dead) (replicate n 3) (blocks m)
 
 -- Says that the reader finds no table, for a field that is wrong.
 abbrev Field : List ℕ → Type 0
-Field i = (read_of i).found ≡ found.Malformed fault.Field
+Field i = read_of i ≡ Err fault.Field
 
 pub record Refuses : Type 0 where
   -- 6: one of the four bytes, whatever the rest is; the sum is not looked at
@@ -212,7 +212,7 @@ reads_a = record { formed = refl; spares = refl; bads = refl; empty_lists = refl
 
 -- Says that the reader finds no table, for bytes of neither form.
 abbrev Neither : List ℕ → Type 0
-Neither i = (read_of i).found ≡ found.Malformed fault.Form
+Neither i = read_of i ≡ Err fault.Form
 
 -- Says the same of the image with the byte at place k another one.
 abbrev Broken : ℕ → ℕ → Type 0

@@ -1,21 +1,19 @@
 -- The tests of an image taken apart: what both forms share, form A, form B.
 use mathlib.Core.Path.{◌≡◌, refl, ap, sym, ◌∙◌}
-use mathlib.Core.Bool.{Bool, true, false, cond, ◌&&◌}
+use mathlib.Core.Bool.{Bool, true, false, cond}
 use mathlib.Core.List.{List}
 use Prim.Native.Nat.{ℕ, ◌+◌, ◌-◌, ◌*◌, ◌≤◌}
 use native.Mathlib.Omega.{arith}
-use borrow.Author.Tests.{eqb-true, leb-true, le-leb}
-use lib.Dec.{leb, eqb}
+use borrow.Author.Tests.{le-leb}
 use lib.ListN.{length, take, drop}
 use lib.Seq.{take-take}
-use Rattle.logic.proofs.Bools.{and_left, and_right}
 use Rattle.lists.specs.Lists.{entries_ok}
 use Rattle.table.specs.Tables.{causes_ok}
 use Rattle.buffer.specs.Runs.{same, all_are}
 use Rattle.buffer.proofs.Compare.{same_equal}
 use Rattle.image.specs.declared.Layout.{Layout}
 use Rattle.image.specs.Layouts.{spare_entries, bad_entries, counts_fit, entries_fit}
-use Rattle.image.specs.FormA.{header, layout_a, has_header, mark_at, zeros_from, framed_a, formed_a}
+use Rattle.image.specs.FormA.{header, layout_a, has_header, framed_a, formed_a}
 use Rattle.image.specs.FormB.{magic, two_at, has_magic, layout_b, cause_entries, sum_fits, framed_b, fields_fit, formed_b}
 use Rattle.image.specs.Images.{well_formed, layout_of}
 
@@ -28,12 +26,7 @@ pub record Fits (a : Layout) (i : List ℕ) : Type 0 where
 
 pub fits : (a : Layout) (i : List ℕ) → counts_fit a ≡ true → entries_fit a i ≡ true → Fits a i
 unfolding entries_fit
-fits a i c e =
-    let n = leb a.nspares 32 in
-    let m = leb a.nbads 100 in
-    let s = entries_ok true (spare_entries a i) in
-    let b = entries_ok false (bad_entries a i) in
-    record { few_spares = leb-true a.nspares 32 (and_left n m c); few_bads = leb-true a.nbads 100 (and_right n m c); spares = and_left s b e; bads = and_right s b e }
+fits a i c e = record { few_spares = grind (arith, c); few_bads = grind (arith, c); spares = grind (arith, e); bads = grind (arith, e) }
 
 pub fit_counts : (a : Layout) (i : List ℕ) → Fits a i → counts_fit a ≡ true
 fit_counts a i f = rw (le-leb a.nspares 32 f.few_spares) (le-leb a.nbads 100 f.few_bads)
@@ -51,14 +44,7 @@ pub record FrameA (i : List ℕ) (n m : ℕ) : Type 0 where
 
 pub frame_a : (i : List ℕ) (n m : ℕ) → framed_a i n m ≡ true → FrameA i n m
 unfolding framed_a
-frame_a i n m h =
-    let c = has_header i in
-    let d = mark_at i (26 + 3 * n) in
-    let e = mark_at i (29 + 3 * n + 3 * m) in
-    let f = zeros_from i (32 + 3 * n + 3 * m) in
-    let h3 = and_left (c && d && e) f h in
-    let h2 = and_left (c && d) e h3 in
-    record { head = and_left c d h2; first = and_right c d h2; second = and_right (c && d) e h3; zeros = and_right (c && d && e) f h }
+frame_a i n m h = record { head = grind (arith, h); first = grind (arith, h); second = grind (arith, h); zeros = grind (arith, h) }
 
 pub record FormedA (i : List ℕ) : Type 0 where
   pub long : length i ≡ 532
@@ -68,20 +54,13 @@ pub record FormedA (i : List ℕ) : Type 0 where
 -- all but the length
 pub parts_a : (i : List ℕ) → formed_a i ≡ true → FrameA i (layout_a i).nspares (layout_a i).nbads × Fits (layout_a i) i
 unfolding formed_a
-parts_a i h =
-    let c = counts_fit (layout_a i) in
-    let f = framed_a i (layout_a i).nspares (layout_a i).nbads in
-    let e = entries_fit (layout_a i) i in
-    let h2 = and_left (c && f) e h in
-    (frame_a i (layout_a i).nspares (layout_a i).nbads (and_right c f h2), fits (layout_a i) i (and_left c f h2) (and_right (c && f) e h))
+parts_a i h = (frame_a i (layout_a i).nspares (layout_a i).nbads (grind (arith, h)), fits (layout_a i) i (grind (arith, h)) (grind (arith, h)))
 
 pub formed_a_lem : (i : List ℕ) → well_formed i ≡ true → has_magic i ≡ false → FormedA i
 unfolding well_formed
 formed_a_lem i h b =
-    let p = eqb (length i) 532 in
-    let h2 : (p && formed_a i) ≡ true = rw b at h in
-    let q = parts_a i (and_right p (formed_a i) h2) in
-    record { long = eqb-true (length i) 532 (and_left p (formed_a i) h2); frame = q.0; lists = q.1 }
+    let q = parts_a i (grind (arith, h, b)) in
+    record { long = grind (arith, h); frame = q.0; lists = q.1 }
 
 -- FORM B: the frame, with counts of n and m, and the whole
 pub record FrameB (i : List ℕ) (n m : ℕ) : Type 0 where
@@ -91,12 +70,7 @@ pub record FrameB (i : List ℕ) (n m : ℕ) : Type 0 where
 
 pub frame_b : (i : List ℕ) (n m : ℕ) → framed_b i n m ≡ true → FrameB i n m
 unfolding framed_b
-frame_b i n m h =
-    let c = eqb (two_at i 10) 16 in
-    let d = eqb (two_at i 14) (16 + 4 * n) in
-    let e = all_are 0 (take (514 - 4 * n - 3 * m) (drop (16 + 4 * n + 3 * m) i)) in
-    let h2 = and_left (c && d) e h in
-    record { spare_offset = eqb-true (two_at i 10) 16 (and_left c d h2); bad_offset = eqb-true (two_at i 14) (16 + 4 * n) (and_right c d h2); zeros = and_right (c && d) e h }
+frame_b i n m h = record { spare_offset = grind (arith, h); bad_offset = grind (arith, h); zeros = grind (arith, h) }
 
 pub record FormedB (i : List ℕ) : Type 0 where
   pub long : length i ≡ 532
@@ -111,27 +85,13 @@ pub parts_b : (i : List ℕ) → fields_fit i ≡ true
     → FrameB i (layout_b i).nspares (layout_b i).nbads × (causes_ok (cause_entries i) ≡ true) × Fits (layout_b i) i
 unfolding fields_fit
 parts_b i h =
-    let c = counts_fit (layout_b i) in
-    let f = framed_b i (layout_b i).nspares (layout_b i).nbads in
-    let k = causes_ok (cause_entries i) in
-    let e = entries_fit (layout_b i) i in
-    let h3 = and_left (c && f && k) e h in
-    let h2 = and_left (c && f) k h3 in (
-      frame_b i (layout_b i).nspares (layout_b i).nbads (and_right c f h2),
-      and_right (c && f) k h3,
-      fits (layout_b i) i (and_left c f h2) (and_right (c && f && k) e h),
-    )
+    (frame_b i (layout_b i).nspares (layout_b i).nbads (grind (arith, h)), grind (arith, h), fits (layout_b i) i (grind (arith, h)) (grind (arith, h)))
 
 pub formed_b_lem : (i : List ℕ) → well_formed i ≡ true → has_magic i ≡ true → FormedB i
 unfolding well_formed formed_b
 formed_b_lem i h b =
-    let p = eqb (length i) 532 in
-    let s = sum_fits i in
-    let f = fields_fit i in
-    let h2 : (p && (s && f)) ≡ true = rw b at h in
-    let h3 = and_right p (s && f) h2 in
-    let q = parts_b i (and_right s f h3) in
-    record { long = eqb-true (length i) 532 (and_left p (s && f) h2); magic = b; sum = and_left s f h3; frame = q.0; causes = q.1; lists = q.2 }
+    let q = parts_b i (grind (arith, h, b)) in
+    record { long = grind (arith, h); magic = b; sum = grind (arith, h, b); frame = q.0; causes = q.1; lists = q.2 }
 
 -- AN IMAGE OF FORM A DOES NOT BEGIN AS FORM B
 pub header_no_magic : (i : List ℕ) → has_header i ≡ true → has_magic i ≡ false
@@ -152,7 +112,7 @@ layout_b_lem i b = rw b
 
 pub formed_long : (i : List ℕ) → well_formed i ≡ true → length i ≡ 532
 unfolding well_formed
-formed_long i h = eqb-true (length i) 532 (and_left (eqb (length i) 532) (cond (has_magic i) (formed_b i) (formed_a i)) h)
+formed_long i h = grind (arith, h)
 
 pub read_fits : (i : List ℕ) → well_formed i ≡ true → Fits (layout_of i) i
 read_fits i h = go (has_magic i) refl

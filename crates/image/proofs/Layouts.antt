@@ -2,7 +2,7 @@
 use mathlib.Core.Path.{◌≡◌, refl, ap, sym, ◌∙◌}
 use mathlib.Core.Bool.{Bool, true, false, cond}
 use mathlib.Core.List.{List, [], ◌∷◌, ◌++◌}
-use Prim.Native.Nat.{ℕ, zero, suc, ◌+◌, ◌-◌, ◌*◌, ◌/◌, ◌%◌, ◌≤◌, ◌<◌}
+use Prim.Native.Nat.{ℕ, zero, suc, ◌+◌, ◌*◌, ◌/◌, ◌%◌, ◌≤◌, ◌<◌}
 use native.Mathlib.Omega.{arith}
 use borrow.Author.Tests.{eq-eqb, ne_eqb, eqb-true, ltb-true}
 use lib.Dec.{eqb}
@@ -25,12 +25,6 @@ mul_none w = omega arith
 
 pub mul_next : (w n : ℕ) → w * suc n ≡ w + w * n
 mul_next w n = omega arith
-
-pub mul_below : (w k n : ℕ) → k < n → w * k + w ≤ w * n
-mul_below w k n h = go (n - suc k) (omega arith)
-  where
-    go : (d : ℕ) → n ≡ suc k + d → w * k + w ≤ w * n
-    go d e = rw e (omega arith)
 
 pub triples_length : (l : List ℕ) → length (triples l) ≡ 3 * length l
 unfolding triples triple

@@ -8,6 +8,7 @@ use borrow.Author.Tests.{leb-true}
 use lib.Dec.{leb}
 use lib.ListN.{length, take, drop, replicate, length-drop, length-append, length-replicate}
 use lib.Seq.{take_at, length-take-le}
+use Rattle.std.specs.Prelude.{is_ok}
 use Rattle.logic.proofs.Bools.{and_left, and_right}
 use Rattle.buffer.specs.Runs.{all_are}
 use Rattle.buffer.proofs.Compare.{all_replicate}
@@ -18,20 +19,16 @@ use Rattle.image.specs.declared.Layout.{Layout}
 use Rattle.image.specs.Layouts.{spare_entries, bad_entries, counts_fit, entries_fit, in_array, table_in}
 use Rattle.image.specs.FormA.{layout_a}
 use Rattle.image.specs.FormB.{has_magic, layout_b, cause_entries, causes_in}
-use Rattle.image.specs.Images.{well_formed, fault_of, layout_of, table_of, run_of, causes_of, is_table, nothing, holding, read_of}
+use Rattle.image.specs.Images.{well_formed, layout_of, table_of, causes_of, read_of}
 use Rattle.image.proofs.Layouts.{entries_length}
 use Rattle.image.proofs.Reading.{causes_of_lem}
 use Rattle.image.proofs.ReadingB.{causes_length}
 use Rattle.image.proofs.Formed.{fits, fit_counts, fit_entries, formed_b_lem, formed_long, read_fits}
 
 -- THE READER ANSWERS A TABLE EXACTLY WHEN THE IMAGE IS WELL FORMED
-pub found_exactly : (i : List ℕ) → is_table (read_of i).found ≡ well_formed i
+pub found_exactly : (i : List ℕ) → is_ok (read_of i) ≡ well_formed i
 unfolding read_of
-found_exactly i = go (well_formed i)
-  where
-    go : (t : Bool) → is_table (cond t (holding (table_of i) (run_of i) (causes_of i)) (nothing (fault_of i))).found ≡ t
-    go true = refl
-    go false = refl
+found_exactly i = grind arith
 
 -- A SLICE OF ANOTHER LENGTH IS NO IMAGE
 pub other_length : (i : List ℕ) → (length i ≡ 532 → ⊥) → well_formed i ≡ false

@@ -1,10 +1,8 @@
 -- An image of either form: which bytes are one, what it holds, and what the reader and the writers answer.
-use Rattle.std.specs.Prelude.{ℕ, Bool, true, false, cond, ◌&&◌, List, length, replicate, leb, eqb}
+use Rattle.std.specs.Prelude.{ℕ, Bool, cond, ◌&&◌, List, length, replicate, leb, eqb, Option, Some, None, Result, Ok, Err}
 use Rattle.table.specs.declared.Table.{Table}
 use Rattle.image.specs.declared.Fault.{Fault}
 use Rattle.image.specs.declared.Fault.TheVariants as fault
-use Rattle.image.specs.declared.Found.{Found}
-use Rattle.image.specs.declared.Found.TheVariants as found
 use Rattle.image.specs.declared.Image.{Image}
 use Rattle.image.specs.declared.Layout.{Layout}
 use Rattle.image.specs.Layouts.{entries_fit, table_in}
@@ -35,33 +33,22 @@ causes_of i = cond (has_magic i) (causes_in i) (replicate 32 0)
 
 -- THE READER
 
--- Says whether a table was found.
-abbrev pub is_table : Found → Bool
-is_table (found.Lists n m run) = true
-is_table (found.Malformed x) = false
+-- Returns what the reader answers: a table with its causes and its run number, or what is wrong.
+unfoldable pub read_of : List ℕ → Result Image Fault
+read_of i = cond (well_formed i) (Ok (record { table = table_of i; causes = causes_of i; run = run_of i })) (Err (fault_of i))
 
--- Answers that there is no table, and why.
-abbrev pub nothing : Fault → Image
-nothing x = record { found = found.Malformed x; spares = replicate 32 0; causes = replicate 32 0; bads = replicate 100 0 }
+-- Returns the table where all but the entries was tested, with this layout.
+unfoldable pub loaded : List ℕ → Layout → Option Table
+loaded i a = cond (entries_fit a i) (Some (table_in a i)) None
 
--- Answers a table, its run number and its causes.
-abbrev pub holding : Table → ℕ → List ℕ → Image
-holding t run causes = record { found = found.Lists t.nspares t.nbads run; spares = t.spares; causes = causes; bads = t.bads }
+-- Returns what the reader answers of 532 bytes that do not begin as form B, and of 532 that do.
+unfoldable pub read_a : List ℕ → Result Image Fault
+read_a i = cond (formed_a i) (Ok (record { table = table_in (layout_a i) i; causes = replicate 32 0; run = 0 })) (Err fault.Form)
 
--- Returns what the reader answers.
-unfoldable pub read_of : List ℕ → Image
-read_of i = cond (well_formed i) (holding (table_of i) (run_of i) (causes_of i)) (nothing (fault_of i))
-
--- Returns the same where all but the entries was tested, with this layout, run number, causes, and fault of a wrong entry.
-unfoldable pub loaded : List ℕ → Layout → ℕ → List ℕ → Fault → Image
-loaded i a run causes x = cond (entries_fit a i) (holding (table_in a i) run causes) (nothing x)
-
--- Returns the same of 532 bytes that do not begin as form B, and of 532 that do.
-unfoldable pub read_a : List ℕ → Image
-read_a i = cond (formed_a i) (holding (table_in (layout_a i) i) 0 (replicate 32 0)) (nothing fault.Form)
-
-unfoldable pub read_b : List ℕ → Image
-read_b i = cond (formed_b i) (holding (table_in (layout_b i) i) (run_in i) (causes_in i)) (nothing (cond (sum_fits i) fault.Field fault.Sum))
+unfoldable pub read_b : List ℕ → Result Image Fault
+read_b i =
+    cond (formed_b i) (Ok (record { table = table_in (layout_b i) i; causes = causes_in i; run = run_in i }))
+    (Err (cond (sum_fits i) fault.Field fault.Sum))
 
 -- THE WRITERS: what they leave in the bytes lent. It is the image, or what was there if they are not 532 or a list is too long.
 

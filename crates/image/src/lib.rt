@@ -2,6 +2,8 @@
 // request 6. Types alone: specs/ says what an image is, and `codec` has the code.
 #![tactic(auto)]
 
+use table::Table;
+
 // Names why bytes are no image: they have neither form, form B's sum is wrong, or another field of it is.
 #[derive(Clone, Copy)]
 pub enum Fault {
@@ -10,21 +12,12 @@ pub enum Fault {
     Field,
 }
 
-// Names what an image holds: a spare list and a bad list of so many entries and the run number, or no
-// table.
-#[derive(Clone, Copy)]
-pub enum Found {
-    Lists(usize, usize, u32),
-    Malformed(Fault),
-}
-
-// Holds what the reader answers: what it found, and beside it the two lists and the causes.
+// Holds what an image holds: a table, the causes of its spare entries, and the run number.
 #[derive(Clone, Copy)]
 pub struct Image {
-    pub found: Found,
-    pub spares: [u16; 32],
+    pub table: Table,
     pub causes: [u16; 32],
-    pub bads: [u16; 100],
+    pub run: u32,
 }
 
 // Holds where an image has its lists: how many entries, the place of the first spare entry, how many

@@ -14,7 +14,8 @@ use Rattle.image.specs.FormA.{image_a}
 use Rattle.image.specs.FormB.{image_b}
 use Rattle.image.specs.Images.{written_a, written_b}
 use Rattle.drive.specs.Words.{with_data}
-use Rattle.records.specs.Turns.{lent}
+use Rattle.table.specs.declared.Table.{Table}
+use Rattle.table.specs.Tables.{spare_list, bad_list}
 
 -- A run that reaches the end replaces all from its place on.
 over_end : (at : ℕ) (run u : List ℕ) → length u ≤ at + length run → over at run u ≡ take at u ++ run
@@ -48,23 +49,23 @@ part_put u ys =
     let h : length (drop 4 u) ≤ length u - 4 = omega (arith, length-drop 4 u) in
     rw (drop_of_length-le (drop 4 u) h, append-nil ys)
 
--- The writers give the image of lists cut to their counts.
-pub stored_whole : (run : ℕ) (sp cs bd o : List ℕ) (n m : ℕ) → n ≤ 32 → m ≤ 100 → length o ≡ 532 → length sp ≡ 32 → length cs ≡ 32
-    → written_b run (take n sp) (take n cs) (take m bd) o ≡ image_b run (lent sp n bd m) cs
-unfolding written_b
-stored_whole run sp cs bd o n m p q h a b =
-    rw (
-      eq-eqb (length o) 532 h,
-      le-leb (length (take n sp)) 32 (simp length-take (omega arith)),
-      le-leb (length (take m bd)) 100 (simp length-take (omega arith)),
-      eq-eqb (length (take n cs)) (length (take n sp)) (length-take-le n cs (omega arith) ∙ sym (length-take-le n sp (omega arith))),
-    )
+-- The writers give the image of a table's two lists.
+module _ (t : Table) (o : List ℕ) (p : t.nspares ≤ 32) (q : t.nbads ≤ 100) (h : length o ≡ 532) where
+  pub stored_whole : (run : ℕ) (cs : List ℕ) → length t.spares ≡ 32 → length cs ≡ 32 → written_b run (spare_list t) (take t.nspares cs) (bad_list t) o ≡ image_b run t cs
+  unfolding written_b
+  stored_whole run cs a b =
+      rw (
+        eq-eqb (length o) 532 h,
+        le-leb (length (spare_list t)) 32 (simp length-take (omega arith)),
+        le-leb (length (bad_list t)) 100 (simp length-take (omega arith)),
+        eq-eqb (length (take t.nspares cs)) (length (spare_list t)) (length-take-le t.nspares cs (omega arith) ∙ sym (length-take-le t.nspares t.spares (omega arith))),
+      )
 
-pub image_whole : (sp bd o : List ℕ) (n m : ℕ) → n ≤ 32 → m ≤ 100 → length o ≡ 532 → written_a (take n sp) (take m bd) o ≡ image_a (lent sp n bd m)
-unfolding written_a
-image_whole sp bd o n m p q h =
-    rw (
-      eq-eqb (length o) 532 h,
-      le-leb (length (take n sp)) 32 (simp length-take (omega arith)),
-      le-leb (length (take m bd)) 100 (simp length-take (omega arith)),
-    )
+  pub image_whole : written_a (spare_list t) (bad_list t) o ≡ image_a t
+  unfolding written_a
+  image_whole =
+      rw (
+        eq-eqb (length o) 532 h,
+        le-leb (length (spare_list t)) 32 (simp length-take (omega arith)),
+        le-leb (length (bad_list t)) 100 (simp length-take (omega arith)),
+      )

@@ -1,4 +1,5 @@
-// What a turn leaves in the buffer. No other crate writes block data.
+// What a turn leaves in the buffer. No other crate writes block data. The buffer stays a slice, with its 536 bytes in the clauses:
+// a caller has it as a slice, and what `<&mut [u8; 536]>::try_from` leaves in one was tried and isn't proved.
 #![tactic(auto)]
 
 ghost use Rattle.std.specs.Prelude.{◌≡◌, ◌++◌, ◌+◌, ◌-◌, ◌≤◌, length, take, replicate};
@@ -7,9 +8,9 @@ ghost use Rattle.image.specs.FormA.{image_a};
 ghost use Rattle.image.specs.FormB.{image_b};
 ghost use Rattle.drive.specs.Words.{with_data};
 ghost use Rattle.drive.specs.Results.{four, part_left, status_left, leave};
-ghost use Rattle.records.specs.Turns.{lent};
 
-use drive::{Four, Leaves, Part, Status};
+use drive::{Four, Leaves, Part};
+use table::Bounded;
 
 // Fills the data part with the bytes from place f on, as far as 532 go.
 fn fill(buf: &mut [u8], f: usize, bytes: &[u8])
@@ -19,7 +20,7 @@ fn fill(buf: &mut [u8], f: usize, bytes: &[u8])
     if 532 <= f {
         return;
     }
-    buffer::put(buf, 4 + f, records::cut(bytes, 532 - f));
+    buffer::put(buf, 4 + f, buffer::cut(bytes, 532 - f));
 }
 
 // Zeroes the data part from place f on.
@@ -34,41 +35,34 @@ fn zero(buf: &mut [u8], f: usize)
 }
 
 // Builds form A of the table in 532 lent bytes.
-pub fn write_table<'a>(spares: &'a [u16], n: usize, bads: &'a [u16], m: usize, out: &mut [u8])
-    requires { (length out.old ≡ 532) × (n ≤ 32) × (m ≤ 100) }
-    ensures { out.new ≡ image_a (lent spares.now n bads.now m) }
+pub fn write_table(t: &Bounded, out: &mut [u8])
+    requires { length out.old ≡ 532 }
+    ensures { out.new ≡ image_a t.now }
 {
-    codec::form_a::write(lists::cut(spares, n), lists::cut(bads, m), out);
+    codec::form_a::write(t.lent.spare_list(), t.lent.bad_list(), out);
 }
 
 // Builds the image that a store writes, form B, in 532 lent bytes.
-pub fn write_stored<'a>(
-    run: u32,
-    spares: &'a [u16],
-    n: usize,
-    bads: &'a [u16],
-    m: usize,
-    causes: &'a [u16],
-    out: &mut [u8],
-)
-    requires { (length out.old ≡ 532) × (n ≤ 32) × (m ≤ 100) × (length spares.now ≡ 32) × (length causes.now ≡ 32) }
-    ensures { out.new ≡ image_b run (lent spares.now n bads.now m) causes.now }
+pub fn write_stored(run: u32, t: &Bounded, causes: &[u16], out: &mut [u8])
+    requires { (length out.old ≡ 532) × (length t.now.spares ≡ 32) × (length causes.now ≡ 32) }
+    ensures { out.new ≡ image_b run t.now causes.now }
 {
+    let lists = t.lent;
     codec::form_b::write(
         run,
-        lists::cut(spares, n),
-        lists::cut(causes, n),
-        lists::cut(bads, m),
+        lists.spare_list(),
+        buffer::cut(causes, lists.nspares),
+        lists.bad_list(),
         out,
     );
 }
 
 // Builds form A of the table in the data part.
-fn put_image<'a>(buf: &mut [u8], spares: &'a [u16], n: usize, bads: &'a [u16], m: usize)
-    requires { (length buf.old ≡ 536) × (n ≤ 32) × (m ≤ 100) }
-    ensures { buf.new ≡ with_data buf.old (image_a (lent spares.now n bads.now m)) }
+fn put_image(t: &Bounded, buf: &mut [u8])
+    requires { length buf.old ≡ 536 }
+    ensures { buf.new ≡ with_data buf.old (image_a t.now) }
 {
-    write_table(spares, n, bads, m, &mut buf[4..]);
+    write_table(t, &mut buf[4..]);
 }
 
 // Writes four bytes from index at on.
@@ -76,8 +70,7 @@ fn put_four(buf: &mut [u8], at: usize, x: Four)
     requires { at + 4 ≤ length buf.old }
     ensures { buf.new ≡ over at (four x) buf.old }
 {
-    let run = [x.0, x.1, x.2, x.3];
-    buffer::put(buf, at, &run);
+    buffer::put(buf, at, &[x.0, x.1, x.2, x.3]);
 }
 
 // Writes the figures of the health block into the data part, and zeros after them.
@@ -90,53 +83,36 @@ fn put_figures(buf: &mut [u8], x: Four)
 }
 
 // Leaves the data part as a turn says.
-fn put_part<'a>(
-    p: Part,
-    spares: &'a [u16],
-    n: usize,
-    bads: &'a [u16],
-    m: usize,
-    bytes: &[u8],
-    buf: &mut [u8],
-)
-    requires { (length buf.old ≡ 536) × (n ≤ 32) × (m ≤ 100) }
-    ensures { buf.new ≡ part_left p (lent spares.now n bads.now m) bytes.now buf.old }
+#[tactic(auto, unfolding(drive::specs::Results::part_left))]
+fn put_part(p: Part, t: &Bounded, bytes: &[u8], buf: &mut [u8])
+    requires { length buf.old ≡ 536 }
+    ensures { buf.new ≡ part_left p t.now bytes.now buf.old }
 {
     match p {
         Part::Kept => {}
         Part::Filled(f) => fill(buf, f, bytes),
         Part::Zeroed(f) => zero(buf, f),
-        Part::Image => put_image(buf, spares, n, bads, m),
+        Part::Image => put_image(t, buf),
         Part::Figures(x) => put_figures(buf, x),
     }
 }
 
 // Leaves the status as a turn says.
-fn put_status(s: Status, buf: &mut [u8])
+#[tactic(auto, unfolding(drive::specs::Results::status_left, buffer::specs::Runs::over, drive::specs::Words::data_of))]
+fn put_status(s: Option<Four>, buf: &mut [u8])
     requires { length buf.old ≡ 536 }
     ensures { buf.new ≡ status_left s buf.old }
 {
-    match s {
-        Status::Kept => {}
-        Status::Written(x) => put_four(buf, 0, x),
+    if let Some(x) = s {
+        put_four(buf, 0, x);
     }
 }
 
 // Leaves the buffer as a turn says, given the table's lists and the bytes lent with the call.
-pub fn put<'a>(
-    x: Leaves,
-    spares: &'a [u16],
-    n: usize,
-    bads: &'a [u16],
-    m: usize,
-    bytes: &[u8],
-    buf: &mut [u8],
-)
-    requires { (length buf.old ≡ 536) × (n ≤ 32) × (m ≤ 100) }
-    ensures { buf.new ≡ leave x (lent spares.now n bads.now m) bytes.now buf.old }
+pub fn put(x: Leaves, t: &Bounded, bytes: &[u8], buf: &mut [u8])
+    requires { length buf.old ≡ 536 }
+    ensures { buf.new ≡ leave x t.now bytes.now buf.old }
 {
-    let p = x.part;
-    let s = x.status;
-    put_part(p, spares, n, bads, m, bytes, buf);
-    put_status(s, buf);
+    put_part(x.part, t, bytes, buf);
+    put_status(x.status, buf);
 }

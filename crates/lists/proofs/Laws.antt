@@ -2,13 +2,14 @@
 use mathlib.Core.Path.{◌≡◌, refl, ap, sym, ◌∙◌}
 use mathlib.Core.Bool.{Bool, true, false, not, cond, ◌&&◌, ◌||◌}
 use mathlib.Core.List.{List, [], ◌∷◌, ◌++◌}
+use Rattle.std.specs.Prelude.{Some, None}
 use Prim.Native.Nat.{ℕ, zero, suc, ◌≤◌, ◌<◌}
 use native.Mathlib.Omega.{arith}
 use borrow.Author.Tests.{eq-eqb, ne_eqb, eqb-true, eqb-false, not-true, lt-ltb, le-ltb, ltb-true}
 use lib.Dec.{eqb, ltb}
-use lib.ListN.{length, get_or, length-set}
+use lib.ListN.{length, take, get_or, length-set, length-take}
 use Rattle.geometry.specs.Geometry.{is_block}
-use Rattle.lists.specs.Lists.{dead, index_of, member_of, entry_ok, entries_ok, kill, strike}
+use Rattle.lists.specs.Lists.{dead, index_of, place_of, member_of, entry_ok, entries_ok, kill, strike}
 use Rattle.logic.proofs.Bools.{clash, and_left, and_right, and_true, or_left, or_right, or_false}
 
 -- equality of numbers, the other way round
@@ -78,6 +79,30 @@ member_at x (y ∷ ys) (suc k) h e = go (eqb y x) (member_at x ys k (omega arith
     go : (t : Bool) → member_of x ys ≡ true → (t || member_of x ys) ≡ true
     go true q = refl
     go false q = q
+
+-- A place that was found is that of a member, and none is found of what is no member.
+pub found : (x : ℕ) (l : List ℕ) (k : ℕ) → Some k ≡ place_of x l → (member_of x l ≡ true) × (index_of x l ≡ k) × (k < length l)
+found x l k e = go (member_of x l) refl e
+  where
+    go : (t : Bool) → member_of x l ≡ t → Some k ≡ cond t (Some (index_of x l)) None → (member_of x l ≡ true) × (index_of x l ≡ k) × (k < length l)
+    go true m e = let q : k ≡ index_of x l = cc in (m, sym q, omega (arith, q, (index_in x l m).0))
+    go false m e = cc
+
+pub not_found : (x : ℕ) (l : List ℕ) → None ≡ place_of x l → (member_of x l ≡ false) × (index_of x l ≡ length l)
+not_found x l e = go (member_of x l) refl e
+  where
+    go : (t : Bool) → member_of x l ≡ t → None ≡ cond t (Some (index_of x l)) None → (member_of x l ≡ false) × (index_of x l ≡ length l)
+    go true m e = cc
+    go false m e = (m, index_out x l m)
+
+-- in the list that is the first n places of an array
+pub found_in : (x n : ℕ) (a : List ℕ) (k : ℕ) → Some k ≡ place_of x (take n a) → (k < n) × (k < length a)
+found_in x n a k e = let p = found x (take n a) k e in (omega (arith, length-take n a), omega (arith, length-take n a))
+
+pub not_found_in : (x n : ℕ) (a : List ℕ) → n ≤ length a → None ≡ place_of x (take n a) → index_of x (take n a) ≡ n
+not_found_in x n a h e = let p = not_found x (take n a) e in omega (arith, length-take n a)
+
+pub ruleset finding = (found, not_found, found_in, not_found_in)
 
 -- An entry more at the end.
 pub member_snoc : (x y : ℕ) (l : List ℕ) → eqb y x ≡ false → member_of x (l ++ (y ∷ [])) ≡ member_of x l

@@ -1,5 +1,5 @@
 -- Document 01, "Blocks and sectors": the entries of the spare list and of the bad list.
-use Rattle.std.specs.Prelude.{ℕ, suc, ◌<◌, ◌≡◌, ◌⊎◌, Bool, true, false, cond, not, ◌&&◌, ◌||◌, List, [], ◌∷◌, length, get_or, set, eqb}
+use Rattle.std.specs.Prelude.{ℕ, suc, ◌<◌, ◌≡◌, ◌⊎◌, Bool, true, false, cond, not, ◌&&◌, ◌||◌, Option, Some, None, List, [], ◌∷◌, length, get_or, set, eqb}
 use Rattle.geometry.specs.Geometry.{is_block}
 
 -- "FFFFFE hex for a dead spare (house)": FFFE hex in memory, widened by the image alone
@@ -15,6 +15,10 @@ index_of x (y ∷ ys) = cond (eqb y x) 0 (suc (index_of x ys))
 unfoldable pub member_of : ℕ → List ℕ → Bool
 member_of x [] = false
 member_of x (y ∷ ys) = eqb y x || member_of x ys
+
+-- the first place of x, if it is there
+abbrev pub place_of : ℕ → List ℕ → Option ℕ
+place_of x l = cond (member_of x l) (Some (index_of x l)) None
 
 -- x may be beside the entries l: a block that is not among them, or, where marks is true, the dead mark
 unfoldable pub entry_ok : Bool → ℕ → List ℕ → Bool

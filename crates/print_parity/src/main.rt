@@ -13,24 +13,21 @@ fn put_line(out: &mut [u8], v: u8)
     requires { 2 * v + 2 ≤ length out.old }
     ensures { out.new ≡ over (2 * v) (line v) out.old }
 {
-    let at = 2 * (v as usize);
-    buffer::put(out, at, &[48 + parity::parity(v), b'\n']);
+    buffer::put(out, 2 * usize::from(v), &[b'0' + parity::parity(v), b'\n']);
 }
 
-// Writes all lines.
-fn put_lines(out: &mut [u8])
-    requires { length out.old ≡ 512 }
-    ensures { out.new ≡ lines 256 }
+// Returns all lines.
+#[tactic(auto, using(crate::proofs::Lines::next_line, crate::proofs::Lines::no_line, crate::proofs::Lines::whole))]
+fn all_lines() -> [u8; 512]
+    ensures { result ≡ lines 256 }
 {
-    let mut n: usize = 0;
-    while n < 256 {
-        put_line(out, n as u8);
-        n += 1;
+    let mut out = [0; 512];
+    for v in 0..=u8::MAX {
+        put_line(&mut out, v);
     }
+    out
 }
 
 fn main(rt: HostRuntime) -> io::Result<()> {
-    let mut out = [0u8; 512];
-    put_lines(&mut out);
-    rt.stdout().write_all(&out)
+    rt.stdout().write_all(&all_lines())
 }

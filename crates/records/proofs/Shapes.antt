@@ -1,5 +1,6 @@
 -- THE SHAPES OF A TURN: a rule reports, asks for the store, begins a trial, or says something; only the start also loads a table.
 -- What holds of each shape holds of each rule.
+use Rattle.std.specs.Prelude.{None}
 use mathlib.Core.Path.{◌≡◌, refl}
 use mathlib.Core.Bool.{Bool, true, false}
 use mathlib.Core.List.{List}
@@ -22,7 +23,6 @@ use Rattle.drive.specs.declared.Outcome.{Outcome}
 use Rattle.drive.specs.declared.Outcome.TheVariants as outcome
 use Rattle.drive.specs.declared.Part.{Part}
 use Rattle.drive.specs.declared.Seen.{Seen}
-use Rattle.drive.specs.declared.Status.TheVariants as status
 use Rattle.drive.specs.declared.Trial.{Trial}
 use Rattle.drive.specs.declared.Turn.{Turn}
 use Rattle.drive.specs.Results.{report, asks_store, finish}
@@ -39,7 +39,7 @@ pub record Shapes (P : Turn → Type 0) (l : State) : Type 0 where
   pub reports : (m : Marks) (c : Change) (e : Ending) (s : Seen) (unstored unsettled : Bool) (p : Part) → is_load c ≡ false → P (report l m c e s unstored unsettled p)
   pub asks : (m : Marks) (c : Change) (e : Ending) (s : Seen) (p : Part) → is_load c ≡ false → P (asks_store l m c e s p)
   pub tries : (c : Change) (r : Trial) (p : Part) → is_load c ≡ false → P (begin l c r p)
-  pub says : (k : State) (a : Answer) (p : Part) → (of_answer a).refused ≡ false → k.run ≡ l.run → P (record { state = k; answer = a; change = change.Keep; leaves = record { status = status.Kept; part = p } })
+  pub says : (k : State) (a : Answer) (p : Part) → (of_answer a).refused ≡ false → k.run ≡ l.run → P (record { state = k; answer = a; change = change.Keep; leaves = record { status = None; part = p } })
 
 module _ (P : Turn → Type 0) (l : State) (z : Shapes P l) (t : Table) where
   pub finish_shape : (c : Change) (e : Ending) (s : Seen) (p : Part) → is_load c ≡ false → P (finish l c e s p)

@@ -2,7 +2,7 @@
 // the four status bytes.
 #![tactic(auto)]
 
-ghost use Rattle.std.specs.Prelude.{◌≡◌, cond, ◌&&◌, ◌||◌, ◌<◌, eqb, take};
+ghost use Rattle.std.specs.Prelude.{◌≡◌, cond, ◌&&◌, ◌||◌, ◌<◌, eqb};
 ghost use Rattle.geometry.specs.Geometry.{spare_of};
 ghost use Rattle.drive.specs.Words.{kind_of, number_of, order_of, is_read, is_write, is_verify, row_of, fails, latches, status_of};
 ghost use Rattle.drive.specs.Results.{in_phase, with_marks, with_run, say, refuse, alters, places, altered, ended, reported, clean, on_present};
@@ -15,18 +15,26 @@ ghost use Rattle.drive.specs.declared.Answer.TheVariants as answer;
 
 use drive::{
     Access, Answer, Cause, Change, Close, Ending, Four, Kind, Leaves, Marks, Offer, Order, Part,
-    Phase, Refusal, Retry, Row, Seen, State, Status, Target, Trial, Turn,
+    Phase, Refusal, Retry, Row, Seen, State, Target, Trial, Turn,
 };
 use geometry::{Block, Sector};
-use table::NextSpare;
+
+// Holds what becomes of a command by its store. undone: it fails for want of one that was done; unsettled: the store was
+// answered 3. Two flags, since the status has a bit for each.
+#[derive(Clone, Copy, Default)]
+pub struct Store {
+    pub undone: bool,
+    pub unsettled: bool,
+}
 
 // Says whether a read command passes code 1.
+#[tactic(auto, unfolding(drive::specs::Records::retry_ok))]
 pub fn retry_ok(r: Retry) -> bool
     ensures { result ≡ retry_ok r }
 {
     geometry::is_block(r.block)
         & geometry::is_sector(r.sector)
-        & (r.seen.errors as u32 + r.left as u32 <= 255)
+        & (u32::from(r.seen.errors) + u32::from(r.left) <= 255)
         & (r.spent <= 89)
 }
 
@@ -34,10 +42,7 @@ pub fn retry_ok(r: Retry) -> bool
 fn is_next_unused(n: usize, s: u32) -> bool
     ensures { result ≡ (has_unused n && eqb s (spare_of n).0) }
 {
-    match table::next_spare(n) {
-        NextSpare::At(at) => s == at.0,
-        NextSpare::None => false,
-    }
+    table::next_spare(n).is_some_and(|at| s == at.0)
 }
 
 // Says whether a write command's write, or its verify, passes code 1.
@@ -48,6 +53,7 @@ pub fn target_ok(w: Target) -> bool
 }
 
 // Says whether a trial passes code 1, with n spares listed.
+#[tactic(auto, unfolding(drive::specs::Records::trial_ok))]
 pub fn trial_ok(n: usize, r: Trial) -> bool
     ensures { result ≡ trial_ok n r }
 {
@@ -66,10 +72,8 @@ fn access_ok(n: usize, known: bool, x: Access) -> bool
         Access::Start(k) => k <= 10,
         Access::Store(_) => known,
         Access::Read(r) => known & retry_ok(r),
-        Access::Write(w) => known & target_ok(w),
-        Access::Verify(w) => known & target_ok(w),
-        Access::TrialWrite(r) => known & trial_ok(n, r),
-        Access::TrialRead(r) => known & trial_ok(n, r),
+        Access::Write(w) | Access::Verify(w) => known & target_ok(w),
+        Access::TrialWrite(r) | Access::TrialRead(r) => known & trial_ok(n, r),
     }
 }
 
@@ -78,137 +82,103 @@ pub fn phase_ok(n: usize, known: bool, p: Phase) -> bool
     ensures { result ≡ phase_ok n known p }
 {
     match p {
-        Phase::Idle => true,
-        Phase::Offered(_) => true,
-        Phase::Command => true,
-        Phase::Data => true,
+        Phase::Idle | Phase::Offered(_) | Phase::Command | Phase::Data => true,
         Phase::Awaiting(x) => access_ok(n, known, x),
     }
 }
 
 // Says whether all of the record but the table passes code 1.
+#[tactic(auto, unfolding(drive::specs::Records::state_ok))]
 pub fn state_ok(n: usize, l: State) -> bool
     ensures { result ≡ state_ok n l }
 {
-    let p = l.phase;
-    let m = l.marks;
-    (l.count <= 6) & (l.fed <= 533) & phase_ok(n, m.known, p)
+    (l.count <= 6) & (l.fed <= 533) & phase_ok(n, l.marks.known, l.phase)
 }
 
 // Returns the kind of a command.
+#[tactic(auto, unfolding(drive::specs::Words::kind_of))]
 fn kind_of(command: [u8; 6]) -> Kind
     ensures { result ≡ kind_of command }
 {
-    let op = command[0];
-    if op == 0x00 {
-        return Kind::Read;
+    match command[0] {
+        0x00 => Kind::Read,
+        0x01 => Kind::Write,
+        0x02 => Kind::Verify,
+        _ => Kind::Other,
     }
-    if op == 0x01 {
-        return Kind::Write;
-    }
-    if op == 0x02 {
-        return Kind::Verify;
-    }
-    Kind::Other
-}
-
-// Returns a byte as a number of 32 bits.
-fn broad(x: u8) -> u32
-    ensures { (result ≡ x) × (result < 256) }
-{
-    x as u32
 }
 
 // Returns the number in a command's block field.
+#[tactic(auto, unfolding(drive::specs::Words::number_of))]
 fn number_of(command: [u8; 6]) -> u32
     ensures { result ≡ number_of command }
 {
-    broad(command[1]) * 65536 + broad(command[2]) * 256 + broad(command[3])
+    u32::from(command[1]) * 65536 + u32::from(command[2]) * 256 + u32::from(command[3])
 }
 
 // Decodes a command.
 pub fn order_of(command: [u8; 6]) -> Order
     ensures { result ≡ order_of command }
 {
-    let kind = kind_of(command);
-    let number = number_of(command);
     Order {
-        kind: kind,
-        number: number,
+        kind: kind_of(command),
+        number: number_of(command),
         retries: command[4],
         threshold: command[5],
     }
 }
 
-// Says whether a command of this kind is a read.
+// Says whether a command of this kind is a read. This and the next two are the definitions of these names.
 pub fn is_read(k: Kind) -> bool
     ensures { result ≡ is_read k }
 {
-    match k {
-        Kind::Read => true,
-        Kind::Write => false,
-        Kind::Verify => false,
-        Kind::Other => false,
-    }
+    matches!(k, Kind::Read)
 }
 
 // Says whether a command of this kind is a write.
 pub fn is_write(k: Kind) -> bool
     ensures { result ≡ is_write k }
 {
-    match k {
-        Kind::Read => false,
-        Kind::Write => true,
-        Kind::Verify => false,
-        Kind::Other => false,
-    }
+    matches!(k, Kind::Write)
 }
 
 // Says whether a command of this kind is a write/verify.
 pub fn is_verify(k: Kind) -> bool
     ensures { result ≡ is_verify k }
 {
-    match k {
-        Kind::Read => false,
-        Kind::Write => false,
-        Kind::Verify => true,
-        Kind::Other => false,
-    }
+    matches!(k, Kind::Verify)
 }
 
 // Returns what a command has met at its start: nothing.
 pub fn clean() -> Seen
     ensures { result ≡ clean }
 {
-    Seen {
-        errors: 0,
-        crc: false,
-        timeout: false,
-    }
+    Seen::default()
 }
 
-// Returns what was met, with answer a.
+// Returns what was met, with answer a. Here and in every rule an answer is the surface's byte and no enum: the call takes any
+// byte, `accesses::surface`, `reading::read`, `sparing::tried` and `checked` do so too, and the definitions speak of every number.
 pub fn met(a: u8, s: Seen) -> Seen
     ensures { result ≡ met a s }
 {
     Seen {
-        errors: s.errors,
         crc: s.crc | (a == 1),
         timeout: s.timeout | (a == 2),
+        ..s
     }
 }
 
 // Returns the trial of a block's present sector, before its first reread.
-pub fn on_present(b: Block, s: Sector, seen: Seen) -> Trial
-    ensures { result ≡ on_present b s seen }
+pub fn on_present(block: Block, sector: Sector, seen: Seen) -> Trial
+    ensures { result ≡ on_present block sector seen }
 {
     Trial {
-        block: b,
-        sector: s,
+        block,
+        sector,
         spare: false,
         rereads: 0,
         failures: 0,
-        seen: seen,
+        seen,
         last: Cause::Unknown,
         before: Cause::Unknown,
         present: Cause::Unknown,
@@ -219,22 +189,17 @@ pub fn on_present(b: Block, s: Sector, seen: Seen) -> Trial
 pub fn in_phase(l: State, p: Phase) -> State
     ensures { result ≡ in_phase l p }
 {
-    let m = l.marks;
-    with_marks(l, m, p)
+    State { phase: p, ..l }
 }
 
 // Returns the state with other marks in another phase.
 pub fn with_marks(l: State, m: Marks, p: Phase) -> State
     ensures { result ≡ with_marks l m p }
 {
-    let c = l.command;
     State {
         phase: p,
         marks: m,
-        command: c,
-        count: l.count,
-        fed: l.fed,
-        run: l.run,
+        ..l
     }
 }
 
@@ -242,17 +207,7 @@ pub fn with_marks(l: State, m: Marks, p: Phase) -> State
 pub fn with_run(l: State, n: u32) -> State
     ensures { result ≡ with_run l n }
 {
-    let p = l.phase;
-    let m = l.marks;
-    let c = l.command;
-    State {
-        phase: p,
-        marks: m,
-        command: c,
-        count: l.count,
-        fed: l.fed,
-        run: n,
-    }
+    State { run: n, ..l }
 }
 
 // Answers a, and leaves table and buffer alone.
@@ -264,7 +219,7 @@ pub fn say(l: State, a: Answer) -> Turn
         answer: a,
         change: Change::Keep,
         leaves: Leaves {
-            status: Status::Kept,
+            status: None,
             part: Part::Kept,
         },
     }
@@ -281,30 +236,17 @@ pub fn refuse(l: State, r: Refusal) -> Turn
 pub fn offer(l: State, o: Offer, n: usize) -> Turn
     ensures { result ≡ say (opened l o n) (answer.Offer o) }
 {
-    let m = l.marks;
-    let c = l.command;
     let next = State {
         phase: Phase::Offered(o),
-        marks: m,
-        command: c,
         count: n,
         fed: 0,
-        run: l.run,
+        ..l
     };
     say(next, Answer::Offer(o))
 }
 
-// Returns the first n bytes, or all of them where there are fewer.
-pub fn cut(s: &[u8], n: usize) -> &[u8]
-    ensures { result.now ≡ take n s.now }
-{
-    if n < s.len() {
-        return &s[..n];
-    }
-    s
-}
-
 // Returns v where a flag is set, else 0: a bit of a status byte, or a figure of the health block.
+// An if says it plainer than u8::from(on) * v.
 pub fn bit(on: bool, v: u8) -> u8
     ensures { result ≡ cond on v 0 }
 {
@@ -316,19 +258,12 @@ fn row_of(e: Ending) -> Row
     ensures { result ≡ row_of e }
 {
     match e {
-        Ending::Good => Row(0x00, 0x00, 0x00),
+        Ending::Good | Ending::Failed | Ending::Latched => Row(0x00, 0x00, 0x00),
         Ending::Moved => Row(0x00, 0x04, 0x00),
-        Ending::Failed => Row(0x00, 0x00, 0x00),
         Ending::Overrun => Row(0x40, 0x00, 0x00),
         Ending::NoNumber => Row(0x00, 0x00, 0x40),
-        Ending::NoTable(on_write) => {
-            if on_write {
-                Row(0x40, 0x08, 0x00)
-            } else {
-                Row(0x00, 0x08, 0x00)
-            }
-        },
-        Ending::Latched => Row(0x00, 0x00, 0x00),
+        Ending::NoTable(true) => Row(0x40, 0x08, 0x00),
+        Ending::NoTable(false) => Row(0x00, 0x08, 0x00),
         Ending::BadFull => Row(0x00, 0x10, 0x00),
         Ending::NoSpare => Row(0x00, 0x40, 0x00),
     }
@@ -338,34 +273,14 @@ fn row_of(e: Ending) -> Row
 fn fails(e: Ending) -> bool
     ensures { result ≡ fails e }
 {
-    match e {
-        Ending::Good => false,
-        Ending::Moved => false,
-        Ending::Failed => true,
-        Ending::Overrun => true,
-        Ending::NoNumber => true,
-        Ending::NoTable(_) => true,
-        Ending::Latched => true,
-        Ending::BadFull => true,
-        Ending::NoSpare => true,
-    }
+    !matches!(e, Ending::Good | Ending::Moved)
 }
 
 // Says whether an ending sets the latch.
 fn latches(e: Ending) -> bool
     ensures { result ≡ latches e }
 {
-    match e {
-        Ending::Good => false,
-        Ending::Moved => false,
-        Ending::Failed => false,
-        Ending::Overrun => false,
-        Ending::NoNumber => false,
-        Ending::NoTable(_) => false,
-        Ending::Latched => true,
-        Ending::BadFull => false,
-        Ending::NoSpare => false,
-    }
+    matches!(e, Ending::Latched)
 }
 
 // Returns status 1 bit 0: the command failed, or its store was not done.
@@ -382,47 +297,33 @@ fn latch_bit(e: Ending, unsettled: bool) -> u8
     bit(latches(e) | unsettled, 0x10)
 }
 
-// Returns the four status bytes of a finish. unstored: the command failed for want of a store;
-// unsettled: the store was answered 3.
-fn status_of(e: Ending, s: Seen, unstored: bool, unsettled: bool, fresh: bool) -> Four
-    ensures { result ≡ status_of e s unstored unsettled fresh }
+// Returns the four status bytes of a finish.
+#[tactic(auto, unfolding(drive::specs::Words::status_of))]
+fn status_of(k: Close, store: Store, fresh: bool) -> Four
+    ensures { result ≡ status_of k.ending k.seen store.undone store.unsettled fresh }
 {
-    let r = row_of(e);
+    let r = row_of(k.ending);
     let a = r.0
-        + failed_bit(e, unstored)
-        + latch_bit(e, unsettled)
-        + bit(s.crc, 0x08)
-        + bit(s.timeout, 0x04);
+        + failed_bit(k.ending, store.undone)
+        + latch_bit(k.ending, store.unsettled)
+        + bit(k.seen.crc, 0x08)
+        + bit(k.seen.timeout, 0x04);
     let c = r.2 + bit(fresh, 0x80);
-    Four(a, r.1, c, s.errors)
+    Four(a, r.1, c, k.seen.errors)
 }
 
 // Says whether a change adds, kills or removes an entry.
 fn alters(c: Change) -> bool
     ensures { result ≡ alters c }
 {
-    match c {
-        Change::Keep => false,
-        Change::Load => false,
-        Change::Enter(_) => true,
-        Change::Remove(_) => true,
-        Change::Move(_, _, _) => true,
-        Change::Kill(_) => true,
-    }
+    !matches!(c, Change::Keep | Change::Load)
 }
 
 // Says whether a change gives some block another place.
 fn places(c: Change) -> bool
     ensures { result ≡ places c }
 {
-    match c {
-        Change::Keep => false,
-        Change::Load => false,
-        Change::Enter(_) => false,
-        Change::Remove(_) => false,
-        Change::Move(_, _, _) => true,
-        Change::Kill(_) => false,
-    }
+    matches!(c, Change::Move(_, _, _))
 }
 
 // Returns the marks after a change of the table.
@@ -430,11 +331,9 @@ pub fn altered(m: Marks, c: Change) -> Marks
     ensures { result ≡ altered m c }
 {
     Marks {
-        known: m.known,
         changed: alters(c) | m.changed,
         moved: places(c) | m.moved,
-        latch: m.latch,
-        fresh: m.fresh,
+        ..m
     }
 }
 
@@ -444,11 +343,8 @@ fn ended(m: Marks, c: Change, e: Ending) -> Marks
 {
     let a = altered(m, c);
     Marks {
-        known: a.known,
-        changed: a.changed,
-        moved: a.moved,
         latch: latches(e) | a.latch,
-        fresh: a.fresh,
+        ..a
     }
 }
 
@@ -456,35 +352,20 @@ fn ended(m: Marks, c: Change, e: Ending) -> Marks
 fn reported(m: Marks) -> Marks
     ensures { result ≡ reported m }
 {
-    Marks {
-        known: m.known,
-        changed: m.changed,
-        moved: m.moved,
-        latch: m.latch,
-        fresh: false,
-    }
+    Marks { fresh: false, ..m }
 }
 
 // Finishes the command with its four status bytes. m are the marks where it ended.
-pub fn report(
-    l: State,
-    m: Marks,
-    c: Change,
-    e: Ending,
-    s: Seen,
-    unstored: bool,
-    unsettled: bool,
-    p: Part,
-) -> Turn
-    ensures { result ≡ report l m c e s unstored unsettled p }
+// c and p stay apart, here and in the rules: each is chosen by itself, and is a field of the turn by itself.
+pub fn report(l: State, m: Marks, c: Change, k: Close, store: Store, p: Part) -> Turn
+    ensures { result ≡ report l m c k.ending k.seen store.undone store.unsettled p }
 {
-    let bytes = status_of(e, s, unstored, unsettled, m.fresh);
     Turn {
         state: with_marks(l, reported(m), Phase::Idle),
         answer: Answer::Finished,
         change: c,
         leaves: Leaves {
-            status: Status::Written(bytes),
+            status: Some(status_of(k, store, m.fresh)),
             part: p,
         },
     }
@@ -494,33 +375,31 @@ pub fn report(
 pub fn ends(l: State, e: Ending, p: Part) -> Turn
     ensures { result ≡ ends l e p }
 {
-    let m = l.marks;
     let c = Change::Keep;
-    report(l, ended(m, c, e), c, e, clean(), false, false, p)
+    let k = Close {
+        ending: e,
+        seen: clean(),
+    };
+    report(l, ended(l.marks, c, e), c, k, Store::default(), p)
 }
 
 // Returns the state with its run number one up, up to FFFFFFFF hex.
 fn numbered(l: State) -> State
     ensures { result ≡ numbered l }
 {
-    let n = l.run;
-    if n == 4294967295 {
-        return l;
-    }
-    with_run(l, n + 1)
+    with_run(l, l.run.saturating_add(1))
 }
 
 // Asks for the store, and keeps how the command ended until its answer.
-fn ask_store(l: State, m: Marks, c: Change, e: Ending, s: Seen, p: Part) -> Turn
-    ensures { result ≡ asks_store l m c e s p }
+fn ask_store(l: State, m: Marks, c: Change, k: Close, p: Part) -> Turn
+    ensures { result ≡ asks_store l m c k.ending k.seen p }
 {
-    let k = Close { ending: e, seen: s };
     Turn {
         state: with_marks(numbered(l), m, Phase::Awaiting(Access::Store(k))),
         answer: Answer::Store,
         change: c,
         leaves: Leaves {
-            status: Status::Kept,
+            status: None,
             part: p,
         },
     }
@@ -541,13 +420,19 @@ fn wants_store(m: Marks) -> bool
 }
 
 // Ends a command for a block: asks for the store where one is due, else finishes.
+// e and s come apart: a rule names the ending, what was met comes from its record. From here on they go as a Close.
+#[tactic(auto, unfolding(drive::specs::Results::finish))]
 pub fn finish(l: State, c: Change, e: Ending, s: Seen, p: Part) -> Turn
     ensures { result ≡ finish l c e s p }
 {
-    let m = l.marks;
-    let k = ended(m, c, e);
-    if stores(k) {
-        return ask_store(l, k, c, e, s, p);
+    let m = ended(l.marks, c, e);
+    let k = Close { ending: e, seen: s };
+    if stores(m) {
+        return ask_store(l, m, c, k, p);
     }
-    report(l, k, c, e, s, wants_store(k), false, p)
+    let store = Store {
+        undone: wants_store(m),
+        unsettled: false,
+    };
+    report(l, m, c, k, store, p)
 }

@@ -7,7 +7,7 @@ use native.Mathlib.Omega.{arith}
 use native.Mathlib.Numerals.{add-one}
 use lib.Dec.{eqb}
 use lib.ListN.{length, take, drop, get_or, set, length-drop, length-append, take-append-drop, drop_of_length-le}
-use lib.Seq.{take-suc-set, take-suc, drop-cons, set_at, take_all, take_at, take-append-le, length-take-le, get_or-append-add, get_or-drop, append_snoc}
+use lib.Seq.{take-suc, drop-cons, set_at, take_all, take_at, take-append-le, length-take-le, get_or-append-add, get_or-drop, append_snoc}
 use Rattle.lists.specs.Lists.{index_of, member_of, strike}
 use Rattle.logic.proofs.Bools.{clash}
 use Rattle.table.specs.Tables.{removed}
@@ -18,10 +18,6 @@ take_set zero a k x = refl
 take_set (suc n) [] k x = refl
 take_set (suc n) (y ∷ ys) zero x = refl
 take_set (suc n) (y ∷ ys) (suc k) x = ap {B = List ℕ} (λ (l : List ℕ). y ∷ l) (take_set n ys k x)
-
--- an entry stored after the list
-pub take_added : (n : ℕ) (a : List ℕ) (x : ℕ) → n < length a → take (n + 1) (set a n x) ≡ take n a ++ (x ∷ [])
-take_added n a x h = rw add-one (take-suc-set a n x h)
 
 -- the array without place k, but for its last place
 abbrev pub gap : ℕ → List ℕ → List ℕ
@@ -62,6 +58,9 @@ gap_end k a m h e =
     let d = drop-cons a m 0 i in
     let z : drop (suc m) a ≡ [] = drop_of_length-le a {i = suc m} (omega arith) in
     rw (d, set_at (take m (gap k a)) (get_or a m 0) (drop (suc m) a) 0 m (length-take-le m (gap k a) (omega arith)), z, take_all m (gap k a) (omega arith))
+
+-- a walk that moves up what is behind place k
+pub ruleset closing = (gap_start, gap_step)
 
 pub removed_length : (k : ℕ) (a : List ℕ) → k < length a → length (removed k a) ≡ length a
 unfolding removed

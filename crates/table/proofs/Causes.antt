@@ -11,9 +11,10 @@ use Rattle.geometry.specs.declared.Block.{Block}
 use Rattle.lists.specs.Lists.{index_of}
 use Rattle.logic.proofs.Bools.{and_left, and_right, and_true}
 use Rattle.logic.proofs.Walks.{step}
+use Rattle.std.proofs.lemmas.Grind.{take-set_at}
 use Rattle.table.specs.declared.Table.{Table}
 use Rattle.table.specs.Tables.{spare_list, causes_ok, causes_listed, causes_killed}
-use Rattle.table.proofs.Arrays.{take_set, take_added}
+use Rattle.table.proofs.Arrays.{take_set}
 
 pub causes_step : (t : Bool) (s : List ℕ) (i : ℕ) → i < length s → (t && leb (get_or s i 0) 3 && causes_ok (drop (i + 1) s)) ≡ (t && causes_ok (drop i s))
 unfolding causes_ok
@@ -24,6 +25,8 @@ pub causes_end : (t : Bool) (s : List ℕ) (i : ℕ) → length s ≤ i → (t &
 unfolding causes_ok
 causes_end true s i h = rw (drop_of_length-le s h)
 causes_end false s i h = refl
+
+pub ruleset gathering = (causes_step, causes_end)
 
 -- A cause of at most 3 in place of another keeps the test,
 pub set_ok : (l : List ℕ) (k c : ℕ) → causes_ok l ≡ true → c ≤ 3 → causes_ok (set l k c) ≡ true
@@ -45,13 +48,13 @@ pub listed_causes_ok : (t : Table) (b : Block) (live killed : ℕ) (cs : List �
 unfolding causes_listed
 listed_causes_ok t b live killed cs n e p q h =
     let k = index_of b.0 (spare_list t) in
-    rw (lt-ltb t.nspares 32 n, take_added t.nspares (set cs k killed) live (simp length-set (omega arith)), take_set t.nspares cs k killed)
+    rw (lt-ltb t.nspares 32 n, take-set_at (set cs k killed) t.nspares _ live refl (simp length-set (omega arith)), take_set t.nspares cs k killed)
     (snoc_ok (set (take t.nspares cs) k killed) live (set_ok (take t.nspares cs) k killed h q) p)
 
 pub killed_causes_ok : (t : Table) (c : ℕ) (cs : List ℕ) → t.nspares < 32 → length cs ≡ 32 → c ≤ 3
     → causes_ok (take t.nspares cs) ≡ true → causes_ok (take (t.nspares + 1) (causes_killed t c cs)) ≡ true
 unfolding causes_killed
-killed_causes_ok t c cs n e p h = rw (lt-ltb t.nspares 32 n, take_added t.nspares cs c (omega arith)) (snoc_ok (take t.nspares cs) c h p)
+killed_causes_ok t c cs n e p h = rw (lt-ltb t.nspares 32 n, take-set_at cs t.nspares _ c refl (omega arith)) (snoc_ok (take t.nspares cs) c h p)
 
 -- Neither changes how long the array is.
 pub listed_causes_length : (t : Table) (b : Block) (live killed : ℕ) (cs : List ℕ) → length (causes_listed t b live killed cs) ≡ length cs

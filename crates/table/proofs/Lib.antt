@@ -3,5 +3,4 @@ pub mod Lists
 pub mod Keeps
 pub mod Placing
 pub mod Meaning
-pub mod Next
 pub mod Causes

@@ -13,8 +13,9 @@ use Rattle.lists.specs.Lists.{dead, index_of, member_of, kill, strike}
 use Rattle.logic.proofs.Bools.{branch}
 use Rattle.lists.proofs.Laws.{index_in}
 use Rattle.table.specs.Tables.{spare_list, bad_list, Shaped, listed, killed_next, with_bad, without_bad}
+use Rattle.std.proofs.lemmas.Grind.{take-set_at}
 use Rattle.table.specs.declared.Table.{Table}
-use Rattle.table.proofs.Arrays.{take_set, take_added, strike_gap, take_removed, removed_length}
+use Rattle.table.proofs.Arrays.{take_set, strike_gap, take_removed, removed_length}
 
 -- LISTING A BLOCK kills its old entry and puts it at the end of the spare list.
 pub listed_spares : (t : Table) (b : Block) → Shaped t → t.nspares < 32 → spare_list (listed t b) ≡ kill b.0 (spare_list t) ++ (b.0 ∷ [])
@@ -22,17 +23,17 @@ unfolding listed kill
 listed_spares t b s h =
     let a = set t.spares (index_of b.0 (spare_list t)) dead in
     let i : t.nspares < length a = omega (arith, s.0, length-set t.spares (index_of b.0 (spare_list t)) dead) in
-    rw (lt-ltb t.nspares 32 h) (take_added t.nspares a b.0 i ∙ ap (λ (l : List ℕ). l ++ (b.0 ∷ [])) (take_set t.nspares t.spares (index_of b.0 (spare_list t)) dead))
+    rw (lt-ltb t.nspares 32 h) (take-set_at a t.nspares _ b.0 refl i ∙ ap (λ (l : List ℕ). l ++ (b.0 ∷ [])) (take_set t.nspares t.spares (index_of b.0 (spare_list t)) dead))
 
 -- KILLING THE NEXT UNUSED SPARE puts the dead mark there.
 pub killed_spares : (t : Table) → Shaped t → t.nspares < 32 → spare_list (killed_next t) ≡ spare_list t ++ (dead ∷ [])
 unfolding killed_next
-killed_spares t s h = rw (lt-ltb t.nspares 32 h) (take_added t.nspares t.spares dead (omega (arith, s.0)))
+killed_spares t s h = rw (lt-ltb t.nspares 32 h) (take-set_at t.spares t.nspares _ dead refl (omega (arith, s.0)))
 
 -- ENTERING A BLOCK puts it at the end of the bad list.
 pub entered_bads : (t : Table) (b : Block) → Shaped t → t.nbads < 100 → bad_list (with_bad t b) ≡ bad_list t ++ (b.0 ∷ [])
 unfolding with_bad
-entered_bads t b s h = rw (lt-ltb t.nbads 100 h) (take_added t.nbads t.bads b.0 (omega (arith, s.1)))
+entered_bads t b s h = rw (lt-ltb t.nbads 100 h) (take-set_at t.bads t.nbads _ b.0 refl (omega (arith, s.1)))
 
 -- REMOVING A BLOCK takes it out of the bad list and keeps the order.
 pub removed_bads : (t : Table) (b : Block) → Shaped t → t.nbads ≤ 100 → member_of b.0 (bad_list t) ≡ true → bad_list (without_bad t b) ≡ strike b.0 (bad_list t)

@@ -1,12 +1,10 @@
 -- Document 01, "Blocks and sectors": the spare table, where it puts a block, and how it changes.
-use Rattle.std.specs.Prelude.{ℕ, suc, ◌+◌, ◌-◌, ◌≤◌, ◌≡◌, Bool, true, false, cond, ◌&&◌, List, [], ◌∷◌, ◌++◌, length, take, drop, set, replicate, ltb, leb}
+use Rattle.std.specs.Prelude.{ℕ, suc, ◌+◌, ◌-◌, ◌≤◌, ◌≡◌, Bool, true, false, cond, ◌&&◌, List, [], ◌∷◌, ◌++◌, length, take, drop, set, replicate, ltb, leb, Option, None, Some}
 use Rattle.geometry.specs.Geometry.{home_of, spare_of}
 use Rattle.geometry.specs.declared.Block.{Block}
 use Rattle.geometry.specs.declared.Sector.{Sector}
 use Rattle.lists.specs.Lists.{dead, index_of, member_of, entries_ok, Entries}
 use Rattle.table.specs.declared.Table.{Table}
-use Rattle.table.specs.declared.NextSpare.{NextSpare}
-use Rattle.table.specs.declared.NextSpare.TheVariants as next
 
 -- "The table has a spare list and a bad list." Each is the first entries of an array.
 abbrev pub spare_list : Table → List ℕ
@@ -43,8 +41,8 @@ unfoldable pub sector_of : List ℕ → Block → Sector
 sector_of l b = cond (member_of b.0 l) (spare_of (index_of b.0 l)) (home_of b)
 
 -- "next unused spare": entries are never freed, so with n listed it is spare n
-abbrev pub next_spare : ℕ → NextSpare
-next_spare n = cond (ltb n 32) (next.At (spare_of n)) next.None
+abbrev pub next_spare : ℕ → Option Sector
+next_spare n = cond (ltb n 32) (Some (spare_of n)) None
 
 abbrev pub empty_table : Table
 empty_table = record { spares = replicate 32 0; bads = replicate 100 0; nspares = 0; nbads = 0 }

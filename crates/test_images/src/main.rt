@@ -2,10 +2,11 @@
 // what the writer makes of that.
 #![tactic(auto)]
 
-use image::Found;
 use std::io;
-use std::io::Read;
-use test_text::{Bytes, Fault, Kept};
+use test_text::{Bytes, Fault, Page, Script, read_all};
+
+// A page written further than this is emptied before the next line, which finds room then.
+const FULL: usize = 32768;
 
 // Where in a line the reader is. Word: after so many letters of the word.
 #[derive(Clone, Copy)]
@@ -17,207 +18,104 @@ enum Place {
     Wrong(Fault),
 }
 
-// What a line was: an image of so many bytes, or one that stops the run.
-#[derive(Clone, Copy)]
-enum Line {
-    Skipped,
-    Image(usize),
-    Wrong(Fault),
-}
-
-// The line's number, the place in it, and how much of the output is not written yet.
-#[derive(Clone, Copy)]
-struct State {
+// The line's number, the place in it, the buffer of the bytes that it brings, and the output that is not written yet.
+#[derive(Drop)]
+struct Reader<'a> {
     line: u64,
     place: Place,
-    at: usize,
+    bytes: [u8; 4096],
+    page: Page<'a>,
 }
 
-fn put_entry(out: &mut [u8], at: usize, x: u16) -> usize {
-    let a = test_text::push(out, at, b' ');
+// Writes an entry, after a blank.
+fn put_entry(page: &mut Page, x: u16) {
+    page.push(b' ');
     if x == lists::DEAD {
-        return test_text::put_word(out, a, b"dead");
+        page.word(b"dead");
+    } else {
+        page.decimal(u64::from(x));
     }
-    test_text::put_decimal(out, a, x as u64)
 }
 
-// Writes a spare entry with its cause.
-fn put_noted(out: &mut [u8], at: usize, x: u16, cause: u16) -> usize {
-    let a = put_entry(out, at, x);
-    let b = test_text::push(out, a, b':');
-    test_text::put_decimal(out, b, cause as u64)
-}
-
-// Returns the cause at a place. Each spare entry has one.
-fn cause_at(causes: &[u16], i: usize) -> u16 {
-    if i < causes.len() { causes[i] } else { 0 }
-}
-
-// Writes the spare list of form B.
-fn put_spares(out: &mut [u8], at: usize, spares: &[u16], causes: &[u16]) -> usize {
-    let mut a = at;
-    let mut i = 0;
-    while i < spares.len() {
-        a = put_noted(out, a, spares[i], cause_at(causes, i));
-        i += 1;
+// Writes the spare list of form B: each entry with its cause.
+fn put_spares(page: &mut Page, spares: &[u16], causes: &[u16]) {
+    for (x, cause) in spares.iter().zip(causes) {
+        put_entry(page, *x);
+        page.push(b':');
+        page.decimal(u64::from(*cause));
     }
-    a
 }
 
-fn put_list(out: &mut [u8], at: usize, list: &[u16]) -> usize {
-    let mut a = at;
-    let mut i = 0;
-    while i < list.len() {
-        a = put_entry(out, a, list[i]);
-        i += 1;
+// Writes a list after its name.
+fn put_named(page: &mut Page, name: &[u8], list: &[u16]) {
+    page.word(name);
+    for x in list {
+        put_entry(page, *x);
     }
-    a
 }
 
-fn put_named(out: &mut [u8], at: usize, name: &[u8], list: &[u16]) -> usize {
-    let a = test_text::put_word(out, at, name);
-    put_list(out, a, list)
-}
-
-// Writes the bytes that the writer of form A makes.
-fn put_made(out: &mut [u8], at: usize, spares: &[u16], bads: &[u16]) -> usize {
+// Writes the line of an image of form A, with the bytes that the writer of form A makes.
+fn put_form_a(page: &mut Page, spares: &[u16], bads: &[u16]) {
     let mut made = [0u8; 532];
     codec::form_a::write(spares, bads, &mut made);
-    test_text::put_bytes(out, at, &made)
+    put_named(page, b"spares", spares);
+    put_named(page, b" bads", bads);
+    page.word(b" written");
+    page.bytes(&made);
+    page.push(b'\n');
 }
 
-// Writes the bytes that the writer of form B makes.
-fn put_made_b(
-    out: &mut [u8],
-    at: usize,
-    run: u32,
-    spares: &[u16],
-    causes: &[u16],
-    bads: &[u16],
-) -> usize {
+// Writes the line of an image of form B, with the bytes that the writer of form B makes.
+fn put_form_b(page: &mut Page, run: u32, spares: &[u16], causes: &[u16], bads: &[u16]) {
     let mut made = [0u8; 532];
     codec::form_b::write(run, spares, causes, bads, &mut made);
-    test_text::put_bytes(out, at, &made)
-}
-
-fn put_lists(out: &mut [u8], at: usize, spares: &[u16], bads: &[u16]) -> usize {
-    let a = put_named(out, at, b"spares", spares);
-    let b = put_named(out, a, b" bads", bads);
-    let c = test_text::put_word(out, b, b" written");
-    let d = put_made(out, c, spares, bads);
-    test_text::push(out, d, b'\n')
-}
-
-// Writes the beginning of the line of an image of form B.
-fn put_run(out: &mut [u8], at: usize, run: u32) -> usize {
-    let a = test_text::put_word(out, at, b"form b run ");
-    let b = test_text::put_decimal(out, a, run as u64);
-    test_text::put_word(out, b, b" spares")
-}
-
-// Writes the line of an image of form B.
-fn put_form_b(
-    out: &mut [u8],
-    at: usize,
-    run: u32,
-    spares: &[u16],
-    causes: &[u16],
-    bads: &[u16],
-) -> usize {
-    let a = put_run(out, at, run);
-    let b = put_spares(out, a, spares, causes);
-    let c = put_named(out, b, b" bads", bads);
-    let d = test_text::put_word(out, c, b" written");
-    let e = put_made_b(out, d, run, spares, causes, bads);
-    test_text::push(out, e, b'\n')
+    page.word(b"form b run ");
+    page.decimal(u64::from(run));
+    page.word(b" spares");
+    put_spares(page, spares, causes);
+    put_named(page, b" bads", bads);
+    page.word(b" written");
+    page.bytes(&made);
+    page.push(b'\n');
 }
 
 // Writes the line of bytes that are no image: form B with a wrong sum or another fault says which.
-fn put_none(out: &mut [u8], at: usize, x: image::Fault) -> usize {
-    match x {
-        image::Fault::Form => test_text::put_word(out, at, b"none\n"),
-        image::Fault::Sum => test_text::put_word(out, at, b"none 7\n"),
-        image::Fault::Field => test_text::put_word(out, at, b"none 8\n"),
-    }
+fn put_none(page: &mut Page, x: image::Fault) {
+    page.word(match x {
+        image::Fault::Form => b"none\n",
+        image::Fault::Sum => b"none 7\n",
+        image::Fault::Field => b"none 8\n",
+    });
 }
 
 // Says whether an image is of form B.
 fn is_form_b(s: &[u8]) -> bool {
-    if s.len() < 4 {
-        return false;
-    }
-    codec::is_form_b(s)
+    s.len() >= 4 && codec::is_form_b(s)
 }
 
 // Writes the line for an image.
-fn put_image(out: &mut [u8], at: usize, s: &[u8]) -> usize {
-    let read = codec::read_image(s);
-    let found = read.found;
-    let spares = read.spares;
-    let causes = read.causes;
-    let bads = read.bads;
-    match found {
-        Found::Malformed(x) => put_none(out, at, x),
-        Found::Lists(n, m, run) => {
-            let listed = lists::cut(&spares, n);
-            let bad = lists::cut(&bads, m);
-            if is_form_b(s) {
-                put_form_b(out, at, run, listed, lists::cut(&causes, n), bad)
-            } else {
-                put_lists(out, at, listed, bad)
-            }
-        }
+fn put_image(page: &mut Page, s: &[u8]) {
+    let image = match codec::read_image(s) {
+        Ok(image) => image,
+        Err(x) => return put_none(page, x),
+    };
+    let t = image.table;
+    let spares = buffer::cut(&t.spares, t.nspares);
+    let bads = buffer::cut(&t.bads, t.nbads);
+    if is_form_b(s) {
+        let causes = buffer::cut(&image.causes, t.nspares);
+        put_form_b(page, image.run, spares, causes, bads);
+    } else {
+        put_form_a(page, spares, bads);
     }
-}
-
-// Writes the first `at` bytes of the output.
-fn flush(rt: &impl Print, out: &[u8], at: usize) -> io::Result<()> {
-    rt.write_all(test_text::cut(out, at))
-}
-
-// Makes room in the output for a line.
-fn make_room(rt: &impl Print, out: &[u8], at: usize) -> io::Result<usize> {
-    if at <= 32768 {
-        return Ok(at);
-    }
-    flush(rt, out, at)?;
-    Ok(0)
 }
 
 // Returns the place after one more character, where k letters of the word are read.
 fn letter(k: usize, ch: u8) -> Place {
-    let word = b"read ";
-    if 5 <= k {
-        return Place::Wrong(Fault::Word);
-    }
-    if ch != word[k] {
-        return Place::Wrong(Fault::Word);
-    }
-    if k < 4 {
-        return Place::Word(k + 1);
-    }
-    Place::Bytes(Bytes::new())
-}
-
-// Returns the place after a line's first character.
-fn first(ch: u8) -> Place {
-    if ch == b'#' {
-        return Place::Skipped;
-    }
-    letter(0, ch)
-}
-
-fn end_word(k: usize) -> Line {
-    if k == 4 {
-        return Line::Image(0);
-    }
-    Line::Wrong(Fault::Word)
-}
-
-fn end_bytes(b: Bytes, bytes: &mut [u8]) -> Line {
-    match b.end(bytes) {
-        Kept::To(n) => Line::Image(n),
-        Kept::Bad(fault) => Line::Wrong(fault),
+    match (k, ch) {
+        (0, b'r') | (1, b'e') | (2, b'a') | (3, b'd') => Place::Word(k + 1),
+        (4, b' ') => Place::Bytes(Bytes::new()),
+        _ => Place::Wrong(Fault::Word),
     }
 }
 
@@ -225,148 +123,87 @@ impl Place {
     // Returns the place after one more character.
     fn step(self, ch: u8, bytes: &mut [u8]) -> Place {
         match self {
-            Place::Start => first(ch),
-            Place::Skipped => Place::Skipped,
+            Place::Start if ch == b'#' => Place::Skipped,
+            Place::Start => letter(0, ch),
             Place::Word(k) => letter(k, ch),
             Place::Bytes(b) => Place::Bytes(b.step(bytes, ch)),
-            Place::Wrong(fault) => Place::Wrong(fault),
+            Place::Skipped | Place::Wrong(_) => self,
         }
     }
 
-    // Returns what the line was, which ends here.
-    fn end(self, bytes: &mut [u8]) -> Line {
+    // Returns how many bytes of an image a line brought that ends here, if it is no line to skip.
+    fn end(self, bytes: &mut [u8]) -> Result<Option<usize>, Fault> {
         match self {
-            Place::Start => Line::Skipped,
-            Place::Skipped => Line::Skipped,
-            Place::Word(k) => end_word(k),
-            Place::Bytes(b) => end_bytes(b, bytes),
-            Place::Wrong(fault) => Line::Wrong(fault),
+            Place::Start | Place::Skipped => Ok(None),
+            Place::Word(4) => Ok(Some(0)),
+            Place::Word(_) => Err(Fault::Word),
+            Place::Bytes(b) => Ok(Some(b.end(bytes)?)),
+            Place::Wrong(fault) => Err(fault),
         }
     }
 
     // Says whether the line can still be right.
     fn is_open(self) -> bool {
         match self {
-            Place::Start => true,
-            Place::Skipped => true,
-            Place::Word(_) => true,
             Place::Bytes(b) => b.is_open(),
-            Place::Wrong(_) => false,
+            _ => !matches!(self, Place::Wrong(_)),
         }
     }
 }
 
-fn after(line: u64) -> u64 {
-    if line == u64::MAX { line } else { line + 1 }
-}
-
-impl State {
-    fn new() -> State {
-        State {
+impl<'a> Reader<'a> {
+    fn new(out: &'a mut [u8]) -> Reader<'a> {
+        Reader {
             line: 1,
             place: Place::Start,
-            at: 0,
+            bytes: [0; 4096],
+            page: Page::new(out),
         }
     }
 
-    fn with_place(self, place: Place) -> State {
-        State {
-            line: self.line,
-            place: place,
-            at: self.at,
+    // Writes what is left, and the error if there is one.
+    fn finish(&mut self, rt: &impl Print) -> io::Result<()> {
+        self.page.make_room(rt, FULL)?;
+        if let Place::Wrong(fault) = self.place {
+            self.page
+                .error(self.line, fault, b"a line is read and its bytes");
         }
-    }
-
-    fn next_line(self, at: usize) -> State {
-        State {
-            line: after(self.line),
-            place: Place::Start,
-            at: at,
-        }
-    }
-
-    // Shows the image s, which the line brought.
-    fn show(self, rt: &impl Print, s: &[u8], out: &mut [u8]) -> io::Result<State> {
-        let at = make_room(rt, out, self.at)?;
-        Ok(self.next_line(put_image(out, at, s)))
-    }
-
-    fn end_line(self, rt: &impl Print, bytes: &mut [u8], out: &mut [u8]) -> io::Result<State> {
-        let place = self.place;
-        match place.end(bytes) {
-            Line::Skipped => Ok(self.next_line(self.at)),
-            Line::Image(n) => self.show(rt, test_text::cut(bytes, n), out),
-            Line::Wrong(fault) => Ok(self.with_place(Place::Wrong(fault))),
-        }
-    }
-
-    fn step(self, rt: &impl Print, ch: u8, bytes: &mut [u8], out: &mut [u8]) -> io::Result<State> {
-        if ch == b'\n' {
-            return self.end_line(rt, bytes, out);
-        }
-        let place = self.place;
-        Ok(self.with_place(place.step(ch, bytes)))
-    }
-
-    fn goes_on(self) -> bool {
-        let place = self.place;
-        place.is_open()
+        self.page.flush(rt)
     }
 }
 
-fn read_part(
-    rt: &impl Print,
-    st: State,
-    part: &[u8],
-    bytes: &mut [u8],
-    out: &mut [u8],
-) -> io::Result<State> {
-    let mut now = st;
-    for ch in part {
-        now = now.step(rt, *ch, bytes, out)?;
+impl Script for Reader<'_> {
+    // Reads one more character.
+    fn step(&mut self, ch: u8) {
+        self.place = self.place.step(ch, &mut self.bytes);
     }
-    Ok(now)
-}
 
-// Reads the whole input. The count of turns lets the loop end for the prover. No run uses it up.
-fn read_all(
-    rt: &impl Print,
-    from: &mut impl Read,
-    input: &mut [u8],
-    bytes: &mut [u8],
-    out: &mut [u8],
-) -> io::Result<State> {
-    let mut st = State::new();
-    for _ in 0..u64::MAX {
-        let n = from.read(input)?;
-        if n == 0 {
-            return Ok(st);
+    // Shows the image of a line that ends here, if it brought one, and goes on to the next line. A wrong line stays.
+    fn end_line(&mut self, rt: &impl Print) -> io::Result<()> {
+        match self.place.end(&mut self.bytes) {
+            Ok(brought) => {
+                if let Some(n) = brought {
+                    self.page.make_room(rt, FULL)?;
+                    put_image(&mut self.page, buffer::cut(&self.bytes, n));
+                }
+                self.line = self.line.saturating_add(1);
+                self.place = Place::Start;
+            }
+            Err(fault) => self.place = Place::Wrong(fault),
         }
-        st = read_part(rt, st, &input[..n], bytes, out)?;
-        if !st.goes_on() {
-            return Ok(st);
-        }
+        Ok(())
     }
-    Ok(st)
-}
 
-// Writes what is left, and the error if there is one.
-fn finish(rt: &impl Print, st: State, out: &mut [u8]) -> io::Result<()> {
-    let place = st.place;
-    let at = make_room(rt, out, st.at)?;
-    if let Place::Wrong(fault) = place {
-        let end = test_text::put_error(out, at, st.line, fault, b"a line is read and its bytes");
-        return flush(rt, out, end);
+    // Says whether the line can still be right.
+    fn is_open(&self) -> bool {
+        self.place.is_open()
     }
-    flush(rt, out, at)
 }
 
 fn main(rt: HostRuntime) -> io::Result<()> {
     let mut input = [0u8; 65536];
-    let mut bytes = [0u8; 4096];
     let mut out = [0u8; 65536];
-    let st = read_all(&rt, &mut rt.stdin(), &mut input, &mut bytes, &mut out)?;
-    // The last line may end with the input.
-    let last = st.end_line(&rt, &mut bytes, &mut out)?;
-    finish(&rt, last, &mut out)
+    let mut reader = Reader::new(&mut out);
+    read_all(&mut reader, &rt, &mut rt.stdin(), &mut input)?;
+    reader.finish(&rt)
 }

@@ -4,205 +4,91 @@
 
 mod player;
 
-use drive::Drive;
-use player::{Brought, Buffer, Numbers, Page};
+use player::Player;
 use std::io;
-use std::io::Read;
-use test_script::{Line, Place};
+use test_script::{Brought, Line, Place};
+use test_text::{Page, Script, read_all};
 
-// The line's number, what was read of it, and how much of the output is not written yet.
-#[derive(Clone, Copy)]
-struct State {
+// A page written further than this has no room for a line, which has less than 100 characters.
+const FULL: usize = 65000;
+
+// The line's number, what was read of it, the numbers and the bytes that it brings, the drive, and the output that is not written
+// yet.
+#[derive(Drop)]
+struct Run<'a> {
     number: u64,
     line: Line,
-    at: usize,
+    numbers: [u32; 1],
+    bytes: [u8; 4096],
+    player: Player,
+    page: Page<'a>,
 }
 
-// The drive between two calls, and where the run is.
-#[derive(Clone, Copy)]
-struct Run {
-    drive: Drive,
-    state: State,
-}
-
-// Writes the first `at` bytes of the output.
-fn flush(rt: &impl Print, out: &[u8], at: usize) -> io::Result<()> {
-    rt.write_all(test_text::cut(out, at))
-}
-
-// Makes room in the output for a line, which has less than 100 characters.
-fn make_room(rt: &impl Print, out: &[u8], at: usize) -> io::Result<usize> {
-    if at <= 65000 {
-        return Ok(at);
-    }
-    flush(rt, out, at)?;
-    Ok(0)
-}
-
-// Returns the number of the next line.
-fn next(number: u64) -> u64 {
-    if number == u64::MAX {
-        number
-    } else {
-        number + 1
-    }
-}
-
-impl State {
-    fn new() -> State {
-        State {
+impl<'a> Run<'a> {
+    fn new(out: &'a mut [u8]) -> Run<'a> {
+        Run {
             number: 1,
             line: Line::new(),
-            at: 0,
+            numbers: [0],
+            bytes: [0; 4096],
+            player: Player::new(),
+            page: Page::new(out),
         }
     }
 
-    fn with_line(self, line: Line) -> State {
-        State {
-            number: self.number,
-            line: line,
-            at: self.at,
+    // Writes what is left, and the error if there is one.
+    fn finish(&mut self, rt: &impl Print) -> io::Result<()> {
+        self.page.make_room(rt, FULL)?;
+        if let Place::Wrong(fault) = self.line.place {
+            self.page.error(self.number, fault, b"no such call");
         }
-    }
-
-    // Returns where the run is after a line: at the next, or at this if it is wrong.
-    fn after(self, line: Line, at: usize) -> State {
-        let place = line.place;
-        if let Place::Wrong(_) = place {
-            return self.with_line(line);
-        }
-        State {
-            number: next(self.number),
-            line: Line::new(),
-            at: at,
-        }
-    }
-
-    fn step(self, ch: u8, numbers: &mut Numbers, bytes: &mut Brought) -> State {
-        let line = self.line;
-        self.with_line(test_script::step(line, ch, numbers, bytes))
-    }
-
-    fn goes_on(self) -> bool {
-        let line = self.line;
-        let place = line.place;
-        if let Place::Wrong(_) = place {
-            false
-        } else {
-            true
-        }
+        self.page.flush(rt)
     }
 }
 
-// Ends a line, and makes its call if it is one.
-fn end_line(
-    rt: &impl Print,
-    d: Drive,
-    st: State,
-    numbers: &mut Numbers,
-    bytes: &mut Brought,
-    buf: &mut Buffer,
-    out: &mut Page,
-) -> io::Result<Run> {
-    let line = test_script::end(st.line, numbers, bytes);
-    let at = make_room(rt, out, st.at)?;
-    let made = player::run_line(d, line, numbers, bytes, buf, out, at);
-    let next = made.drive;
-    Ok(Run {
-        drive: next,
-        state: st.after(line, made.at),
-    })
-}
+impl Script for Run<'_> {
+    // Reads one more character.
+    fn step(&mut self, ch: u8) {
+        let mut brought = Brought {
+            numbers: &mut self.numbers,
+            bytes: &mut self.bytes,
+        };
+        self.line = test_script::step(self.line, ch, &mut brought);
+    }
 
-// Reads the characters of a part, which begins and ends anywhere in a line.
-fn read_part(
-    rt: &impl Print,
-    drive: Drive,
-    state: State,
-    part: &[u8],
-    numbers: &mut Numbers,
-    bytes: &mut Brought,
-    buf: &mut Buffer,
-    out: &mut Page,
-) -> io::Result<Run> {
-    let mut d = drive;
-    let mut st = state;
-    for ch in part {
-        if *ch == b'\n' {
-            let ended = end_line(rt, d, st, numbers, bytes, buf, out)?;
-            d = ended.drive;
-            st = ended.state;
-        } else {
-            st = st.step(*ch, numbers, bytes);
+    // Ends a line: makes its call if it is one, and goes on to the next. A wrong line stays, and empties no output.
+    fn end_line(&mut self, rt: &impl Print) -> io::Result<()> {
+        if self.page.at > FULL {
+            rt.write_all(self.page.written())?;
         }
-    }
-    Ok(Run {
-        drive: d,
-        state: st,
-    })
-}
-
-// Reads the whole input. The last line may end with it. The count of turns lets the loop end for the prover; no run uses it
-// up.
-fn read_all(
-    rt: &impl Print,
-    from: &mut impl Read,
-    input: &mut Page,
-    numbers: &mut Numbers,
-    bytes: &mut Brought,
-    buf: &mut Buffer,
-    out: &mut Page,
-) -> io::Result<State> {
-    let mut d = player::never_started();
-    let mut st = State::new();
-    for _ in 0..u64::MAX {
-        let n = from.read(input)?;
-        let run = read_part(
-            rt,
-            d,
-            st,
-            test_text::cut(input, n),
-            numbers,
-            bytes,
-            buf,
-            out,
-        )?;
-        d = run.drive;
-        st = run.state;
-        if (n == 0) | !st.goes_on() {
-            break;
+        let mut brought = Brought {
+            numbers: &mut self.numbers,
+            bytes: &mut self.bytes,
+        };
+        self.line = test_script::end(self.line, &mut brought);
+        if !self.is_open() {
+            return Ok(());
         }
+        if self.page.at > FULL {
+            self.page.clear();
+        }
+        self.player
+            .play(self.line, self.numbers[0], &self.bytes, &mut self.page);
+        self.number = self.number.saturating_add(1);
+        self.line = Line::new();
+        Ok(())
     }
-    let last = end_line(rt, d, st, numbers, bytes, buf, out)?;
-    Ok(last.state)
-}
 
-// Writes what is left, and the error if there is one.
-fn finish(rt: &impl Print, st: State, out: &mut Page) -> io::Result<()> {
-    let line = st.line;
-    let place = line.place;
-    let at = make_room(rt, out, st.at)?;
-    if let Place::Wrong(fault) = place {
-        let end = test_text::put_error(out, at, st.number, fault, b"no such call");
-        return flush(rt, out, end);
+    // Says whether the line can still be right.
+    fn is_open(&self) -> bool {
+        !matches!(self.line.place, Place::Wrong(_))
     }
-    flush(rt, out, at)
 }
 
 fn main(rt: HostRuntime) -> io::Result<()> {
     let mut input = [0u8; 65536];
-    let mut numbers = [0u32; 1];
-    let mut bytes = [0u8; 4096];
-    let mut buf = [0u8; 536];
     let mut out = [0u8; 65536];
-    let st = read_all(
-        &rt,
-        &mut rt.stdin(),
-        &mut input,
-        &mut numbers,
-        &mut bytes,
-        &mut buf,
-        &mut out,
-    )?;
-    finish(&rt, st, &mut out)
+    let mut run = Run::new(&mut out);
+    read_all(&mut run, &rt, &mut rt.stdin(), &mut input)?;
+    run.finish(&rt)
 }

@@ -2,177 +2,132 @@
 ghost use Rattle.std.specs.Prelude.{◌≤◌, length};
 
 use calls::Controller;
-use drive::{Answer, Drive, Marks, Phase, Step};
+use drive::{Drive, Marks, Phase, Step};
 use table::Table;
-use test_script::{Call, Lent, Line, Place};
+use test_script::{Call, Line, Place};
+use test_text::Page;
 
-// The drive's buffer, the numbers and the bytes that a line brings, and what is read or written at once.
-pub type Buffer = [u8; 536];
-
-pub type Numbers = [u32; 1];
-
-pub type Brought = [u8; 4096];
-
-pub type Page = [u8; 65536];
-
-// The drive after a call, and how much of the output is not written yet.
+// A call with what its line brings: a number, which is a byte, further bytes, and how many bytes the call is lent, if the line
+// says so.
 #[derive(Clone, Copy)]
-pub struct Made {
-    pub drive: Drive,
-    pub at: usize,
+struct Request<'a> {
+    call: Call,
+    byte: u8,
+    bytes: &'a [u8],
+    lent: Option<usize>,
 }
 
-// Returns a drive that was never started: idle, no table, no latch, status 3 bit 7 not due.
-pub fn never_started() -> Drive {
-    let state = drive::State {
-        phase: Phase::Idle,
-        marks: Marks {
-            known: false,
-            changed: false,
-            moved: false,
-            latch: false,
-            fresh: false,
-        },
-        command: [0u8; 6],
-        count: 0,
-        fed: 0,
-        run: 0,
-    };
-    Drive {
-        table: Table::empty(),
-        causes: [0; 32],
-        state: state,
+impl<'a> Request<'a> {
+    // Makes the call, which is lent all of buf.
+    fn make(&self, drive: Drive, buf: &mut [u8]) -> Step {
+        let unit = Controller(drive);
+        match self.call {
+            Call::Start => unit.start(buf),
+            Call::Raise => unit.raise(buf),
+            Call::Lower => unit.lower(buf, self.byte),
+            Call::Feed => unit.feed(buf, self.bytes),
+            Call::Surface => unit.surface(buf, self.byte, self.bytes),
+            Call::Reset => unit.reset(buf),
+            Call::Image => unit.image(buf),
+            Call::Convert => Step {
+                drive,
+                answer: calls::convert(self.bytes, buf),
+            },
+        }
+    }
+
+    // Makes the call, which is lent the first n bytes of s, or all where there are fewer.
+    fn make_cut(&self, drive: Drive, s: &mut [u8], n: usize) -> Step {
+        let n = n.min(s.len());
+        self.make(drive, &mut s[..n])
+    }
+
+    // Makes the call, which is lent what the line says: so many bytes of buf, and zeros after its end. It is lent a copy, which is
+    // put back: a wrong length changes nothing.
+    fn make_lent(&self, drive: Drive, buf: &mut [u8]) -> Step
+        requires { length buf.old ≤ 600 }
+    {
+        let mut copy = [0u8; 600];
+        buffer::put(&mut copy, 0, buf);
+        let step = self.make_cut(drive, &mut copy, self.lent.unwrap_or(buf.len()));
+        buffer::put(buf, 0, buffer::cut(&copy, buf.len()));
+        step
     }
 }
 
-// Hands the drive back with the answer to a call that has no record.
-fn beside(d: Drive, a: Answer) -> Step {
-    Step {
-        drive: d,
-        answer: a,
-    }
+// A drive between two calls, and its buffer.
+#[derive(Clone, Copy)]
+pub struct Player {
+    drive: Drive,
+    buf: [u8; 536],
 }
 
-// Makes a call that is lent all of buf.
-fn call(d: Drive, c: Call, numbers: &Numbers, bytes: &[u8], buf: &mut [u8]) -> Step {
-    let unit = Controller(d);
-    let byte = (numbers[0] % 256) as u8;
-    match c {
-        Call::Start => unit.start(buf),
-        Call::Raise => unit.raise(buf),
-        Call::Lower => unit.lower(buf, byte),
-        Call::Feed => unit.feed(buf, bytes),
-        Call::Surface => unit.surface(buf, byte, bytes),
-        Call::Reset => unit.reset(buf),
-        Call::Image => unit.image(buf),
-        Call::Convert => beside(d, calls::convert(bytes, buf)),
+impl Player {
+    // Returns a drive that was never started: idle, no table, no latch, status 3 bit 7 not due.
+    pub fn new() -> Player {
+        let state = drive::State {
+            phase: Phase::Idle,
+            marks: Marks {
+                known: false,
+                changed: false,
+                moved: false,
+                latch: false,
+                fresh: false,
+            },
+            command: [0; 6],
+            count: 0,
+            fed: 0,
+            run: 0,
+        };
+        Player {
+            drive: Drive {
+                table: Table::empty(),
+                causes: [0; 32],
+                state,
+            },
+            buf: [0; 536],
+        }
     }
-}
 
-// Makes a call that is lent the first n bytes of s, or all where there are fewer.
-fn call_cut(d: Drive, c: Call, numbers: &Numbers, bytes: &[u8], s: &mut [u8], n: usize) -> Step {
-    if n < s.len() {
-        return call(d, c, numbers, bytes, &mut s[..n]);
+    // Makes an image call, which is lent 532 bytes of EE hex.
+    fn image(&mut self, request: &Request, page: &mut Page) {
+        let mut image = [0xEE; 532];
+        let step = request.make_lent(self.drive, &mut image);
+        self.drive = step.drive;
+        test_script::put_image(page, step.answer, &image);
     }
-    call(d, c, numbers, bytes, s)
-}
 
-// Returns how many bytes a call is lent.
-fn length_of(lent: Lent, wanted: usize) -> usize {
-    match lent {
-        Lent::All => wanted,
-        Lent::Of(n) => n,
+    // Makes a convert call, whose second buffer is as many bytes of EE hex as are lent, or 532.
+    fn convert(&mut self, request: &Request, page: &mut Page) {
+        let mut second = [0xEE; 600];
+        let n = request.lent.unwrap_or(532);
+        let step = request.make_cut(self.drive, &mut second, n);
+        self.drive = step.drive;
+        test_script::put_image(page, step.answer, buffer::cut(&second, n));
     }
-}
 
-// Makes a call that is lent what the line says: so many bytes of buf, and zeros after its end. It is lent a copy, which is
-// put back: a wrong length changes nothing.
-fn call_lent(d: Drive, c: Call, numbers: &Numbers, bytes: &[u8], lent: Lent, buf: &mut [u8]) -> Step
-    requires { length buf.old ≤ 600 }
-{
-    let mut copy = [0u8; 600];
-    buffer::put(&mut copy, 0, buf);
-    let step = call_cut(d, c, numbers, bytes, &mut copy, length_of(lent, buf.len()));
-    buffer::put(buf, 0, test_text::cut(&copy, buf.len()));
-    step
-}
+    // Makes a call that is lent the drive's buffer.
+    fn other(&mut self, request: &Request, page: &mut Page) {
+        let step = request.make_lent(self.drive, &mut self.buf);
+        self.drive = step.drive;
+        test_script::put_call(page, step.answer, &self.buf);
+    }
 
-// Makes an image call, which is lent 532 bytes of EE hex.
-fn run_image(d: Drive, numbers: &Numbers, lent: Lent, out: &mut Page, at: usize) -> Made {
-    let mut image = [0xEEu8; 532];
-    let step = call_lent(d, Call::Image, numbers, b"", lent, &mut image);
-    let next = step.drive;
-    let answer = step.answer;
-    let end = test_script::put_image(out, at, answer, &image);
-    Made {
-        drive: next,
-        at: end,
+    // Makes the call of a line, if it is one, and writes its line of the transcript.
+    pub fn play(&mut self, line: Line, number: u32, bytes: &[u8], page: &mut Page) {
+        let Place::Takes(call, _) = line.place else {
+            return;
+        };
+        let request = Request {
+            call,
+            byte: (number % 256) as u8,
+            bytes: buffer::cut(bytes, line.used),
+            lent: line.lent,
+        };
+        match call {
+            Call::Image => self.image(&request, page),
+            Call::Convert => self.convert(&request, page),
+            _ => self.other(&request, page),
+        }
     }
-}
-
-// Makes a convert call, whose second buffer is as many bytes of EE hex as are lent, or 532.
-fn run_convert(
-    d: Drive,
-    numbers: &Numbers,
-    bytes: &[u8],
-    lent: Lent,
-    out: &mut Page,
-    at: usize,
-) -> Made {
-    let mut second = [0xEEu8; 600];
-    let n = length_of(lent, 532);
-    let step = call_cut(d, Call::Convert, numbers, bytes, &mut second, n);
-    let next = step.drive;
-    let answer = step.answer;
-    let end = test_script::put_image(out, at, answer, test_text::cut(&second, n));
-    Made {
-        drive: next,
-        at: end,
-    }
-}
-
-// Makes a call that is lent the buffer.
-fn run_other(
-    d: Drive,
-    c: Call,
-    numbers: &Numbers,
-    bytes: &[u8],
-    lent: Lent,
-    buf: &mut Buffer,
-    out: &mut Page,
-    at: usize,
-) -> Made {
-    let step = call_lent(d, c, numbers, bytes, lent, buf);
-    let next = step.drive;
-    let answer = step.answer;
-    let end = test_script::put_call(out, at, answer, buf);
-    Made {
-        drive: next,
-        at: end,
-    }
-}
-
-// Makes the call of a line, if it is one, and writes its line of the transcript.
-pub fn run_line(
-    d: Drive,
-    line: Line,
-    numbers: &Numbers,
-    bytes: &Brought,
-    buf: &mut Buffer,
-    out: &mut Page,
-    at: usize,
-) -> Made {
-    let place = line.place;
-    let lent = line.lent;
-    let Place::Takes(c, _) = place else {
-        return Made { drive: d, at: at };
-    };
-    if let Call::Image = c {
-        return run_image(d, numbers, lent, out, at);
-    }
-    let brought = test_text::cut(bytes, line.used);
-    if let Call::Convert = c {
-        return run_convert(d, numbers, brought, lent, out, at);
-    }
-    run_other(d, c, numbers, brought, lent, buf, out, at)
 }

@@ -1,27 +1,22 @@
 -- How a line of a call script is read: pieces, with a blank between two, each what its place in the line asks for.
-use Rattle.std.specs.Prelude.{ℕ, ◌+◌, ◌*◌, Bool, true, false, cond, ◌&&◌, List, [], ◌∷◌, length, set, leb, ltb, eqb}
+use Rattle.std.specs.Prelude.{ℕ, ◌+◌, ◌*◌, Bool, true, false, cond, ◌&&◌, List, [], ◌∷◌, length, set, leb, ltb, eqb, Option, Some, None, Result, Ok, Err, ◌≡◌}
 use Rattle.test_text.specs.Printing.{letters}
 use Rattle.test_text.specs.Reading.{number_on, stepped, run_of, Keep, kept_of}
 use Rattle.test_text.specs.declared.Fault.{Fault}
 use Rattle.test_text.specs.declared.Fault.TheVariants as fault
-use Rattle.test_text.specs.declared.Number.{Number}
-use Rattle.test_text.specs.declared.Number.TheVariants as number
 use Rattle.test_text.specs.declared.Token.{Token}
 use Rattle.test_text.specs.declared.Token.TheVariants as token
-use Rattle.test_text.specs.declared.Kept.{Kept}
-use Rattle.test_text.specs.declared.Kept.TheVariants as keeping
 use Rattle.test_script.specs.declared.Need.{Need}
 use Rattle.test_script.specs.declared.Need.TheVariants as need
 use Rattle.test_script.specs.declared.Rest.{Rest}
 use Rattle.test_script.specs.declared.Rest.TheVariants as rest
-use Rattle.test_script.specs.declared.Lent.{Lent}
-use Rattle.test_script.specs.declared.Lent.TheVariants as lending
 use Rattle.test_script.specs.declared.Place.{Place}
 use Rattle.test_script.specs.declared.Place.TheVariants as place
 use Rattle.test_script.specs.declared.Effect.{Effect}
 use Rattle.test_script.specs.declared.Effect.TheVariants as effects
 use Rattle.test_script.specs.declared.Piece.{Piece}
 use Rattle.test_script.specs.declared.Line.{Line}
+use Rattle.test_script.specs.declared.Brought.{Brought}
 
 -- a name as a number: 8 bits for each letter, after a 1. Names of more than seven letters are one number
 unfoldable pub name_on : ℕ → ℕ → ℕ
@@ -32,36 +27,36 @@ named k [] = k
 named k (ch ∷ w) = named (k * 256 + ch) w
 
 -- a piece with one more character, read as a name, as a decimal number and as a byte with a count
-abbrev pub digit_on : Number → ℕ → Number
-digit_on (number.Of n) ch = number_on n ch 0xffff_ffff
-digit_on number.None ch = number.None
+abbrev pub digit_on : Option ℕ → ℕ → Option ℕ
+digit_on (Some n) ch = number_on n ch 0xffff_ffff
+digit_on None ch = None
 
 abbrev pub new_piece : Piece
-new_piece = record { name = 1; number = number.Of 0; token = token.Gap }
+new_piece = record { name = 1; number = Some 0; token = token.Gap }
 
 abbrev pub piece_on : Piece → ℕ → Piece
 piece_on p ch = record { name = name_on p.name ch; number = digit_on p.number ch; token = stepped p.token ch }
 
 -- "the answer in decimal (0 to 255)", "0 to 600"
-abbrev pub at_most : ℕ → Number → Number
-at_most most (number.Of n) = cond (ltb most n) number.None (number.Of n)
-at_most most number.None = number.None
+abbrev pub at_most : ℕ → Option ℕ → Option ℕ
+at_most most (Some n) = cond (ltb most n) None (Some n)
+at_most most None = None
 
 -- "one byte in hex"
-abbrev pub hex_of : Token → Number
-hex_of token.Gap = number.None
-hex_of (token.High h) = number.None
-hex_of (token.Byte b) = number.Of b
-hex_of (token.Times b n) = number.None
-hex_of (token.Bad f) = number.None
+abbrev pub hex_of : Token → Option ℕ
+hex_of token.Gap = None
+hex_of (token.High h) = None
+hex_of (token.Byte b) = Some b
+hex_of (token.Times b n) = None
+hex_of (token.Bad f) = None
 
-abbrev pub brings : Number → Fault → Place → Effect
-brings (number.Of n) f next = effects.Number n next
-brings number.None f next = effects.Goes (place.Wrong f)
+abbrev pub brings : Option ℕ → Fault → Place → Effect
+brings (Some n) f next = effects.Number n next
+brings None f next = effects.Goes (place.Wrong f)
 
-abbrev pub lends : Number → Effect
-lends (number.Of n) = effects.Lends n
-lends number.None = effects.Goes (place.Wrong fault.Length)
+abbrev pub lends : Option ℕ → Effect
+lends (Some n) = effects.Lends n
+lends None = effects.Goes (place.Wrong fault.Length)
 
 abbrev pub needed : Need → Piece → Place → Effect
 needed need.Hex p next = brings (hex_of p.token) fault.Byte next
@@ -110,14 +105,14 @@ may_end (place.Takes c r) = true
 may_end (place.Wrong f) = true
 
 -- a line with a new piece
-abbrev pub goes : Lent → ℕ → ℕ → Place → Line
+abbrev pub goes : Option ℕ → ℕ → ℕ → Place → Line
 goes n count used p = record { lent = n; count = count; used = used; place = p; piece = new_piece }
 
 abbrev pub goes_to : Line → Place → Line
 goes_to l p = goes l.lent l.count l.used p
 
 abbrev pub new_line : Line
-new_line = goes lending.All 0 0 place.Start
+new_line = goes None 0 0 place.Start
 
 abbrev pub line_on : Line → ℕ → Line
 line_on l ch = record { lent = l.lent; count = l.count; used = l.used; place = place_on l.place ch; piece = piece_on l.piece ch }
@@ -140,9 +135,9 @@ counted l n next ns out =
     (read (goes_to l (place.Wrong fault.Arguments)) ns out)
     (read (goes l.lent (l.count + 1) l.used next) (set ns l.count n) out)
 
-abbrev pub kept_line : Line → Place → Kept → Line
-kept_line l next (keeping.To n) = goes l.lent l.count n next
-kept_line l next (keeping.Bad f) = goes_to l (place.Wrong f)
+abbrev pub kept_line : Line → Place → Result ℕ Fault → Line
+kept_line l next (Ok n) = goes l.lent l.count n next
+kept_line l next (Err f) = goes_to l (place.Wrong f)
 
 unfoldable pub laid : Line → Place → List ℕ → Keep → Read
 laid l next ns k = read (kept_line l next k.answer) ns k.buffer
@@ -150,6 +145,13 @@ laid l next ns k = read (kept_line l next k.answer) ns k.buffer
 -- what a piece did
 abbrev pub done : Effect → Line → List ℕ → List ℕ → Read
 done (effects.Goes p) l ns out = read (goes_to l p) ns out
-done (effects.Lends n) l ns out = read (goes (lending.Of n) l.count l.used (place.Word false)) ns out
+done (effects.Lends n) l ns out = read (goes (Some n) l.count l.used (place.Word false)) ns out
 done (effects.Number n next) l ns out = counted l n next ns out
 done (effects.Bytes next) l ns out = laid l next ns (kept_of out l.used (run_of l.piece.token))
+
+-- the numbers and bytes that the lines brought, in the same lent buffers, and the line
+abbrev pub Reads : Read → Line → Brought → Brought → Type 0
+Reads r l old new =
+    (read l new.numbers.now new.bytes.now ≡ r)
+    × (new.numbers.ghost_name ≡ old.numbers.ghost_name)
+    × (new.bytes.ghost_name ≡ old.bytes.ghost_name)

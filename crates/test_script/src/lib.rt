@@ -6,12 +6,12 @@ mod calls;
 mod print;
 mod sum;
 
-ghost use Rattle.std.specs.Prelude.{◌≡◌, cond};
-ghost use Rattle.test_script.specs.Reading.{name_on, digit_on, new_piece, piece_on, at_most, hex_of, brings, lends, unless_empty, needed, taken, effect, is_start, place_on, may_end, goes, new_line, line_on, closed, read, done};
+ghost use Rattle.std.specs.Prelude.{◌≡◌};
+ghost use Rattle.test_script.specs.Reading.{Reads, name_on, digit_on, new_piece, piece_on, at_most, hex_of, brings, lends, unless_empty, needed, taken, effect, is_start, place_on, may_end, goes_to, new_line, line_on, closed, done};
 
 pub use calls::{end, step};
 pub use print::{put_call, put_image};
-use test_text::{Fault, Kept, Number, Token};
+use test_text::{Fault, Token};
 
 // The calls. What each takes is said in the table of `calls`.
 #[derive(Clone, Copy)]
@@ -40,13 +40,6 @@ pub enum Rest {
     Bytes,
 }
 
-// How many bytes a call is lent: as many as it wants, or so many.
-#[derive(Clone, Copy)]
-pub enum Lent {
-    All,
-    Of(usize),
-}
-
 // What the next piece of a line is for. Start: no character was read. Word: the name, or also `lend` where it is true.
 // Length: the number after `lend`.
 #[derive(Clone, Copy)]
@@ -69,22 +62,31 @@ pub enum Effect {
     Bytes(Place),
 }
 
-// What was read of a piece, as a name, as a decimal number and as a byte with a count.
+// What was read of a piece, as a name, as a decimal number and as a byte with a count. A name is a number, since the definitions
+// `name_on` and `named` say so.
 #[derive(Clone, Copy)]
 pub struct Piece {
     pub name: u64,
-    pub number: Number,
+    pub number: Option<u32>,
     pub token: Token,
 }
 
-// What was read of a line. It brought `count` numbers and `used` bytes, which are at the front of what is lent for them.
+// What was read of a line. It brought `count` numbers and `used` bytes, which are at the front of what is lent for them. Its call
+// is lent so many bytes, or as many as it wants.
 #[derive(Clone, Copy)]
 pub struct Line {
-    pub lent: Lent,
+    pub lent: Option<usize>,
     pub count: usize,
     pub used: usize,
     pub place: Place,
     pub piece: Piece,
+}
+
+// What is lent for the numbers and the bytes that a line brings.
+#[derive(Drop)]
+pub struct Brought<'a> {
+    pub numbers: &'a mut [u32],
+    pub bytes: &'a mut [u8],
 }
 
 // The name with no letters. Each letter adds 8 bits, so that names of up to seven letters are different numbers.
@@ -93,23 +95,21 @@ const NO_LETTERS: u64 = 1;
 const LEND: u64 = 0x01_6c65_6e64;
 
 // Returns the name with one more letter. All names of more than seven letters are one number, which no call has.
+#[tactic(auto, using(std::proofs::lemmas::Bool::Decides::nat_tests), unfolding(crate::specs::Reading::name_on))]
 fn letter(name: u64, ch: u8) -> u64
     ensures { result ≡ name_on name ch }
 {
     if 0x100_0000_0000_0000 <= name {
         return u64::MAX;
     }
-    name * 256 + ch as u64
+    name * 256 + u64::from(ch)
 }
 
 // Returns the number with one more digit.
-fn digit(number: Number, ch: u8) -> Number
+fn digit(number: Option<u32>, ch: u8) -> Option<u32>
     ensures { result ≡ digit_on number ch }
 {
-    match number {
-        Number::Of(n) => test_text::number_on(n, ch, u32::MAX),
-        Number::None => Number::None,
-    }
+    test_text::number_on(number?, ch, u32::MAX)
 }
 
 impl Piece {
@@ -118,7 +118,7 @@ impl Piece {
     {
         Piece {
             name: NO_LETTERS,
-            number: Number::Of(0),
+            number: Some(0),
             token: Token::Gap,
         }
     }
@@ -127,59 +127,48 @@ impl Piece {
     fn step(self, ch: u8) -> Piece
         ensures { result ≡ piece_on self ch }
     {
-        let number = self.number;
-        let token = self.token;
         Piece {
             name: letter(self.name, ch),
-            number: digit(number, ch),
-            token: token.step(ch),
+            number: digit(self.number, ch),
+            token: self.token.step(ch),
         }
     }
 }
 
 // Returns the number if it is at most `most`.
-fn at_most(number: Number, most: u32) -> Number
+fn at_most(number: Option<u32>, most: u32) -> Option<u32>
     ensures { result ≡ at_most most number }
 {
-    let Number::Of(n) = number else {
-        return Number::None;
-    };
-    if most < n {
-        return Number::None;
-    }
-    number
+    number.filter(|n| *n <= most)
 }
 
 // Returns a byte without a count.
-fn hex_of(token: Token) -> Number
+fn hex_of(token: Token) -> Option<u32>
     ensures { result ≡ hex_of token }
 {
     match token {
-        Token::Gap => Number::None,
-        Token::High(_) => Number::None,
-        Token::Byte(b) => Number::Of(b as u32),
-        Token::Times(_, _) => Number::None,
-        Token::Bad(_) => Number::None,
+        Token::Byte(b) => Some(u32::from(b)),
+        _ => None,
     }
 }
 
 // Brings a number, if there is one.
-fn bring(number: Number, fault: Fault, next: Place) -> Effect
+fn bring(number: Option<u32>, fault: Fault, next: Place) -> Effect
     ensures { result ≡ brings number fault next }
 {
     match number {
-        Number::Of(n) => Effect::Number(n, next),
-        Number::None => Effect::Goes(Place::Wrong(fault)),
+        Some(n) => Effect::Number(n, next),
+        None => Effect::Goes(Place::Wrong(fault)),
     }
 }
 
 // Lends so many bytes, if there is a number.
-fn lend(number: Number) -> Effect
+fn lend(number: Option<u32>) -> Effect
     ensures { result ≡ lends number }
 {
     match number {
-        Number::Of(n) => Effect::Lends(n),
-        Number::None => Effect::Goes(Place::Wrong(Fault::Length)),
+        Some(n) => Effect::Lends(n),
+        None => Effect::Goes(Place::Wrong(Fault::Length)),
     }
 }
 
@@ -188,11 +177,9 @@ impl Need {
     fn effect(self, piece: Piece, next: Place) -> Effect
         ensures { result ≡ needed self piece next }
     {
-        let number = piece.number;
-        let token = piece.token;
         match self {
-            Need::Hex => bring(hex_of(token), Fault::Byte, next),
-            Need::Number(most, fault) => bring(at_most(number, most), fault, next),
+            Need::Hex => bring(hex_of(piece.token), Fault::Byte, next),
+            Need::Number(most, fault) => bring(at_most(piece.number, most), fault, next),
         }
     }
 }
@@ -209,13 +196,8 @@ impl Rest {
     }
 }
 
-fn pick(test: bool, yes: Place, no: Place) -> Place
-    ensures { result ≡ cond test yes no }
-{
-    if test { yes } else { no }
-}
-
 // Refuses an empty piece: there are two blanks, or one at the line's end.
+#[tactic(auto, using(std::proofs::lemmas::Bool::Decides::nat_tests), unfolding(crate::specs::Reading::unless_empty))]
 fn unless_empty(name: u64, effect: Effect) -> Effect
     ensures { result ≡ unless_empty name effect }
 {
@@ -229,57 +211,45 @@ impl Place {
     fn is_start(self) -> bool
         ensures { result ≡ is_start self }
     {
-        match self {
-            Place::Start => true,
-            Place::Skipped => false,
-            Place::Word(_) => false,
-            Place::Length => false,
-            Place::Needs(_, _, _) => false,
-            Place::Takes(_, _) => false,
-            Place::Wrong(_) => false,
-        }
+        matches!(self, Place::Start)
     }
 
     // Says whether a line that ends here lacks nothing.
     fn may_end(self) -> bool
         ensures { result ≡ may_end self }
     {
-        match self {
-            Place::Start => true,
-            Place::Skipped => true,
-            Place::Word(_) => false,
-            Place::Length => false,
-            Place::Needs(_, _, _) => false,
-            Place::Takes(_, _) => true,
-            Place::Wrong(_) => true,
-        }
+        !matches!(self, Place::Word(_) | Place::Length | Place::Needs(..))
     }
 
     // Returns the place after one more character that is no blank.
     fn step(self, ch: u8) -> Place
         ensures { result ≡ place_on self ch }
     {
-        pick(
-            self.is_start(),
-            pick(ch == b'#', Place::Skipped, Place::Word(true)),
-            self,
-        )
+        match self {
+            Place::Start if ch == b'#' => Place::Skipped,
+            Place::Start => Place::Word(true),
+            _ => self,
+        }
     }
 
     // Returns what a piece does here. What the table of calls has for it as a name is `found`.
+    #[tactic(auto, using(std::proofs::lemmas::Bool::Decides::nat_tests), unfolding(crate::specs::Reading::named))]
     fn effect(self, piece: Piece, found: Place) -> Effect
         ensures { result ≡ effect self piece found }
     {
         let name = piece.name;
-        let number = piece.number;
         match self {
             Place::Start => Effect::Goes(Place::Wrong(Fault::Word)),
             Place::Skipped => Effect::Goes(Place::Skipped),
-            Place::Word(first) => unless_empty(
-                name,
-                Effect::Goes(pick(first & (name == LEND), Place::Length, found)),
-            ),
-            Place::Length => unless_empty(name, lend(at_most(number, 600))),
+            Place::Word(first) => {
+                let next = if first && name == LEND {
+                    Place::Length
+                } else {
+                    found
+                };
+                unless_empty(name, Effect::Goes(next))
+            }
+            Place::Length => unless_empty(name, lend(at_most(piece.number, 600))),
             Place::Needs(call, need, rest) => {
                 unless_empty(name, need.effect(piece, Place::Takes(call, rest)))
             }
@@ -289,39 +259,38 @@ impl Place {
     }
 }
 
-// Returns a line with a new piece, which is for this place.
-fn goes(lent: Lent, count: usize, used: usize, place: Place) -> Line
-    ensures { result ≡ goes lent count used place }
-{
-    Line {
-        lent: lent,
-        count: count,
-        used: used,
-        place: place,
-        piece: Piece::new(),
-    }
-}
-
 impl Line {
     pub fn new() -> Line
         ensures { result ≡ new_line }
     {
-        goes(Lent::All, 0, 0, Place::Start)
+        Line {
+            lent: None,
+            count: 0,
+            used: 0,
+            place: Place::Start,
+            piece: Piece::new(),
+        }
+    }
+
+    // Returns the line with a new piece, which is for this place.
+    fn at(self, place: Place) -> Line
+        ensures { result ≡ goes_to self place }
+    {
+        Line {
+            place,
+            piece: Piece::new(),
+            ..self
+        }
     }
 
     // Returns the line with one more character that is no blank.
     fn step(self, ch: u8) -> Line
         ensures { result ≡ line_on self ch }
     {
-        let lent = self.lent;
-        let place = self.place;
-        let piece = self.piece;
         Line {
-            lent: lent,
-            count: self.count,
-            used: self.used,
-            place: place.step(ch),
-            piece: piece.step(ch),
+            place: self.place.step(ch),
+            piece: self.piece.step(ch),
+            ..self
         }
     }
 
@@ -329,39 +298,41 @@ impl Line {
     fn close(self) -> Line
         ensures { result ≡ closed self }
     {
-        let lent = self.lent;
-        let place = self.place;
-        goes(
-            lent,
-            self.count,
-            self.used,
-            pick(place.may_end(), place, Place::Wrong(Fault::Arguments)),
-        )
+        if self.place.may_end() {
+            self.at(self.place)
+        } else {
+            self.at(Place::Wrong(Fault::Arguments))
+        }
     }
 
     // Returns the line after a piece with this effect.
-    fn take(self, effect: Effect, numbers: &mut [u32], bytes: &mut [u8]) -> Line
-        ensures { read result numbers.new bytes.new ≡ done effect self numbers.old bytes.old }
+    #[tactic(auto, using(std::proofs::lemmas::Bool::Decides::nat_tests), unfolding(crate::specs::Reading::counted, crate::specs::Reading::laid))]
+    fn take(self, effect: Effect, brought: &mut Brought) -> Line
+        ensures { Reads (done effect self brought.old.numbers.now brought.old.bytes.now) result brought.old brought.new }
     {
-        let lent = self.lent;
-        let count = self.count;
-        let used = self.used;
         match effect {
-            Effect::Goes(place) => goes(lent, count, used, place),
-            Effect::Lends(n) => goes(Lent::Of(n as usize), count, used, Place::Word(false)),
+            Effect::Goes(place) => self.at(place),
+            Effect::Lends(n) => Line {
+                lent: Some(n as usize),
+                ..self.at(Place::Word(false))
+            },
             Effect::Number(n, next) => {
-                if numbers.len() <= count {
-                    return goes(lent, count, used, Place::Wrong(Fault::Arguments));
+                if brought.numbers.len() <= self.count {
+                    return self.at(Place::Wrong(Fault::Arguments));
                 }
-                numbers[count] = n;
-                goes(lent, count + 1, used, next)
+                brought.numbers[self.count] = n;
+                Line {
+                    count: self.count + 1,
+                    ..self.at(next)
+                }
             }
             Effect::Bytes(next) => {
-                let piece = self.piece;
-                let token = piece.token;
-                match test_text::keep(bytes, used, token.end()) {
-                    Kept::To(end) => goes(lent, count, end, next),
-                    Kept::Bad(fault) => goes(lent, count, used, Place::Wrong(fault)),
+                match test_text::keep(brought.bytes, self.used, self.piece.token.end()) {
+                    Ok(used) => Line {
+                        used,
+                        ..self.at(next)
+                    },
+                    Err(fault) => self.at(Place::Wrong(fault)),
                 }
             }
         }

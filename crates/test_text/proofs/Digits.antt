@@ -32,3 +32,6 @@ pub more_digits : (n : ℕ) → 10 ≤ n → decimal_text n ≡ decimal_text (n 
 unfolding digits
 more_digits zero h = absurd (omega arith)
 more_digits (suc n) h = rw (le-ltb (suc n) 10 h, places n (suc n / 10) (suc n / 10) (omega arith) (omega arith))
+
+-- the digits of a number: those of a tenth of it, if it has more than one, and the last
+pub ruleset decimal_steps = (one_digit, more_digits)

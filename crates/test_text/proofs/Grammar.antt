@@ -4,21 +4,16 @@ use mathlib.Core.Bool.{Bool, true, false, cond}
 use mathlib.Core.List.{List, [], ◌∷◌, ◌++◌, append_assoc, append-nil}
 use Prim.Native.Nat.{ℕ, zero, suc, ◌+◌, ◌-◌, ◌*◌, ◌%◌, ◌≤◌, ◌<◌}
 use native.Mathlib.Omega.{arith}
+use Rattle.std.specs.Prelude.{Option, Some, None, Result, Ok, Err}
 use borrow.Author.Tests.{le-leb, lt-leb, ltb-true, ltb-false, ne_eqb}
 use lib.Dec.{leb, ltb, eqb}
 use Rattle.logic.proofs.Bools.{branch, and_false}
 use Rattle.test_text.specs.Reading.{within, decimal_digit, hex_digit, Below, first_digit, second_digit, starred, times_of, stepped, counted_run, run_of, Keep, kept_of, line_start, next_token, line_end, line_on}
 use Rattle.test_text.specs.Grammar.{are_digits, value_of, count_of, after_byte, byte_of, token_of, on_first, pieces, unless_bad, gathered}
-use Rattle.test_text.specs.declared.Digit.{Digit}
-use Rattle.test_text.specs.declared.Digit.TheVariants as digit
-use Rattle.test_text.specs.declared.Number.TheVariants as number
 use Rattle.test_text.specs.declared.Fault.{Fault}
 use Rattle.test_text.specs.declared.Fault.TheVariants as fault
 use Rattle.test_text.specs.declared.Token.{Token}
 use Rattle.test_text.specs.declared.Token.TheVariants as token
-use Rattle.test_text.specs.declared.Run.TheVariants as run
-use Rattle.test_text.specs.declared.Kept.{Kept}
-use Rattle.test_text.specs.declared.Kept.TheVariants as kept
 use Rattle.test_text.specs.declared.Bytes.{Bytes}
 use Rattle.test_text.proofs.Digits.{in_range}
 
@@ -47,7 +42,7 @@ counting b n (ch ∷ cs) h = digits (within 48 57 ch) refl (λ (p : n * 10 + (ch
     v = n * 10 + (ch - 48)
 
     limit : (t : Bool) → ltb 4096 v ≡ t → (v ≤ 4096 → run_of (read_token (token.Times b v) cs) ≡ count_of b v cs)
-        → run_of (read_token (times_of b (cond t number.None (number.Of v))) cs) ≡ count_of b v cs
+        → run_of (read_token (times_of b (cond t None (Some v))) cs) ≡ count_of b v cs
     limit true e r =
         let w : 4096 < value_of v cs = omega (arith, ltb-true 4096 v e, grows v cs) in
         rw (read_bad fault.Count cs, and_false (are_digits cs) _ (and_false (leb 1 (value_of v cs)) _ (lt-leb (value_of v cs) 4096 w)))
@@ -70,24 +65,24 @@ unfolding read_token starred
 tail b [] = refl
 tail b (ch ∷ cs) = go (eqb ch 42)
   where
-    go : (t : Bool) → run_of (read_token (cond t (token.Times b 0) (token.Bad fault.Byte)) cs) ≡ cond t (count_of b 0 cs) (run.Bad fault.Byte)
+    go : (t : Bool) → run_of (read_token (cond t (token.Times b 0) (token.Bad fault.Byte)) cs) ≡ cond t (count_of b 0 cs) (Err fault.Byte)
     go true = counting b 0 cs (omega arith)
     go false = rw (read_bad fault.Byte cs)
 
-second : (h : ℕ) → h < 16 → (d : Digit) (cs : List ℕ) → run_of (read_token (second_digit h d) cs) ≡ byte_of (digit.Of h) d cs
-second h p (digit.Of l) cs =
+second : (h : ℕ) → h < 16 → (d : Option ℕ) (cs : List ℕ) → run_of (read_token (second_digit h d) cs) ≡ byte_of (Some h) d cs
+second h p (Some l) cs =
     let e : h % 16 * 16 + l ≡ 16 * h + l = omega arith in
     rw e (tail (16 * h + l) cs)
-second h p digit.None cs = rw (read_bad fault.Byte cs)
+second h p None cs = rw (read_bad fault.Byte cs)
 
-first : (d : Digit) → Below 16 d → (l : ℕ) (cs : List ℕ) → run_of (read_token (first_digit d) (l ∷ cs)) ≡ byte_of d (hex_digit l) cs
+first : (d : Option ℕ) → Below 16 d → (l : ℕ) (cs : List ℕ) → run_of (read_token (first_digit d) (l ∷ cs)) ≡ byte_of d (hex_digit l) cs
 unfolding read_token
-first (digit.Of h) p l cs = second h p (hex_digit l) cs
-first digit.None p l cs = rw (read_bad fault.Byte cs)
+first (Some h) p l cs = second h p (hex_digit l) cs
+first None p l cs = rw (read_bad fault.Byte cs)
 
-one : (d : Digit) → run_of (first_digit d) ≡ run.Bad fault.Byte
-one (digit.Of h) = refl
-one digit.None = refl
+one : (d : Option ℕ) → run_of (first_digit d) ≡ Err fault.Byte
+one (Some h) = refl
+one None = refl
 
 -- A TOKEN, character by character, is what the format says of it
 pub reads_token : (cs : List ℕ) → run_of (read_token token.Gap cs) ≡ token_of cs
@@ -110,13 +105,13 @@ at_token : ℕ → Token → Bytes
 at_token used t = record { used = used; token = t }
 
 -- after a fault nothing more is laid, and it stays
-line_bad : (used : ℕ) (f : Fault) (out cs : List ℕ) → read_line (at_token used (token.Bad f)) out cs ≡ record { answer = kept.Bad f; buffer = out }
+line_bad : (used : ℕ) (f : Fault) (out cs : List ℕ) → read_line (at_token used (token.Bad f)) out cs ≡ record { answer = Err f; buffer = out }
 unfolding read_line line_on at_token
 line_bad used f out [] = refl
 line_bad used f out (ch ∷ cs) = go (eqb ch 32) refl (line_bad used f out cs)
   where
-    go : (t : Bool) → eqb ch 32 ≡ t → read_line (at_token used (token.Bad f)) out cs ≡ record { answer = kept.Bad f; buffer = out }
-        → read_line (at_token used (token.Bad f)) out (ch ∷ cs) ≡ record { answer = kept.Bad f; buffer = out }
+    go : (t : Bool) → eqb ch 32 ≡ t → read_line (at_token used (token.Bad f)) out cs ≡ record { answer = Err f; buffer = out }
+        → read_line (at_token used (token.Bad f)) out (ch ∷ cs) ≡ record { answer = Err f; buffer = out }
     go true e r = rw e r
     go false e r = rw e r
 
@@ -140,16 +135,16 @@ before_none (ch ∷ cs) = go (eqb ch 32) (pieces cs)
     go false [] = refl
     go false (x ∷ ts) = refl
 
-last : (a : Kept) (b : List ℕ) → ◌≡◌ {A = Keep} (record { answer = a; buffer = b }) (unless_bad (record { answer = a; buffer = b }) (gathered []) a)
+last : (a : Result ℕ Fault) (b : List ℕ) → ◌≡◌ {A = Keep} (record { answer = a; buffer = b }) (unless_bad (record { answer = a; buffer = b }) (gathered []) a)
 unfolding gathered
-last (kept.To n) b = refl
-last (kept.Bad f) b = refl
+last (Ok n) b = refl
+last (Err f) b = refl
 
-after_blank : (used : ℕ) (a : Kept) (b cs : List ℕ) → ((n : ℕ) → read_line (at_token n token.Gap) b cs ≡ gathered (pieces cs) n b)
+after_blank : (used : ℕ) (a : Result ℕ Fault) (b cs : List ℕ) → ((n : ℕ) → read_line (at_token n token.Gap) b cs ≡ gathered (pieces cs) n b)
     → read_line (next_token used a) b cs ≡ unless_bad (record { answer = a; buffer = b }) (gathered (pieces cs)) a
 unfolding at_token
-after_blank used (kept.To n) b cs r = r n
-after_blank used (kept.Bad f) b cs r = line_bad used f b cs
+after_blank used (Ok n) b cs r = r n
+after_blank used (Err f) b cs r = line_bad used f b cs
 
 reads_from : (used : ℕ) (out p cs : List ℕ) → read_line (at_token used (read_token token.Gap p)) out cs ≡ gathered (before p (pieces cs)) used out
 unfolding read_line line_on at_token before pieces gathered read_token

@@ -6,36 +6,34 @@ use native.Mathlib.Numerals.{add-one}
 use native.Mathlib.Omega.{arith}
 use borrow.Author.Tests.{lt-ltb, le-ltb}
 use lib.ListN.{length, take, get_or, set, length-set}
-use lib.Seq.{take-suc, take_all, set_out}
+use lib.Seq.{take-suc, set_out}
 use Rattle.buffer.specs.Runs.{over}
 use Rattle.buffer.proofs.Over.{over_none, over_over, over_snoc}
 use Rattle.test_text.specs.Printing.{Out, pushed, laid}
 
-laid_append : (w v : List ℕ) (o : Out) → laid (w ++ v) o ≡ laid v (laid w o)
+pub laid_append : (w v : List ℕ) (o : Out) → laid (w ++ v) o ≡ laid v (laid w o)
 unfolding laid
 laid_append [] v o = refl
 laid_append (ch ∷ w) v o = laid_append w v (pushed ch o)
 
--- what is laid after a text is laid with it
-pub after : (w v : List ℕ) (o : Out) {p q : Out} → p ≡ laid w o → q ≡ laid v p → q ≡ laid (w ++ v) o
-after w v o e f = f ∙ ap (laid v) e ∙ sym (laid_append w v o)
-
 -- one character more of a word
-pub word_on : (word : List ℕ) (i : ℕ) (o : Out) {p q : Out} → i < length word → p ≡ laid (take i word) o → q ≡ laid (get_or word i 0 ∷ []) p
-    → q ≡ laid (take (i + 1) word) o
-word_on word i o h e f = rw (add-one, take-suc word i 0 h) (after (take i word) (get_or word i 0 ∷ []) o e f)
-
-pub word_end : (word : List ℕ) (i : ℕ) (o : Out) {p : Out} → length word ≤ i → p ≡ laid (take i word) o → p ≡ laid word o
-word_end word i o h e = e ∙ ap (λ (w : List ℕ). laid w o) (take_all i word h)
-
--- nothing laid
-pub laid_none : (o : Out) → o ≡ laid [] o
-unfolding laid
-laid_none o = refl
+pub laid_more : (word : List ℕ) (i : ℕ) (o : Out) → i < length word → laid (take (i + 1) word) o ≡ laid (get_or word i 0 ∷ []) (laid (take i word) o)
+laid_more word i o h = rw (add-one, take-suc word i 0 h) (laid_append (take i word) (get_or word i 0 ∷ []) o)
 
 -- of what is still to be laid, the first part is laid
 pub passed : (w v : List ℕ) (p : Out) {q z : Out} → laid (w ++ v) p ≡ z → q ≡ laid w p → laid v q ≡ z
 passed w v p e f = ap (laid v) f ∙ sym (laid_append w v p) ∙ e
+
+-- a character with room for it, and one without
+pub pushed_in : (ch : ℕ) (o : Out) → o.at < length o.buffer → ◌≡◌ {A = Out} (record { at = o.at + 1; buffer = set o.buffer o.at ch }) (laid (ch ∷ []) o)
+unfolding laid
+pushed_in ch o h = rw (lt-ltb _ _ h)
+
+pub pushed_out : (ch : ℕ) (o : Out) → length o.buffer ≤ o.at → o ≡ laid (ch ∷ []) o
+unfolding laid
+pushed_out ch o h = rw (le-ltb _ _ h, set_out _ _ _ h)
+
+pub ruleset pushing = (pushed_in, pushed_out)
 
 -- WITH ROOM a text is laid whole: over what stood there, and nothing else changes
 pub with_room : (w buffer : List ℕ) (at : ℕ) → at + length w ≤ length buffer

@@ -1,39 +1,16 @@
--- Runs of equal bytes: the run at a place, and the runs after it.
-use mathlib.Core.Path.{◌≡◌, refl, ap, ◌∙◌}
-use mathlib.Core.Bool.{Bool, true, false, cond}
+-- The longest runs of equal bytes, as chunks of a slice.
+use mathlib.Core.Path.{◌≡◌, refl, ap, sym, ◌∙◌}
+use mathlib.Core.Bool.{Bool, true, false}
 use mathlib.Core.List.{List, [], ◌∷◌, ◌++◌}
-use Prim.Native.Nat.{ℕ, suc, ◌+◌, ◌≤◌, ◌<◌}
+use Prim.Native.Nat.{ℕ, zero, suc, ◌+◌, ◌-◌, ◌≤◌, ◌<◌}
+use native.Mathlib.Numerals.{add-one}
 use native.Mathlib.Omega.{arith}
-use borrow.Author.Tests.{eq-eqb, ne_eqb, eqb-true}
+use borrow.Author.Tests.{eq-eqb, ne_eqb, eqb-true, eqb-false}
 use lib.Dec.{eqb}
-use lib.ListN.{length, drop, get_or, length-drop, drop_of_length-le}
-use lib.Seq.{drop-drop}
-use Rattle.logic.proofs.Walks.{step}
-use Rattle.test_text.specs.Printing.{leading, run_length, Same, joined, runs, run_text, runs_text, bytes_text}
-
-pub run_start : (s : List ℕ) (i : ℕ) → i < length s → run_length (drop i s) ≡ suc (leading (get_or s i 0) (drop (i + 1) s))
-run_start s i h = rw (step s i h)
-
-pub run_on : (x : ℕ) (s : List ℕ) (j : ℕ) → j < length s → get_or s j 0 ≡ x → leading x (drop j s) ≡ suc (leading x (drop (j + 1) s))
-unfolding leading
-run_on x s j h e = rw (step s j h) (simp (eq-eqb _ _ e))
-
-pub run_off : (x : ℕ) (s : List ℕ) (j : ℕ) → j < length s → (get_or s j 0 ≡ x → ⊥) → leading x (drop j s) ≡ 0
-unfolding leading
-run_off x s j h e = rw (step s j h) (simp (ne_eqb _ _ e))
-
-pub run_end : (x : ℕ) (s : List ℕ) (j : ℕ) → length s ≤ j → leading x (drop j s) ≡ 0
-unfolding leading
-run_end x s j h = rw (drop_of_length-le s h)
-
-leading_fits : (x : ℕ) (l : List ℕ) → leading x l ≤ length l
-unfolding leading
-leading_fits x [] = omega arith
-leading_fits x (y ∷ ys) = go (eqb y x) (leading_fits x ys)
-  where
-    go : (t : Bool) → leading x ys ≤ length ys → cond t (suc (leading x ys)) 0 ≤ suc (length ys)
-    go true h = omega arith
-    go false h = omega arith
+use lib.ListN.{length, drop, get_or}
+use Rattle.std.proofs.lemmas.List.{drop_at}
+use Rattle.std.proofs.Common.{length-append}
+use Rattle.test_text.specs.Printing.{leading, Same, joined, runs, run_text, runs_text, bytes_text}
 
 run_of : ℕ → ℕ → Same
 run_of x n = record { byte = x; times = n }
@@ -49,22 +26,40 @@ first_run x (y ∷ ys) = go (eqb y x) refl (first_run y ys)
     go true e r = let w = eqb-true y x e in rw (r, e, w)
     go false e r = rw (e, r, e)
 
-pub run_fits : (s : List ℕ) (i k : ℕ) → i < length s → k ≡ run_length (drop i s) → (0 < k) × (i + k ≤ length s)
-run_fits s i k h q =
-    let e = run_start s i h in
-    (omega arith, omega (arith, leading_fits (get_or s i 0) (drop (i + 1) s), length-drop (i + 1) s))
+-- n elements are equal to the x before them, and the next is not
+leading_is : (x : ℕ) (xs : List ℕ) (n : ℕ) → n ≤ length xs
+    → ((k d : ℕ) → k < n → eqb (get_or (x ∷ xs) k d) (get_or xs k d) ≡ true)
+    → (n < length xs → (d : ℕ) → eqb (get_or (x ∷ xs) n d) (get_or xs n d) ≡ false)
+    → n ≡ leading x xs
+unfolding leading
+leading_is x [] n h a b = omega arith
+leading_is x (y ∷ ys) zero h a b =
+    let e = eqb-false x y (b (omega arith) 0) in
+    let ne : y ≡ x → ⊥ = λ q. e (sym q) in
+    rw (ne_eqb y x ne)
+leading_is x (y ∷ ys) (suc n) h a b =
+    let e = eqb-true x y (a 0 0 (omega arith)) in
+    let r = leading_is y ys n (omega arith) (λ k d p. a (suc k) d (omega arith)) (λ p d. b (omega arith) d) in
+    rw (eq-eqb y x (sym e)) (ap suc (r ∙ ap (λ (v : ℕ). leading v ys) (sym e)))
 
-pub next_run : (s : List ℕ) (i k : ℕ) → i < length s → k ≡ run_length (drop i s)
-    → bytes_text (drop i s) ≡ run_text (get_or s i 0) k ++ bytes_text (drop (i + k) s)
-unfolding runs_text run_of
-next_run s i k h q =
-    let x = get_or s i 0 in
-    let n = leading x (drop (i + 1) s) in
-    let m = q ∙ run_start s i h in
-    let e : i + 1 + n ≡ i + k = omega arith in
-    let d = drop-drop n (i + 1) s ∙ ap (λ (j : ℕ). drop j s) e in
-    rw (step s i h, first_run x (drop (i + 1) s), d, ← m)
-
-pub no_more : (s : List ℕ) (i : ℕ) → length s ≤ i → bytes_text (drop i s) ≡ []
+pub no_chunk : (s : List ℕ) → length s ≡ 0 → bytes_text s ≡ []
 unfolding runs runs_text
-no_more s i h = rw (drop_of_length-le s h)
+no_chunk [] h = refl
+no_chunk (x ∷ xs) h = absurd (omega arith)
+
+-- the text of the first chunk of equal elements, and of what is after it
+pub chunk_text : (s run rest : List ℕ) → s ≡ run ++ rest → 0 < length run
+    → ((k d : ℕ) → k + 1 < length run → eqb (get_or s k d) (get_or s (k + 1) d) ≡ true)
+    → (length run < length s → (d : ℕ) → eqb (get_or s (length run - 1) d) (get_or s (length run) d) ≡ false)
+    → bytes_text s ≡ run_text (get_or run 0 0) (length run) ++ bytes_text rest
+unfolding runs_text run_of
+chunk_text [] run rest e h a b = absurd (omega (arith, ap length e, length-append run rest))
+chunk_text (x ∷ xs) [] rest e h a b = absurd (omega arith)
+chunk_text (x ∷ xs) (r ∷ rs) rest e h a b =
+    let n = length rs in
+    let z : suc n - 1 ≡ n = omega arith in
+    let l : n ≤ length xs = omega (arith, ap length e, length-append rs rest) in
+    let k = leading_is x xs n l (λ k d p. rw add-one at (a k d (omega arith))) (λ p d. rw z at (b (omega arith) d)) in
+    let q : x ≡ r = cc in
+    let t : xs ≡ rs ++ rest = cc in
+    rw (first_run x xs, ← k, t, drop_at rs rest n refl, q)

@@ -1,5 +1,8 @@
 -- Characters laid one after another into a lent buffer, and the texts of numbers and bytes.
-use Rattle.std.specs.Prelude.{ℕ, zero, suc, ◌+◌, ◌/◌, ◌%◌, cond, List, [], ◌∷◌, ◌++◌, length, set, ltb, eqb}
+use Rattle.std.specs.Prelude.{◌≡◌, ℕ, zero, suc, ◌+◌, ◌/◌, ◌%◌, cond, List, [], ◌∷◌, ◌++◌, length, set, ltb, eqb}
+use Rattle.test_text.specs.declared.Fault.{Fault}
+use Rattle.test_text.specs.declared.Fault.TheVariants as fault
+use Rattle.test_text.specs.declared.print.Page.{Page}
 use Prim.Native.Char.{code}
 use Prim.Native.String.{String, [] as end, ◌∷◌ as ◌then◌}
 
@@ -26,6 +29,14 @@ laid (ch ∷ w) o = laid w (pushed ch o)
 abbrev pub put : List ℕ → ℕ → List ℕ → Out
 put w at u = laid w (record { at = at; buffer = u })
 
+-- a page's buffer, and the place up to which it is written
+abbrev pub out_of : Page → Out
+out_of p = record { at = p.at; buffer = p.out.now }
+
+-- a text is written onto a page, from where the old one ends; the page keeps the buffer that it was lent
+abbrev pub Puts : List ℕ → Page → Page → Type 0
+Puts w old new = (out_of new ≡ put w old.at old.out.now) × (new.out.ghost_name ≡ old.out.ghost_name)
+
 -- 0 to 9, a to f
 unfoldable pub glyph_of : ℕ → ℕ
 glyph_of d = cond (ltb d 10) (48 + d) (87 + d)
@@ -51,11 +62,6 @@ unfoldable pub leading : ℕ → List ℕ → ℕ
 leading x [] = 0
 leading x (y ∷ ys) = cond (eqb y x) (suc (leading x ys)) 0
 
--- how many elements at the front are equal
-abbrev pub run_length : List ℕ → ℕ
-run_length [] = 0
-run_length (x ∷ xs) = suc (leading x xs)
-
 -- a byte so many times
 pub record Same : Type 0 where
   pub byte : ℕ
@@ -80,3 +86,17 @@ runs_text (r ∷ rs) = run_text r.byte r.times ++ runs_text rs
 
 abbrev pub bytes_text : List ℕ → List ℕ
 bytes_text s = runs_text (runs s)
+
+-- what is wrong with a line; w are the program's words for a wrong word
+abbrev pub fault_text : Fault → List ℕ → List ℕ
+fault_text fault.Word w = w
+fault_text fault.Arguments w = letters "wrong arguments"
+fault_text fault.Byte w = letters "a byte is two hex digits"
+fault_text fault.Count w = letters "a count is 1 to 4096"
+fault_text fault.Answer w = letters "an answer is 0 to 255"
+fault_text fault.Length w = letters "a length is 0 to 600"
+fault_text fault.Many w = letters "more than 4096 bytes"
+
+-- "error: line 12: .."
+unfoldable pub error_text : ℕ → Fault → List ℕ → List ℕ
+error_text n f w = letters "error: line " ++ decimal_text n ++ letters ": " ++ fault_text f w ++ (10 ∷ [])

@@ -2,25 +2,13 @@
 #![tactic(auto)]
 
 mod print;
+mod script;
 
-ghost use Rattle.std.specs.Prelude.{◌≡◌, ◌<◌, take};
-ghost use Rattle.test_text.specs.Reading.{within, decimal_digit, hex_digit, Below, number_on, first_digit, second_digit, starred, times_of, stepped, counted_run, run_of, is_open, kept_run, kept_of, line_start, blanked, line_end, line_on};
+ghost use Rattle.std.specs.Prelude.{◌≡◌, ◌<◌};
+ghost use Rattle.test_text.specs.Reading.{decimal_digit, hex_digit, Below, number_on, first_digit, second_digit, starred, times_of, stepped, counted_run, run_of, is_open, kept_of, line_start, blanked, line_end, line_on};
 
-pub use print::{push, put_bytes, put_decimal, put_error, put_hex, put_run, put_word, run_at};
-
-// The value of a digit, or that the character is no digit.
-#[derive(Clone, Copy)]
-pub enum Digit {
-    Of(u8),
-    None,
-}
-
-// A decimal number, or that it is no number or too large.
-#[derive(Clone, Copy)]
-pub enum Number {
-    Of(u32),
-    None,
-}
+pub use print::Page;
+pub use script::{Script, read_all};
 
 // What is wrong with a line. Length: a number of bytes to lend. Many: the line brings too many bytes.
 #[derive(Clone, Copy)]
@@ -46,82 +34,58 @@ pub enum Token {
 
 // What a whole token brings: a byte, so many times.
 #[derive(Clone, Copy)]
-pub enum Run {
-    Of(u8, u32),
-    Bad(Fault),
+pub struct Run {
+    pub byte: u8,
+    pub times: u32,
 }
 
-// Where the bytes of a line end in the lent buffer.
-#[derive(Clone, Copy)]
-pub enum Kept {
-    To(usize),
-    Bad(Fault),
-}
-
-// The tokens of a line: how many bytes the earlier ones brought, and the one that is read.
+// The tokens of a line: how many bytes the earlier ones brought, and the one that is read. The buffer of the bytes is lent at each
+// step: a `Bytes` that held it could not be copied, as a line's place in `test_images` is.
 #[derive(Clone, Copy)]
 pub struct Bytes {
     pub used: usize,
     pub token: Token,
 }
 
-// Says whether ch is a to b.
-fn is_in(a: u8, b: u8, ch: u8) -> bool
-    ensures { result ≡ within a b ch }
-{
-    (a <= ch) & (ch <= b)
-}
-
-pub fn decimal_digit(ch: u8) -> Digit
+// Returns the value of a decimal digit, if the character is one.
+#[tactic(auto, using(std::proofs::lemmas::Bool::Decides::nat_tests), unfolding(crate::specs::Reading::decimal_digit))]
+pub fn decimal_digit(ch: u8) -> Option<u8>
     ensures { (result ≡ decimal_digit ch) × Below 10 result }
 {
-    if is_in(b'0', b'9', ch) {
-        return Digit::Of(ch - 48);
+    match ch {
+        b'0'..=b'9' => Some(ch - b'0'),
+        _ => None,
     }
-    Digit::None
 }
 
-pub fn hex_digit(ch: u8) -> Digit
+// Returns the value of a hex digit of either case, if the character is one.
+#[tactic(auto, using(std::proofs::lemmas::Bool::Decides::nat_tests), unfolding(crate::specs::Reading::hex_digit))]
+pub fn hex_digit(ch: u8) -> Option<u8>
     ensures { (result ≡ hex_digit ch) × Below 16 result }
 {
-    if is_in(b'0', b'9', ch) {
-        return Digit::Of(ch - 48);
+    match ch {
+        b'0'..=b'9' => Some(ch - b'0'),
+        b'a'..=b'f' => Some(ch - b'a' + 10),
+        b'A'..=b'F' => Some(ch - b'A' + 10),
+        _ => None,
     }
-    if is_in(b'a', b'f', ch) {
-        return Digit::Of(ch - 87);
-    }
-    if is_in(b'A', b'F', ch) {
-        return Digit::Of(ch - 55);
-    }
-    Digit::None
-}
-
-fn large(x: u32) -> u64
-    ensures { (result ≡ x) × (result < 4294967296) }
-{
-    x as u64
 }
 
 // Returns n with one more decimal digit, if ch is one and the number is at most `most`.
-pub fn number_on(n: u32, ch: u8, most: u32) -> Number
+#[tactic(auto, using(std::proofs::lemmas::Bool::Decides::nat_tests))]
+pub fn number_on(n: u32, ch: u8, most: u32) -> Option<u32>
     ensures { result ≡ number_on n ch most }
 {
-    let Digit::Of(d) = decimal_digit(ch) else {
-        return Number::None;
-    };
-    let v = large(n) * 10 + d as u64;
-    if large(most) < v {
-        return Number::None;
-    }
-    Number::Of(v as u32)
+    let v = u64::from(n) * 10 + u64::from(decimal_digit(ch)?);
+    u32::try_from(v).ok().filter(|v| *v <= most)
 }
 
 fn first_digit(ch: u8) -> Token
     ensures { result ≡ first_digit (hex_digit ch) }
 {
     match hex_digit(ch) {
-        Digit::Of(d) => Token::High(d),
-        Digit::None => Token::Bad(Fault::Byte),
+        Some(d) => Token::High(d),
+        None => Token::Bad(Fault::Byte),
     }
 }
 
@@ -129,36 +93,38 @@ fn second_digit(h: u8, ch: u8) -> Token
     ensures { result ≡ second_digit h (hex_digit ch) }
 {
     match hex_digit(ch) {
-        Digit::Of(d) => Token::Byte(h % 16 * 16 + d),
-        Digit::None => Token::Bad(Fault::Byte),
+        Some(d) => Token::Byte(h % 16 * 16 + d),
+        None => Token::Bad(Fault::Byte),
     }
 }
 
+#[tactic(auto, using(std::proofs::lemmas::Bool::Decides::nat_tests), unfolding(crate::specs::Reading::starred))]
 fn star(b: u8, ch: u8) -> Token
     ensures { result ≡ starred b ch }
 {
-    if ch == b'*' {
-        return Token::Times(b, 0);
+    match ch {
+        b'*' => Token::Times(b, 0),
+        _ => Token::Bad(Fault::Byte),
     }
-    Token::Bad(Fault::Byte)
 }
 
 fn count_on(b: u8, n: u32, ch: u8) -> Token
     ensures { result ≡ times_of b (number_on n ch 4096) }
 {
     match number_on(n, ch, 4096) {
-        Number::Of(m) => Token::Times(b, m),
-        Number::None => Token::Bad(Fault::Count),
+        Some(m) => Token::Times(b, m),
+        None => Token::Bad(Fault::Count),
     }
 }
 
-fn counted(b: u8, n: u32) -> Run
-    ensures { result ≡ counted_run b n }
+#[tactic(auto, using(std::proofs::lemmas::Bool::Decides::nat_tests), unfolding(crate::specs::Reading::counted_run))]
+fn counted(byte: u8, times: u32) -> Result<Run, Fault>
+    ensures { result ≡ counted_run byte times }
 {
-    if n == 0 {
-        return Run::Bad(Fault::Count);
+    match times {
+        0 => Err(Fault::Count),
+        _ => Ok(Run { byte, times }),
     }
-    Run::Of(b, n)
 }
 
 impl Token {
@@ -171,7 +137,7 @@ impl Token {
             Token::High(h) => second_digit(h, ch),
             Token::Byte(b) => star(b, ch),
             Token::Times(b, n) => count_on(b, n, ch),
-            Token::Bad(f) => Token::Bad(f),
+            Token::Bad(_) => self,
         }
     }
 
@@ -179,50 +145,34 @@ impl Token {
     pub fn is_open(self) -> bool
         ensures { result ≡ is_open self }
     {
-        match self {
-            Token::Gap => true,
-            Token::High(_) => true,
-            Token::Byte(_) => true,
-            Token::Times(_, _) => true,
-            Token::Bad(_) => false,
-        }
+        !matches!(self, Token::Bad(_))
     }
 
     // Returns what the token brings, which ends here.
-    pub fn end(self) -> Run
+    pub fn end(self) -> Result<Run, Fault>
         ensures { result ≡ run_of self }
     {
         match self {
-            Token::Gap => Run::Bad(Fault::Byte),
-            Token::High(_) => Run::Bad(Fault::Byte),
-            Token::Byte(b) => Run::Of(b, 1),
+            Token::Gap | Token::High(_) => Err(Fault::Byte),
+            Token::Byte(byte) => Ok(Run { byte, times: 1 }),
             Token::Times(b, n) => counted(b, n),
-            Token::Bad(f) => Run::Bad(f),
+            Token::Bad(f) => Err(f),
         }
     }
 }
 
-fn keep_run(out: &mut [u8], used: usize, b: u8, n: usize) -> Kept
-    ensures { record { answer = result; buffer = out.new } ≡ kept_run out.old used b n }
-{
-    if out.len() < used {
-        return Kept::Bad(Fault::Many);
-    }
-    if out.len() - used < n {
-        return Kept::Bad(Fault::Many);
-    }
-    buffer::fill(out, used, n, b);
-    Kept::To(used + n)
-}
-
-// Writes a token's bytes from place `used` of out on, if there is room.
-pub fn keep(out: &mut [u8], used: usize, run: Run) -> Kept
+// Writes a token's bytes from place `used` of out on, if there is room. Returns the place after them.
+#[tactic(auto, using(std::proofs::lemmas::Bool::Decides::nat_tests), unfolding(crate::specs::Reading::kept_run))]
+pub fn keep(out: &mut [u8], used: usize, run: Result<Run, Fault>) -> Result<usize, Fault>
     ensures { record { answer = result; buffer = out.new } ≡ kept_of out.old used run }
 {
-    match run {
-        Run::Of(b, n) => keep_run(out, used, b, n as usize),
-        Run::Bad(f) => Kept::Bad(f),
+    let Run { byte, times } = run?;
+    let n = times as usize;
+    if out.len() < used || out.len() - used < n {
+        return Err(Fault::Many);
     }
+    buffer::fill(out, used, n, byte);
+    Ok(used + n)
 }
 
 impl Bytes {
@@ -241,54 +191,42 @@ impl Bytes {
         ensures { record { bytes = result; buffer = out.new } ≡ blanked self (line_end self out.old) }
     {
         match self.end(out) {
-            Kept::To(n) => Bytes {
-                used: n,
+            Ok(used) => Bytes {
+                used,
                 token: Token::Gap,
             },
-            Kept::Bad(f) => Bytes {
-                used: self.used,
+            Err(f) => Bytes {
                 token: Token::Bad(f),
+                ..self
             },
         }
     }
 
     // Returns the tokens with one more character.
+    #[tactic(auto, using(std::proofs::lemmas::Bool::Decides::nat_tests), unfolding(crate::specs::Reading::line_on))]
     pub fn step(self, out: &mut [u8], ch: u8) -> Bytes
         ensures { record { bytes = result; buffer = out.new } ≡ line_on self out.old ch }
     {
         if ch == b' ' {
             return self.blank(out);
         }
-        let token = self.token;
         Bytes {
-            used: self.used,
-            token: token.step(ch),
+            token: self.token.step(ch),
+            ..self
         }
     }
 
     // Returns where the bytes of the line end, which ends here.
-    pub fn end(self, out: &mut [u8]) -> Kept
+    pub fn end(self, out: &mut [u8]) -> Result<usize, Fault>
         ensures { record { answer = result; buffer = out.new } ≡ line_end self out.old }
     {
-        let token = self.token;
-        keep(out, self.used, token.end())
+        keep(out, self.used, self.token.end())
     }
 
     // Says whether no fault was met.
     pub fn is_open(self) -> bool
         ensures { result ≡ is_open self.token }
     {
-        let token = self.token;
-        token.is_open()
+        self.token.is_open()
     }
-}
-
-// Returns the first n bytes, or all where there are fewer.
-pub fn cut(s: &[u8], n: usize) -> &[u8]
-    ensures { result.now ≡ take n s.now }
-{
-    if n < s.len() {
-        return &s[..n];
-    }
-    s
 }

@@ -1,122 +1,157 @@
-// Writes characters into a lent buffer. Each function returns the place after what it wrote.
-ghost use Rattle.std.specs.Prelude.{◌≡◌, [], ◌∷◌, ◌<◌, drop};
-ghost use Rattle.test_text.specs.Printing.{put, glyph_of, hex_text, decimal_text, run_text, run_length, bytes_text};
+// Writes characters onto a page.
+ghost use Rattle.std.specs.Prelude.{◌≡◌, [], ◌∷◌, ◌<◌, take, cond, ltb, OnOk, OnErr};
+ghost use Rattle.test_text.specs.Printing.{Puts, out_of, glyph_of, hex_text, decimal_text, run_text, bytes_text, fault_text, error_text};
 
 use crate::Fault;
+use std::io;
 
-// Writes a character at place `at`, if there is room.
-pub fn push(out: &mut [u8], at: usize, ch: u8) -> usize
-    ensures { record { at = result; buffer = out.new } ≡ put (ch ∷ []) at out.old }
-{
-    if at < out.len() {
-        out[at] = ch;
-        return at + 1;
-    }
-    at
+// A lent buffer, and the place up to which it is written. What finds no room is not written. It is no `fmt::Write`: of a `write!`
+// that ends in an Err no clause says what it wrote, and here nothing fails.
+#[derive(Drop)]
+pub struct Page<'a> {
+    pub out: &'a mut [u8],
+    pub at: usize,
 }
 
-// Writes a word.
-pub fn put_word(out: &mut [u8], at: usize, word: &[u8]) -> usize
-    ensures { record { at = result; buffer = out.new } ≡ put word.now at out.old }
-{
-    let mut a = at;
-    let mut i = 0;
-    while i < word.len() {
-        a = push(out, a, word[i]);
-        i += 1;
-    }
-    a
-}
-
+#[tactic(auto, using(std::proofs::lemmas::Bool::Decides::nat_tests), unfolding(crate::specs::Printing::glyph_of))]
 fn glyph(d: u8) -> u8
     requires { d < 16 }
     ensures { result ≡ glyph_of d }
 {
-    if d < 10 { 48 + d } else { 87 + d }
+    if d < 10 { b'0' + d } else { b'a' + (d - 10) }
 }
 
-// Writes two lower-case digits.
-pub fn put_hex(out: &mut [u8], at: usize, b: u8) -> usize
-    ensures { record { at = result; buffer = out.new } ≡ put (hex_text b) at out.old }
-{
-    let a = push(out, at, glyph(b / 16));
-    push(out, a, glyph(b % 16))
-}
-
-// Writes a decimal number.
-pub fn put_decimal(out: &mut [u8], at: usize, n: u64) -> usize
-    ensures { record { at = result; buffer = out.new } ≡ put (decimal_text n) at out.old }
-{
-    if n < 10 {
-        return push(out, at, 48 + n as u8);
+impl<'a> Page<'a> {
+    // Returns a page on which nothing is written yet.
+    pub fn new(out: &'a mut [u8]) -> Page<'a>
+        ensures empty { out_of result ≡ record { at = 0; buffer = out.old } }
+        ensures same_buffer { result.out.ghost_name ≡ out.entry.ghost_name }
+    {
+        Page { out, at: 0 }
     }
-    let a = put_decimal(out, at, n / 10);
-    push(out, a, 48 + (n % 10) as u8)
-}
 
-// Writes a blank, and the token of a run of n bytes.
-pub fn put_run(out: &mut [u8], at: usize, b: u8, n: usize) -> usize
-    ensures { record { at = result; buffer = out.new } ≡ put (run_text b n) at out.old }
-{
-    let a = push(out, at, b' ');
-    let c = put_hex(out, a, b);
-    if n == 1 {
-        return c;
+    // Returns what is written.
+    pub fn written(&self) -> &[u8]
+        ensures { result.now ≡ take self.now.at self.now.out.now }
+    {
+        buffer::cut(self.out, self.at)
     }
-    let d = push(out, c, b'*');
-    put_decimal(out, d, n as u64)
-}
 
-// Returns how many bytes from place i on are equal.
-pub fn run_at(s: &[u8], i: usize) -> usize
-    ensures { result ≡ run_length (drop i s.now) }
-{
-    if s.len() <= i {
-        return 0;
+    // Begins anew, at the buffer's start.
+    pub fn clear(&mut self)
+        ensures { self.new ≡ record self.old { at = 0 } }
+    {
+        self.at = 0;
     }
-    let x = s[i];
-    let mut j = i + 1;
-    while j < s.len() {
-        if s[j] != x {
-            return j - i;
+
+    // Writes the page out, and begins anew. A page that cannot be written stays as it is.
+    pub fn flush(&mut self, rt: &impl Print) -> io::Result<()>
+        ensures emptied { OnOk result (self.new ≡ record self.old { at = 0 }) }
+        ensures kept { OnErr result (self.new ≡ self.old) }
+    {
+        rt.write_all(self.written())?;
+        self.clear();
+        Ok(())
+    }
+
+    // Makes room for a line: flushes a page that is written further than place `full`.
+    pub fn make_room(&mut self, rt: &impl Print, full: usize) -> io::Result<()>
+        ensures emptied { OnOk result (self.new ≡ cond (ltb full self.old.at) (record self.old { at = 0 }) self.old) }
+        ensures kept { OnErr result (self.new ≡ self.old) }
+    {
+        if self.at > full {
+            self.flush(rt)?;
         }
-        j += 1;
+        Ok(())
     }
-    j - i
-}
 
-// Writes the bytes of s as tokens, each after a blank, one for each longest run of equal bytes.
-pub fn put_bytes(out: &mut [u8], at: usize, s: &[u8]) -> usize
-    ensures { record { at = result; buffer = out.new } ≡ put (bytes_text s.now) at out.old }
-{
-    let mut a = at;
-    let mut i = 0;
-    while i < s.len() {
-        let k = run_at(s, i);
-        a = put_run(out, a, s[i], k);
-        i += k;
+    // Writes a character, if there is room.
+    #[tactic(auto, using(crate::proofs::Laying::pushing), unfolding(crate::specs::Printing::laid))]
+    pub fn push(&mut self, ch: u8)
+        ensures { Puts (ch ∷ []) self.old self.new }
+    {
+        if self.at < self.out.len() {
+            self.out[self.at] = ch;
+            self.at += 1;
+        }
     }
-    a
-}
 
-// Writes what is wrong with a line. The program has its own words for a wrong word.
-fn put_fault(out: &mut [u8], at: usize, fault: Fault, wrong_word: &[u8]) -> usize {
-    match fault {
-        Fault::Word => put_word(out, at, wrong_word),
-        Fault::Arguments => put_word(out, at, b"wrong arguments"),
-        Fault::Byte => put_word(out, at, b"a byte is two hex digits"),
-        Fault::Count => put_word(out, at, b"a count is 1 to 4096"),
-        Fault::Answer => put_word(out, at, b"an answer is 0 to 255"),
-        Fault::Length => put_word(out, at, b"a length is 0 to 600"),
-        Fault::Many => put_word(out, at, b"more than 4096 bytes"),
+    // Writes a word.
+    #[tactic(auto, using(crate::proofs::Laying::laid_more), unfolding(crate::specs::Printing::laid))]
+    pub fn word(&mut self, word: &[u8])
+        ensures { Puts word.now self.old self.new }
+    {
+        for ch in word {
+            self.push(*ch);
+        }
     }
-}
 
-// Writes the line that ends a run at a wrong line.
-pub fn put_error(out: &mut [u8], at: usize, line: u64, fault: Fault, wrong_word: &[u8]) -> usize {
-    let a = put_word(out, at, b"error: line ");
-    let b = put_decimal(out, a, line);
-    let c = put_word(out, b, b": ");
-    let d = put_fault(out, c, fault, wrong_word);
-    push(out, d, b'\n')
+    // Writes two lower-case digits.
+    #[tactic(auto, unfolding(crate::specs::Printing::laid))]
+    pub fn hex(&mut self, b: u8)
+        ensures { Puts (hex_text b) self.old self.new }
+    {
+        self.push(glyph(b / 16));
+        self.push(glyph(b % 16));
+    }
+
+    // Writes a decimal number.
+    #[tactic(auto, using(crate::proofs::Laying::laid_append, crate::proofs::Digits::decimal_steps))]
+    pub fn decimal(&mut self, n: u64)
+        ensures { Puts (decimal_text n) self.old self.new }
+    {
+        if n >= 10 {
+            self.decimal(n / 10);
+        }
+        self.push(b'0' + (n % 10) as u8);
+    }
+
+    // Writes a blank, and the token of a run of n bytes.
+    #[tactic(auto, using(std::proofs::lemmas::Bool::Decides::nat_tests), unfolding(crate::specs::Printing::laid, crate::specs::Printing::run_text))]
+    pub fn run(&mut self, b: u8, n: usize)
+        ensures { Puts (run_text b n) self.old self.new }
+    {
+        self.push(b' ');
+        self.hex(b);
+        if n != 1 {
+            self.push(b'*');
+            self.decimal(n as u64);
+        }
+    }
+
+    // Writes the bytes of s as tokens, each after a blank, one for each longest run of equal bytes.
+    pub fn bytes(&mut self, s: &[u8])
+        ensures { Puts (bytes_text s.now) self.old self.new }
+    {
+        for run in s.chunk_by(|a, b| a == b) {
+            self.run(run[0], run.len());
+        }
+    }
+
+    // Writes what is wrong with a line. The program has its own words for a wrong word.
+    fn fault(&mut self, fault: Fault, wrong_word: &[u8])
+        ensures { Puts (fault_text fault wrong_word.now) self.old self.new }
+    {
+        match fault {
+            Fault::Word => self.word(wrong_word),
+            Fault::Arguments => self.word(b"wrong arguments"),
+            Fault::Byte => self.word(b"a byte is two hex digits"),
+            Fault::Count => self.word(b"a count is 1 to 4096"),
+            Fault::Answer => self.word(b"an answer is 0 to 255"),
+            Fault::Length => self.word(b"a length is 0 to 600"),
+            Fault::Many => self.word(b"more than 4096 bytes"),
+        }
+    }
+
+    // Writes the line that ends a run at a wrong line.
+    #[tactic(auto, using(crate::proofs::Laying::laid_append), unfolding(crate::specs::Printing::laid, crate::specs::Printing::error_text))]
+    pub fn error(&mut self, line: u64, fault: Fault, wrong_word: &[u8])
+        ensures { Puts (error_text line fault wrong_word.now) self.old self.new }
+    {
+        self.word(b"error: line ");
+        self.decimal(line);
+        self.word(b": ");
+        self.fault(fault, wrong_word);
+        self.push(b'\n');
+    }
 }

@@ -194,16 +194,34 @@ fn source(owner: &str, module: &str) -> Option<String> {
     file(&format!("crates/{owner}/src/{module}.rt"))
 }
 
-/// Returns what stands before the body of a function: its parameters and its contract.
+/// Returns what stands in the block of a type's methods, or of a conversion, as `From<Answer>`.
+fn block<'a>(text: &'a str, inner: &str) -> Option<&'a str> {
+    let heads = [
+        format!("\nimpl {inner} {{\n"),
+        format!("\nimpl<'a> {inner}<'a> {{\n"),
+        format!("\nimpl {inner} for "),
+    ];
+    let (_, rest) = heads
+        .iter()
+        .find_map(|head| text.split_once(head.as_str()))?;
+    rest.split("\n}\n").next()
+}
+
+/// Returns what stands before the body of a function: its parameters and its contract. A conversion has its contract in a
+/// line of its own, before the function.
 fn contract(place: &str, name: &str) -> Option<String> {
     let (owner, inner) = place.split_once("::").unwrap_or((place, "lib"));
     let module = if is_capital(inner) { "lib" } else { inner };
     let text = source(owner, module).or_else(|| source(owner, "main"))?;
+    if inner.starts_with("From<") && name == "from" {
+        let within = block(&text, inner)?;
+        return within
+            .lines()
+            .find(|line| line.trim_start().starts_with("ghost from_gives"))
+            .map(String::from);
+    }
     let (text, indent) = match is_capital(inner) {
-        true => {
-            let (_, methods) = text.split_once(&format!("\nimpl {inner} {{\n"))?;
-            (methods.split("\n}\n").next()?, "    ")
-        }
+        true => (block(&text, inner)?, "    "),
         false => (text.as_str(), ""),
     };
     let mut lines = text.lines().skip_while(|line| {

@@ -1,27 +1,13 @@
 -- `calls::feed` meets its contract.
-use lib.ListN.{length}
-use Rattle.calls.proofs.Guarded.{sound, refused, given}
+use borrow.Author.Rules.{rules}
+use Rattle.calls.proofs.Guarded.{sound_so, kept_gives}
 use Rattle.calls.proofs.Keeping.{feed_keeps}
 use Rattle.drive.specs.Calls.{step_of, feed_of}
 use Rattle.calls.proofs.feed.Goals as goal
 
-pub feed-x-requires : goal.feed-x-requires
-feed-x-requires c =
-    let u = c.args.buf.now in
-    let z = sound _ (length u) 536 c.guard-g.ensures c.in-Passes.is in
-    (z.count, z.fed)
+pub turn-requires : goal.turn-requires
+turn-requires c = λ p t e. let z = sound_so _ p.0 p.1 in let a = z.count in let b = z.fed in search rules
 
-pub put-requires : goal.put-requires
-put-requires c =
-    let u = c.args.buf.now in
-    let z = sound _ (length u) 536 c.guard-g.ensures c.in-Passes.is in
-    (z.long, z.spares, z.bads)
-
-pub returns-in-Refuses : goal.returns-in-Refuses
+pub returns : goal.returns
 unfolding step_of feed_of
-returns-in-Refuses c = refused _ _ c.guard-g.ensures _ _ c.in-Refuses.is c.refuse.ensures
-
-pub returns-in-Passes : goal.returns-in-Passes
-unfolding step_of feed_of
-returns-in-Passes c =
-    given _ _ c.guard-g.ensures _ _ c.in-Passes.is c.feed-x.ensures c.put.ensures (feed_keeps _ _ _)
+returns c = kept_gives _ _ _ c.turn.ensures _ (λ x t p e k. search rules) (feed_keeps _ _ _)

@@ -1,27 +1,11 @@
 -- `calls::lower` meets its contract.
-use lib.ListN.{length}
-use Rattle.calls.proofs.Guarded.{sound, refused, given}
+use borrow.Author.Rules.{rules}
+use Rattle.calls.proofs.Guarded.{kept_gives}
 use Rattle.calls.proofs.Keeping.{lower_keeps}
 use Rattle.drive.specs.Calls.{step_of, lower_of}
 use Rattle.calls.proofs.lower.Goals as goal
 
-pub lower-x-requires : goal.lower-x-requires
-lower-x-requires c =
-    let u = c.args.buf.now in
-    let z = sound _ (length u) 536 c.guard-g.ensures c.in-Passes.is in
-    (z.spares, z.bads)
-
-pub put-requires : goal.put-requires
-put-requires c =
-    let u = c.args.buf.now in
-    let z = sound _ (length u) 536 c.guard-g.ensures c.in-Passes.is in
-    (z.long, z.spares, z.bads)
-
-pub returns-in-Refuses : goal.returns-in-Refuses
+pub returns : goal.returns
 unfolding step_of lower_of
-returns-in-Refuses c = refused _ _ c.guard-g.ensures _ _ c.in-Refuses.is c.refuse.ensures
-
-pub returns-in-Passes : goal.returns-in-Passes
-unfolding step_of lower_of
-returns-in-Passes c =
-    given _ _ c.guard-g.ensures _ _ c.in-Passes.is c.lower-x.ensures c.put.ensures (lower_keeps _ _ _ _)
+returns c =
+    kept_gives _ _ _ c.turn.ensures _ (λ x t p e k. rw (← e) (search rules)) (lower_keeps _ _ _ _)

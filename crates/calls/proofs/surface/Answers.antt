@@ -1,43 +1,31 @@
 -- `calls::surface` meets its contract.
-use lib.ListN.{length}
-use Rattle.calls.proofs.Guarded.{sound, surface_refused, surface_given}
-use Rattle.calls.proofs.Keeping.{no_spares, answered_formed}
+use mathlib.Core.Path.{◌≡◌, ap, ◌∙◌}
+use mathlib.Core.Bool.{true, ◌&&◌}
+use borrow.Author.Rules.{rules}
+use Rattle.buffer.specs.Runs.{same}
+use Rattle.drive.specs.declared.Drive.{Drive}
+use Rattle.drive.specs.Access.{verifies, answered}
 use Rattle.drive.specs.Calls.{step_of, surface_of}
-use mathlib.Core.Path.{ap, ◌∙◌}
-use mathlib.Core.Bool.{Bool}
-use mathlib.Core.List.{[]}
-use Rattle.drive.specs.Access.{answered}
-use Rattle.records.specs.Turns.{lent}
+use Rattle.drive.specs.Records.{state_ok}
+use Rattle.drive.specs.Words.{data_of}
+use Rattle.calls.proofs.Guarded.{sound_so, altered_gives, formed_gives}
+use Rattle.calls.proofs.Keeping.{answered_formed}
 use Rattle.calls.proofs.surface.Goals as goal
 
-pub surface-x-requires : goal.surface-x-requires
-surface-x-requires c =
-    let u = c.args.buf.now in
-    let z = sound _ (length u) 536 c.guard-g.ensures c.in-Passes.is in
-    (z.spares, z.state)
+pub turn-requires : goal.turn-requires
+turn-requires c = λ p t e.
+    let z = sound_so _ p.0 p.1 in
+    let a : state_ok t.now.nspares c.args.d.now.state ≡ true = rw e z.state in
+    search rules
 
-pub put-requires : goal.put-requires
-put-requires c =
-    let u = c.args.buf.now in
-    let z = sound _ (length u) 536 c.guard-g.ensures c.in-Passes.is in
-    (z.long, z.spares, z.bads)
-
-pub returns-in-Refuses : goal.returns-in-Refuses
+pub returns : goal.returns
 unfolding step_of surface_of
-returns-in-Refuses c =
-    record {
-      gives = surface_refused _ _ c.guard-g.ensures _ _ c.in-Refuses.is c.refuse.ensures;
-      formed = rw c.refuse.ensures;
-    }
-
-pub returns-in-Passes : goal.returns-in-Passes
-unfolding step_of surface_of
-returns-in-Passes c =
+returns c =
     let a = c.args in
-    let t = lent a.spares.now a.n a.bads.now a.m in
-    let x = c.surface-x in
-    let k = x.ensures ∙ ap (λ (q : Bool). answered a.l.phase a.l (lent [] a.n a.bads.now a.m) a.a a.bytes.now q) c.equal-same.ensures ∙ no_spares a.l.phase a.l a.spares.now a.bads.now a.n a.m a.a a.bytes.now _ in
+    let q = c.equal-same.ensures ∙ ap (λ (d : Drive). verifies d.state.phase a.a && same a.bytes.now (data_of a.buf.now)) c.d.view_is in
+    let d = a.d.now in
+    let r = answered d.state.phase d.state d.table a.a a.bytes.now (verifies d.state.phase a.a && same a.bytes.now (data_of a.buf.now)) in
     record {
-      gives = surface_given _ _ c.guard-g.ensures _ _ c.in-Passes.is k c.put.ensures;
-      formed = rw k (answered_formed a.bytes.now a.l.phase a.l t a.a _);
+      gives = altered_gives _ _ _ c.turn.ensures r (λ x t p e k. rw (← e, ← q) (search rules));
+      formed = formed_gives _ _ _ c.turn.ensures r (λ x t p e k. rw (← e, ← q) (search rules)) (answered_formed a.bytes.now _ _ _ _ _);
     }

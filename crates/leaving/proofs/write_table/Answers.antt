@@ -4,5 +4,5 @@ use Rattle.leaving.proofs.write_table.Goals as goal
 
 pub returns : goal.returns
 returns c =
-    rw (c.write.ensures, c.cut.ensures, c.cut-2.ensures)
-    (image_whole c.args.spares.now c.args.bads.now c.args.out.now c.args.n c.args.m c.requires.1 c.requires.2 c.requires.0)
+    let t = c.t.inside.lent.now in
+    rw (c.write.ensures, c.spare_list.ensures, c.bad_list.ensures, ← c.t.view_is) (image_whole t c.args.out.now c.t.invariant.0 c.t.invariant.1 c.requires)

@@ -13,7 +13,7 @@ use Rattle.codec.proofs.entries.put_entries.Goals as goal
 
 pub loop-k-init : goal.loop-k-init
 unfolding triples sum
-loop-k-init c = (omega arith, refl, sym (over_none _ _), refl, omega arith)
+loop-k-init c = (refl, sym (over_none _ _), refl, omega arith)
 
 pub loop-k-preserved : goal.loop-k-preserved
 loop-k-preserved c =
@@ -22,12 +22,11 @@ loop-k-preserved c =
     let p = c.put_entry-t.ensures in
     let h : (a.at + 3 * length a.list.now ≤ length a.out.now) = c.requires.0 in
     let e : c.put_entry-t.new.out ≡ over a.at (triples (take (k + 1) a.list.now)) a.out.now =
-    rw (p.0, c.loop-k.invariant.2, add-one) (written_step a.at a.list.now a.out.now k (omega arith) (omega (arith, h))) in
+    rw (p.0, c.loop-k.invariant.1, add-one) (written_step a.at a.list.now a.out.now k (omega arith) (omega (arith, h))) in
     let t = triples_length (take (k + 1) a.list.now) in
     let n = length-take-le (k + 1) a.list.now (omega arith) in (
-      omega arith,
       ap length e ∙ over_length a.at (triples (take (k + 1) a.list.now)) a.out.now (omega (arith, t, n, h)),
       e,
-      rw (p.1, c.loop-k.invariant.3) (summed_step a.list.now k (omega arith)),
+      rw (p.1, c.loop-k.invariant.2) (summed_step a.list.now k (omega arith)),
       omega (arith, p.2),
     )

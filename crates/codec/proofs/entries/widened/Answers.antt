@@ -10,4 +10,4 @@ returns-then-x-eq-DEAD c = (rw (eq-eqb _ _ c.if-x-eq-DEAD.true), omega arith)
 
 pub returns : goal.returns
 unfolding wide
-returns c = (rw (ne_eqb _ _ c.if-x-eq-DEAD.false), omega arith)
+returns c = (rw (c.from.ensures, ne_eqb _ _ c.if-x-eq-DEAD.false), omega (arith, c.from.ensures))

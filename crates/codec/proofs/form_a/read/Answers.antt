@@ -1,29 +1,23 @@
 -- `codec::form_a::read` meets its contract: each test in turn decides.
-use mathlib.Core.Path.{sym, ap, ◌∙◌}
-use Rattle.image.specs.declared.Layout.{Layout}
-use Rattle.image.specs.Layouts.{counts_fit}
-use Rattle.image.specs.FormA.{framed_a}
-use Rattle.image.proofs.Reading.{a_long, a_unframed, a_framed}
+use native.Mathlib.Omega.{arith}
+use Rattle.image.specs.FormA.{formed_a}
+use Rattle.image.specs.Images.{loaded, read_a}
+use Rattle.codec.proofs.form_a.read.Goals.{then-not-counts_fit-via-then-not-counts_fit, then-not-counts_fit-via-else-not-counts_fit+then-not-is_framed}
 use Rattle.codec.proofs.form_a.read.Goals as goal
 
 pub returns-then-not-counts_fit : goal.returns-then-not-counts_fit
+unfolding read_a formed_a
 returns-then-not-counts_fit c =
-    let s = c.args.s.now in
-    let n = ap counts_fit (sym c.layout-a.ensures) ∙ sym c.counts_fit.ensures ∙ c.if-not-counts_fit.true in
-    c.no_image.ensures ∙ a_long s n
+    elim c.then-not-counts_fit.branch [
+      | then-not-counts_fit-via-then-not-counts_fit w ↦ grind (arith, c.layout-a.ensures, c.counts_fit.ensures, w.if-not-counts_fit.true)
+      | then-not-counts_fit-via-else-not-counts_fit+then-not-is_framed w ↦ grind (arith, c.layout-a.ensures, w.is_framed.ensures, w.if-not-is_framed.true)
+    ]
 
-pub returns-then-not-is_framed : goal.returns-then-not-is_framed
-returns-then-not-is_framed c =
-    let s = c.args.s.now in
-    let e = sym c.layout-a.ensures in
-    let n = ap counts_fit e ∙ sym c.counts_fit.ensures ∙ c.if-not-counts_fit.false in
-    let f = ap (λ (a : Layout). framed_a s a.nspares a.nbads) e ∙ sym c.is_framed.ensures ∙ c.if-not-is_framed.true in
-    c.no_image-then-not-is_framed.ensures ∙ a_unframed s n f
+pub returns-in_default : goal.returns-in_default
+unfolding read_a formed_a loaded
+returns-in_default c = grind (arith, c.layout-a.ensures, c.load_table.ensures, c.in_default.is)
 
 pub returns : goal.returns
+unfolding read_a formed_a loaded
 returns c =
-    let s = c.args.s.now in
-    let e = sym c.layout-a.ensures in
-    let n = ap counts_fit e ∙ sym c.counts_fit.ensures ∙ c.if-not-counts_fit.false in
-    let f = ap (λ (a : Layout). framed_a s a.nspares a.nbads) e ∙ sym c.is_framed.ensures ∙ c.if-not-is_framed.false in
-    rw (c.load_lists.ensures, c.layout-a.ensures) (a_framed s n f)
+    grind (arith, c.layout-a.ensures, c.counts_fit.ensures, c.if-not-counts_fit.false, c.is_framed.ensures, c.if-not-is_framed.false, c.load_table.ensures, c.in-Some.is)

@@ -1,21 +1,11 @@
--- `codec::form_a::write` meets its contract, test by test.
-use borrow.Author.Tests.{eq-eqb, ne_eqb, le-leb, lt-leb}
+-- `codec::form_a::write` meets its contract.
 use Rattle.image.specs.Images.{written_a}
 use Rattle.codec.proofs.form_a.write.Goals as goal
 
-pub returns-then-out-ne532 : goal.returns-then-out-ne532
+pub returns-then-writable : goal.returns-then-writable
 unfolding written_a
-returns-then-out-ne532 c = rw (ne_eqb _ _ c.if-out-ne532.true)
+returns-then-writable c = rw (c.build.ensures, ← c.writable.ensures, c.if-writable.true)
 
-pub returns-then-spares-gt32 : goal.returns-then-spares-gt32
+pub returns-else-writable : goal.returns-else-writable
 unfolding written_a
-returns-then-spares-gt32 c = rw (eq-eqb _ _ c.if-out-ne532.false, lt-leb _ _ c.if-spares-gt32.true)
-
-pub returns-then-bads-gt100 : goal.returns-then-bads-gt100
-unfolding written_a
-returns-then-bads-gt100 c = rw (eq-eqb _ _ c.if-out-ne532.false, le-leb _ _ c.if-spares-gt32.false, lt-leb _ _ c.if-bads-gt100.true)
-
-pub returns : goal.returns
-unfolding written_a
-returns c =
-    rw (c.build.ensures, eq-eqb _ _ c.if-out-ne532.false, le-leb _ _ c.if-spares-gt32.false, le-leb _ _ c.if-bads-gt100.false)
+returns-else-writable c = rw (← c.writable.ensures, c.if-writable.false)

@@ -10,14 +10,13 @@ use Rattle.codec.proofs.form_b.load_causes.Goals as goal
 
 pub loop-k-init : goal.loop-k-init
 unfolding causes_from
-loop-k-init c = (omega arith, refl, refl)
+loop-k-init c = (refl, refl)
 
 pub loop-k-preserved : goal.loop-k-preserved
 loop-k-preserved c =
     let a = c.args in
     let k = c.loop-k.k in
     let rest = drop 16 a.s.now in (
-      omega arith,
-      simp length-set c.loop-k.invariant.1,
-      rw (c.loop-k.invariant.2, add-one, causes_snoc k a.s.now) (store_step (causes_from k rest) (replicate 32 0) k _ (causes_length k rest) (omega arith)),
+      simp length-set c.loop-k.invariant.0,
+      rw (c.from.ensures, c.loop-k.invariant.1, add-one, causes_snoc k a.s.now) (store_step (causes_from k rest) (replicate 32 0) k _ (causes_length k rest) (omega arith)),
     )

@@ -1,12 +1,8 @@
 use mathlib.Core.Path.{◌≡◌}
 use mathlib.Core.List.{◌++◌}
-use Prim.Native.Nat.{◌≤◌, ◌-◌}
 use lib.ListN.{length, drop, replicate}
 use Rattle.image.specs.FormB.{causes_from}
 use Rattle.codec.proofs.form_b.load_causes.Given as goal
 
 abbrev pub invariant-loop-k : goal.invariant-loop-k
-invariant-loop-k l = (l.k ≤ l.n) × (length l.out ≡ 32) × (l.out ≡ causes_from l.k (drop 16 l.s) ++ drop l.k (replicate 32 0))
-
-abbrev pub decreases-loop-k : goal.decreases-loop-k
-decreases-loop-k l = l.n - l.k
+invariant-loop-k l = (length l.out ≡ 32) × (l.out ≡ causes_from l.k (drop 16 l.s) ++ drop l.k (replicate 32 0))

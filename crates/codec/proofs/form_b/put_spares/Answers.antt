@@ -12,7 +12,7 @@ use Rattle.codec.proofs.form_b.put_spares.Goals as goal
 
 pub loop-k-init : goal.loop-k-init
 unfolding quads sum
-loop-k-init c = (omega arith, refl, sym (over_none _ _), refl, omega arith)
+loop-k-init c = (refl, sym (over_none _ _), refl, omega arith)
 
 pub loop-k-preserved : goal.loop-k-preserved
 loop-k-preserved c =
@@ -23,12 +23,11 @@ loop-k-preserved c =
     let cs = a.causes.now in
     let h : (a.at + 4 * length l ≤ length a.out.now) = c.requires.0 in
     let e : c.put_spare-t.new.out ≡ over a.at (quads (take (k + 1) l) cs) a.out.now =
-    rw (p.0, c.loop-k.invariant.2) (spare_step a.at l cs a.out.now k (omega arith) (omega (arith, h))) in
+    rw (p.0, c.loop-k.invariant.1) (spare_step a.at l cs a.out.now k (omega arith) (omega (arith, h))) in
     let t = quads_length (take (k + 1) l) cs in
     let n = length-take-le (k + 1) l (omega arith) in (
-      omega arith,
       ap length e ∙ over_length a.at (quads (take (k + 1) l) cs) a.out.now (omega (arith, t, n, h)),
       e,
-      rw (p.1, c.loop-k.invariant.3) (spare_summed l cs k (omega arith)),
+      rw (p.1, c.loop-k.invariant.2) (spare_summed l cs k (omega arith)),
       omega (arith, p.2),
     )

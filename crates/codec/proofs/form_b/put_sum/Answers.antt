@@ -4,4 +4,4 @@ use Rattle.codec.proofs.form_b.put_sum.Goals as goal
 
 pub returns : goal.returns
 unfolding two_bytes
-returns c = c.put.ensures
+returns c = rw (c.put.ensures, c.to_be_bytes.ensures)

@@ -5,7 +5,4 @@ use Rattle.codec.proofs.form_b.two_at.Goals as goal
 
 pub returns : goal.returns
 unfolding two_at
-returns c =
-    let x = c.broad.ensures in
-    let y = c.broad-2.ensures in
-    (rw (x.0, y.0), omega (arith, x.1, y.1))
+returns c = (rw (c.from.ensures, c.from_be_bytes.ensures), omega (arith, c.from.ensures))
