@@ -46,7 +46,8 @@ fn no_number(k: Kind, v: u32) -> bool
     !(v < 9728) & !asks_buffer(v) & !((asks_table(v) | asks_health(v)) & records::is_read(k))
 }
 
-// Returns the block of an order's number.
+// Returns the block of an order's number. The bound stands in the clauses, since the definitions take the order: `first_read`,
+// `first_write`, `first_trial`, `writes`. The casts here and in `health` narrow, and std has no From for that.
 fn block_of(o: Order) -> Block
     requires { o.number < 9728 }
     ensures { result ≡ block_of o }
@@ -147,7 +148,8 @@ fn write(o: Order, l: State, t: &Bounded) -> Turn
     first_write(o, l, t)
 }
 
-// Acts on a command, by the first rule that applies.
+// Acts on a command, by the first rule that applies. Here and in every rule state and lists are two parameters, since a rule
+// changes the one and never the other.
 #[tactic(auto, unfolding(drive::specs::Handshake::acted))]
 pub fn act(o: Order, l: State, t: &Bounded) -> Turn
     ensures { result ≡ acted o l t.now }

@@ -1,5 +1,6 @@
 // Exports the seven calls over a record's words, which are lent, convert, and the parity of a byte, to callers in C and Rust.
-// include/bumivondra.h says the same in C, with what a caller owes. specs/ says demand 3 of every list of these calls.
+// include/bumivondra.h says the same in C, with what a caller owes. specs/ says demand 3 of every list of these calls. Each call
+// with a rule is two lines: the words are lent for reading, then written by `keep` or `settle`.
 #![tactic(auto)]
 
 ghost use Rattle.std.specs.Prelude.{◌≡◌};

@@ -61,7 +61,7 @@ fn entry_at(s: &[u8], i: usize) -> u16
     narrowed(u32::from_be_bytes([0, s[i], s[i + 1], s[i + 2]]))
 }
 
-// Stores n entries, read from place `at` of s on and each w bytes after the last, at the start of out.
+// Stores n entries, read from place `at` of s on and each w bytes after the last, at the start of out. k is the place in both.
 fn load(s: &[u8], at: usize, w: usize, n: usize, out: &mut [u16])
     requires { (at + w * n ≤ length s.now) × (3 ≤ w) × (n ≤ length out.old) }
     ensures { out.new ≡ entries_from w n (drop at s.now) ++ drop n out.old }

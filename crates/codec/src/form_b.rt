@@ -144,7 +144,7 @@ fn layout(s: &[u8]) -> Layout
     }
 }
 
-// Returns the causes of n spare entries.
+// Returns the causes of n spare entries. k is the place in both.
 fn load_causes(s: &[u8], n: usize) -> [u16; 32]
     requires { (length s.now ≡ 532) × (n ≤ 32) }
     ensures { result ≡ causes_from n (drop 16 s.now) ++ drop n (replicate 32 0) }

@@ -13,7 +13,8 @@ use image::{Fault, Image};
 // parameter, so that a trait over both would be longer: what is the same is in `entries`.
 //
 // The readers take a slice with a `requires`, and no array: what try_from makes of a slice is a byte with a pointer, which lies at
-// another place on a 32-bit board, and cross/forms has no such line.
+// another place on a 32-bit board, and cross/forms has no such line. The counts of an image are bounded by clauses, since
+// `counts_fit` tests them a line before. Casts narrow, or go to usize, and std has no From for that.
 pub mod entries;
 pub mod form_a;
 pub mod form_b;

@@ -19,7 +19,7 @@ pub fn is_block(b: Block) -> bool
     b.0 < 9728
 }
 
-// Says whether a sector exists.
+// Says whether a sector exists. It and `is_block` are two tests: each number has a type and a count of its own.
 pub fn is_sector(s: Sector) -> bool
     ensures { result ≡ is_sector s.0 }
 {

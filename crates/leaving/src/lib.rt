@@ -42,7 +42,7 @@ pub fn write_table(t: &Bounded, out: &mut [u8])
     codec::form_a::write(t.lent.spare_list(), t.lent.bad_list(), out);
 }
 
-// Builds the image that a store writes, form B, in 532 lent bytes.
+// Builds the image that a store writes, form B, in 532 lent bytes. It is no twin of `write_table`: the forms are two formats.
 pub fn write_stored(run: u32, t: &Bounded, causes: &[u16], out: &mut [u8])
     requires { (length out.old ≡ 532) × (length t.now.spares ≡ 32) × (length causes.now ≡ 32) }
     ensures { out.new ≡ image_b run t.now causes.now }

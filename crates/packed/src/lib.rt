@@ -319,7 +319,7 @@ impl From<Stage> for Phase {
     }
 }
 
-// Returns the words of a state.
+// Returns the words of a state. The casts narrow, or go to usize, and std has no From for that.
 #[tactic(auto, using(crate::proofs::Bytes::bit_is, crate::proofs::Bytes::pair_is), unfolding(crate::specs::Packing::pack_state))]
 pub fn pack_state(l: State) -> [u16; 23]
     ensures { result ≡ pack_state l }

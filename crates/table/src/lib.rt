@@ -236,8 +236,8 @@ impl Table {
         self
     }
 
-    // Returns the causes after a block was listed on the next unused spare: that of its new entry, and
-    // that of the entry which is killed. Where no spare is unused, nothing changes.
+    // Returns the causes after a block was listed on the next unused spare: that of its new entry, and that of the entry which is
+    // killed. Where no spare is unused, nothing changes. `list` and `kill_next` do the same to the entries, an array of their own.
     #[tactic(auto, unfolding(crate::specs::Tables::causes_listed))]
     pub fn list_causes(self, b: Block, live: u16, killed: u16, causes: [u16; 32]) -> [u16; 32]
         ensures { result ≡ causes_listed self b live killed causes }

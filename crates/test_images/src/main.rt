@@ -161,7 +161,7 @@ impl<'a> Reader<'a> {
         }
     }
 
-    // Writes what is left, and the error if there is one.
+    // Writes what is left, and the error if there is one. That of test_replay has another limit, place and words.
     fn finish(&mut self, rt: &impl Print) -> io::Result<()> {
         self.page.make_room(rt, FULL)?;
         if let Place::Wrong(fault) = self.place {
