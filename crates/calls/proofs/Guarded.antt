@@ -82,7 +82,7 @@ module _ (d : Drive) (k n : ℕ) {g : Result Table Refusal} (e : g ≡ guard_of 
 -- A call that lends the buffer u, and the bytes bs.
 module _ (d : Drive) (u bs : List ℕ) where
   -- A refusal by codes 1 and 2 is a turn of theirs, whatever the rule may decide.
-  pub turn_refused : (Rule : Bor Table → Turn → Type 0) {g : Result Table Refusal} {r : Refusal} {y : Turn} → g ≡ guard_of (record_ok d) (eqb (length u) 536) d.table → g ≡ Err r → y ≡ refuse r d.state → Turned Rule d u bs y u
+  pub turn_refused : (Rule : Bor Table → Bor (List ℕ) → Turn → Type 0) {g : Result Table Refusal} {r : Refusal} {y : Turn} → g ≡ guard_of (record_ok d) (eqb (length u) 536) d.table → g ≡ Err r → y ≡ refuse r d.state → Turned Rule d u bs y u
   unfolding part_left status_left is_pass
   turn_refused Rule {g} {r} {y} e f k =
       record {
@@ -107,9 +107,10 @@ module _ (d : Drive) (u bs : List ℕ) where
   agree false fits x r h = refl
 
   -- Where the rule decides r, the call gives what codes 1 and 2 make of it.
-  module _ {Rule : Bor Table → Turn → Type 0} {y : Turn} {v : List ℕ} (k : Turned Rule d u bs y v) (r : Turn) (h : (x : Turn) (t : Bor Table) → Passed d u → t.now ≡ d.table → Rule t x → x ≡ r) where
+  module _ {Rule : Bor Table → Bor (List ℕ) → Turn → Type 0} {y : Turn} {v : List ℕ} (k : Turned Rule d u bs y v) (r : Turn)
+      (h : (x : Turn) (t : Bor Table) (b : Bor (List ℕ)) → Passed d u → t.now ≡ d.table → b.now ≡ u → Rule t b x → x ≡ r) where
     turn_is : y ≡ guarded (record_ok d) (length u) d.state r
-    turn_is = k.is ∙ agree (record_ok d) (eqb (length u) 536) k.turn r (λ p q. let z : Passed d u = (p, eqb-true (length u) 536 q) in let w = k.ruled z in h k.turn w.0 z w.1 w.2)
+    turn_is = k.is ∙ agree (record_ok d) (eqb (length u) 536) k.turn r (λ p q. let z : Passed d u = (p, eqb-true (length u) 536 q) in let w = k.ruled z in h k.turn w.0 w.2 z w.1 w.3 w.4)
 
     pub altered_gives : Returns (called d u bs r) (handed (altered_of y.change (notes_of d) bs) y) v
     altered_gives = let z = turn_is in (rw (← z), rw (← z) k.left)

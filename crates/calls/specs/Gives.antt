@@ -27,15 +27,15 @@ guard_of ok fits t = cond ok (cond fits (Ok t) (Err refusal.Buffer)) (Err refusa
 abbrev pub Passed : Drive → List ℕ → Type 0
 Passed d u = (record_ok d ≡ true) × (length u ≡ 536)
 
--- Says that a rule may be asked, at the table, where codes 1 and 2 let the call pass.
-abbrev pub Asked : (Bor Table → Type 0) → Drive → List ℕ → Type 0
-Asked Pre d u = Passed d u → (t : Bor Table) → t.now ≡ d.table → Pre t
+-- Says that a rule may be asked, at the table and the buffer, where codes 1 and 2 let the call pass.
+abbrev pub Asked : (Bor Table → Bor (List ℕ) → Type 0) → Drive → List ℕ → Type 0
+Asked Pre d u = Passed d u → (t : Bor Table) → t.now ≡ d.table → (b : Bor (List ℕ)) → b.now ≡ u → Pre t b
 
 -- Says that a turn and a buffer are those of codes 1 and 2, then of a rule. Rule says what the rule may decide; bs are the bytes
 -- lent with the call.
-pub record Turned (Rule : Bor Table → Turn → Type 0) (d : Drive) (u bs : List ℕ) (y : Turn) (v : List ℕ) : Type 0 where
+pub record Turned (Rule : Bor Table → Bor (List ℕ) → Turn → Type 0) (d : Drive) (u bs : List ℕ) (y : Turn) (v : List ℕ) : Type 0 where
   pub turn : Turn
-  pub ruled : Passed d u → (t : Bor Table) × (t.now ≡ d.table) × Rule t turn
+  pub ruled : Passed d u → (t : Bor Table) × (t.now ≡ d.table) × (b : Bor (List ℕ)) × (b.now ≡ u) × Rule t b turn
   pub is : y ≡ guarded (record_ok d) (length u) d.state turn
   pub left : v ≡ leave y.leaves d.table bs u
 

@@ -52,8 +52,9 @@ fn guard<'a>(d: &'a Record, fits: bool) -> Result<Bounded<'a>, Refusal>
     Ok(Bounded { lent: &d.table })
 }
 
-// Lets a rule decide, unless codes 1 and 2 refuse the call, and leaves the buffer as it says. bytes are lent with the call.
-fn turn<F: FnOnce(State, &Bounded<'_>) -> Turn>(
+// Lets a rule decide, unless codes 1 and 2 refuse the call, and leaves the buffer as it says. The rule sees the table and the
+// buffer; bytes are lent with the call.
+fn turn<F: FnOnce(State, &Bounded<'_>, &[u8]) -> Turn>(
     d: &Record,
     buf: &mut [u8],
     bytes: &[u8],
@@ -66,7 +67,7 @@ fn turn<F: FnOnce(State, &Bounded<'_>) -> Turn>(
     match guard(d, buf.len() == 536) {
         Err(r) => records::refuse(l, r),
         Ok(t) => {
-            let x = rule(l, &t);
+            let x = rule(l, &t, buf);
             leaving::put(x.leaves, &t, bytes, buf);
             x
         }
@@ -77,21 +78,21 @@ fn turn<F: FnOnce(State, &Bounded<'_>) -> Turn>(
 pub fn raise(d: &Record, buf: &mut [u8]) -> Turn
     ensures { Gives call.raise d.now buf.old result buf.new }
 {
-    turn(d, buf, b"", |l, _| handshake::raise(l))
+    turn(d, buf, b"", |l, _, _| handshake::raise(l))
 }
 
 // Lowers the CMD line with byte b.
 pub fn lower(d: &Record, buf: &mut [u8], b: u8) -> Turn
     ensures { Gives (call.lower b) d.now buf.old result buf.new }
 {
-    turn(d, buf, b"", |l, t| handshake::lower(l, t, b))
+    turn(d, buf, b"", |l, t, _| handshake::lower(l, t, b))
 }
 
 // Feeds bytes.
 pub fn feed(d: &Record, buf: &mut [u8], bytes: &[u8]) -> Turn
     ensures { Gives (call.feed bytes.now) d.now buf.old result buf.new }
 {
-    turn(d, buf, bytes, |l, _| handshake::feed(l, bytes))
+    turn(d, buf, bytes, |l, _, _| handshake::feed(l, bytes))
 }
 
 // Says whether a verify brought the bytes of the data part.
@@ -108,20 +109,17 @@ fn equal(p: Phase, buf: &[u8], a: u8, bytes: &[u8]) -> bool
 pub fn surface(d: &Record, buf: &mut [u8], a: u8, bytes: &[u8]) -> Turn
     ensures { Answers a bytes.now d.now buf.old result buf.new }
 {
-    let same = equal(d.state.phase, buf, a, bytes);
-    turn(
-        d,
-        buf,
-        bytes,
-        |l, t| accesses::surface(l, t.lent, a, bytes, same),
-    )
+    turn(d, buf, bytes, |l, t, u| {
+        let same = equal(l.phase, u, a, bytes);
+        accesses::surface(l, t.lent, a, bytes, same)
+    })
 }
 
 // Resets the drive. The buffer stays.
 pub fn reset(d: &Record, buf: &mut [u8]) -> Turn
     ensures { Gives call.reset d.now buf.old result buf.new }
 {
-    turn(d, buf, b"", |l, _| handshake::reset(l))
+    turn(d, buf, b"", |l, _, _| handshake::reset(l))
 }
 
 // Lends a record.

@@ -8,4 +8,4 @@ use Rattle.calls.proofs.lower.Goals as goal
 pub returns : goal.returns
 unfolding step_of lower_of
 returns c =
-    kept_gives _ _ _ c.turn.ensures _ (λ x t p e k. rw (← e) (search rules)) (lower_keeps _ _ _ _)
+    kept_gives _ _ _ c.turn.ensures _ (λ x t b p e f k. rw (← e) (search rules)) (lower_keeps _ _ _ _)

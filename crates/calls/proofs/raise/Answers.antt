@@ -7,4 +7,4 @@ use Rattle.calls.proofs.raise.Goals as goal
 
 pub returns : goal.returns
 unfolding step_of raise_of
-returns c = kept_gives _ _ _ c.turn.ensures _ (λ x t p e k. search rules) (raise_keeps _ _)
+returns c = kept_gives _ _ _ c.turn.ensures _ (λ x t b p e f k. search rules) (raise_keeps _ _)

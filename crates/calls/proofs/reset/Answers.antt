@@ -7,4 +7,4 @@ use Rattle.calls.proofs.reset.Goals as goal
 
 pub returns : goal.returns
 unfolding step_of reset_of
-returns c = kept_gives _ _ _ c.turn.ensures _ (λ x t p e k. search rules) (reset_keeps _ _)
+returns c = kept_gives _ _ _ c.turn.ensures _ (λ x t b p e f k. search rules) (reset_keeps _ _)

@@ -1,5 +1,5 @@
 -- `calls::turn` meets its contract.
-use mathlib.Core.Path.{ap, ◌∙◌}
+use mathlib.Core.Path.{refl, ap, ◌∙◌}
 use lib.ListN.{length}
 use Rattle.drive.specs.declared.Drive.{Drive}
 use Rattle.drive.specs.Results.{refuse}
@@ -16,4 +16,4 @@ returns-in-Err g c =
 pub rule-x-requires : goal.rule-x-requires
 rule-x-requires g c =
     let z = passed_by _ _ c.guard.ensures c.in-Ok.is in
-    rw (ap (λ (d : Drive). d.state) c.d.view_is) (c.requires z.0 _ z.1)
+    rw (ap (λ (d : Drive). d.state) c.d.view_is) (c.requires z.0 _ z.1 _ refl)
