@@ -70,10 +70,11 @@ impl<'a> Lent<'a> {
             & lists::entries_ok(false, self.bads, m)
     }
 
-    // Returns a block's sector by the spare list: its spare if it is listed, else its home.
+    // Returns a block's sector by the spare list: its spare if it is listed, else its home. The bound is on the list, which the count
+    // may exceed where nothing has tested it.
     #[tactic(auto, using(lists::proofs::Laws::finding), unfolding(crate::specs::Tables::sector_of))]
     pub fn sector_of(&self, b: Block) -> Sector
-        requires { self.now.nspares ≤ 32 }
+        requires { length (spare_list self.now) ≤ 32 }
         ensures { result ≡ sector_of (spare_list self.now) b }
     {
         match lists::find(self.spare_list(), b.0) {
