@@ -85,17 +85,22 @@ pub fn counts_fit(a: Layout) -> bool
     (a.nspares <= 32) & (a.nbads <= 100)
 }
 
-// Returns the table of an image of which all but the entries was tested, if they are a table's.
+// Returns the table of an image of which all but the entries was tested, if they are a table's. `Table::empty` and `then_some` would
+// each move the whole table once more.
 pub fn load_table(s: &[u8], a: Layout) -> Option<Table>
     requires { Within a s.now }
     ensures { result ≡ loaded s.now a }
 {
     let mut t = Table {
+        spares: [0; 32],
+        bads: [0; 100],
         nspares: a.nspares,
         nbads: a.nbads,
-        ..Table::empty()
     };
     load(s, a.spares, a.width, a.nspares, &mut t.spares);
     load(s, a.bads, 3, a.nbads, &mut t.bads);
-    t.lent().is_ok().then_some(t)
+    if t.lent().is_ok() {
+        return Some(t);
+    }
+    None
 }
