@@ -41,7 +41,7 @@ gathered_all false x s i h = rw (drop_of_length-le s h)
 pub ruleset gathering = (gathered, gathered_all)
 
 -- a test from the end: an entry that fails makes the whole fail, and one that passes leaves it to the rest
-fails : (marks : Bool) (s : List ℕ) (i : ℕ) → entries_ok marks (drop i s) ≡ false → entries_ok marks s ≡ false
+pub fails : (marks : Bool) (s : List ℕ) (i : ℕ) → entries_ok marks (drop i s) ≡ false → entries_ok marks s ≡ false
 unfolding entries_ok
 fails marks s zero h = h
 fails marks [] (suc i) h = h

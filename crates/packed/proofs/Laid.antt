@@ -8,7 +8,7 @@ use Rattle.buffer.specs.Runs.{over}
 use Rattle.buffer.proofs.Over.{over_none, over_over, over_snoc}
 
 -- A run that ends where the words end leaves what is before it.
-over_tail : (k : ℕ) (s u : List ℕ) → k + length s ≡ length u → over k s u ≡ take k u ++ s
+pub over_tail : (k : ℕ) (s u : List ℕ) → k + length s ≡ length u → over k s u ≡ take k u ++ s
 unfolding over
 over_tail k s u h = rw (drop_of_length-le u {i = k + length s} (omega arith)) (append-nil (take k u ++ s))
 
