@@ -52,8 +52,9 @@ fn guard<'a>(d: &'a Record, fits: bool) -> Result<Bounded<'a>, Refusal>
     Ok(Bounded { lent: &d.table })
 }
 
-// Lets a rule decide, unless codes 1 and 2 refuse the call, and leaves the buffer as it says. The rule sees the table and the
-// buffer; bytes are lent with the call.
+// Lets a rule decide, unless codes 1 and 2 refuse the call, and leaves the buffer as it says. The closure is handed the table and
+// the buffer, of which surface's makes the one bit that its rule learns; bytes are lent with the call. The state is read behind the
+// guard, which costs less stack and time than before it.
 fn turn<F: FnOnce(State, &Bounded<'_>, &[u8]) -> Turn>(
     d: &Record,
     buf: &mut [u8],
@@ -63,11 +64,10 @@ fn turn<F: FnOnce(State, &Bounded<'_>, &[u8]) -> Turn>(
     requires { Asked (F.pre rule d.now.state) d.now buf.old }
     ensures { Turned (F.post rule d.now.state) d.now buf.old bytes.now result buf.new }
 {
-    let l = d.state;
     match guard(d, buf.len() == 536) {
-        Err(r) => records::refuse(l, r),
+        Err(r) => records::refuse(d.state, r),
         Ok(t) => {
-            let x = rule(l, &t, buf);
+            let x = rule(d.state, &t, buf);
             leaving::put(x.leaves, &t, bytes, buf);
             x
         }

@@ -1,5 +1,5 @@
-// The controller's record, what a rule decides and what a call answers: types, and the numbers that causes, offers and
-// refusals have. specs/ says what the calls do with them, and the crates above hold the code.
+// The controller's record, what a rule decides and what a call answers: types, the numbers that causes, offers and refusals
+// have, and the refusal of a fault. specs/ says what the calls do with them, and the crates above hold the rest of the code.
 #![tactic(auto)]
 
 ghost use Rattle.std.specs.Prelude.{◌≡◌};
