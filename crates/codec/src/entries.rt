@@ -23,8 +23,8 @@ fn put_entry(out: &mut [u8], at: usize, x: u16) -> u32
     requires { at + 3 ≤ length out.old }
     ensures { (out.new ≡ over at (triple x) out.old) × (result ≡ sum (triple x)) × (result ≤ 765) }
 {
-    let bytes = widened(x).to_be_bytes();
-    put_summed(out, at, &bytes[1..])
+    let [_, a, b, c] = widened(x).to_be_bytes();
+    put_summed(out, at, &[a, b, c])
 }
 
 // Writes the entries of a list from place `at` on, and returns the sum of their bytes.

@@ -6,6 +6,6 @@ use Rattle.codec.proofs.entries.put_entry.Goals as goal
 pub returns : goal.returns
 unfolding triple
 returns c =
-    let p = rw c.to_be_bytes-bytes.ensures at c.put_summed.ensures in
+    let p = rw c.to_be_bytes.ensures at c.put_summed.ensures in
     let e = c.widened.ensures.0 in
     (rw (p.0, e), rw (p.1, e), omega (arith, p.2))
