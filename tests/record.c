@@ -2,7 +2,8 @@
  *
  * Drives in every phase, sound ones and such as differ from them in one word, get calls with arguments of every
  * kind, each first where record and buffer may be written. A refused call is made again with both
- * write-protected: whatever it writes, were it the same bytes, ends the test. A call that is taken must leave
+ * write-protected: whatever it writes, were it the same bytes, ends the test. Where code 1 or 2 refused it, the buffer
+ * can't even be read: such a call costs the same, however much is lent. A call that is taken must leave
  * what the same call leaves of a record that lies between pages without access. On the way run number, causes,
  * remembered failures, the ending that waits for its store and the place mark must stand in their words. Then
  * bv_convert turns images into their other form and refuses damaged ones, from bytes that are write-protected and,
@@ -107,7 +108,7 @@ static const struct call calls[] = {
     {SURFACE, 3, 0, B},    {SURFACE, 3, S, B},      {SURFACE, 4, 0, B},  {SURFACE, 255, S, B},
     {SURFACE, 0, S - 1, B}, {RESET, 0, 0, B},       {IMAGE, 0, 0, S},    {START, 0, 0, B},
     {RAISE, 0, 0, B - 1},  {LOWER, BV_GO_ON, 0, 0}, {FEED, 0, 6, S},     {SURFACE, 0, S, B + 1},
-    {RESET, 0, 0, 0},      {IMAGE, 0, 0, B},        {START, 0, 0, B - 1},
+    {RESET, 0, 0, 0},      {IMAGE, 0, 0, B},        {START, 0, 0, B - 1},   {SURFACE, 0, S + 1, B + 1},
 };
 
 enum { CALLS = sizeof calls / sizeof calls[0] };
@@ -142,7 +143,7 @@ static struct bv_reply try_call(const struct bv_drive *drive, const uint8_t *con
         memcpy(lent, drive, sizeof copy);
         memcpy(buffers.at, content, sizeof buffer);
         protect(drives, PROT_READ);
-        protect(buffers, PROT_READ);
+        protect(buffers, reply.value <= BV_BAD_BUFFER ? PROT_NONE : PROT_READ);
         struct bv_reply again = make(lent, buffers.at, call);
         EXPECT(again.kind == reply.kind && again.value == reply.value);
         protect(drives, PROT_READ | PROT_WRITE);
